@@ -1,0 +1,8 @@
+pub mod Checks
+pub mod Levels
+pub mod OneRun
+pub mod Place
+pub mod Preserved
+pub mod Rows
+pub mod Runs
+mod WorkedRows

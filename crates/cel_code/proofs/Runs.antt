@@ -1,0 +1,195 @@
+-- The machine does what the expression says.
+use Rattle.std.proofs.Common.{◌≡◌, ℕ, ◌+◌, true, false, List, [], ◌∷◌, Option, Some, None, refl, sym, ap, ◌∙◌, arith}
+use Rattle.std.specs.Prelude.{Result, Ok, Err}
+use Rattle.cel_value.specs.declared.value.Value.{Value}
+use Rattle.cel_value.specs.declared.value.Value.TheVariants as value
+use Rattle.cel_code.specs.declared.cel_check.operator.Operator.{Operator}
+use Rattle.cel_code.specs.declared.cel_check.operator.Operator.TheVariants as operator
+use Rattle.cel_code.specs.declared.cel_check.tree.TypedTree.{TypedTree}
+use Rattle.cel_code.specs.declared.instr.Instr.{Instr}
+use Rattle.cel_code.specs.declared.instr.Instr.TheVariants.{Const, Op, AndTest, OrTest, And, Or, Cond, Jump, End}
+use Rattle.cel_code.specs.declared.image.Image.{Image}
+use Rattle.cel_code.specs.Outcomes.{Outcome, Env, Side, and_of, or_of, both_sides, and_value, or_value, conditional_value, unless_false, unless_true, of_branch, outside}
+use Rattle.cel_value.specs.declared.cel_error.CelError.{CelError}
+use Rattle.cel_code.specs.Wants.{side_of, taken}
+use Rattle.cel_code.specs.Operators.{Made, Row, One, Two, row, operator_of, code_of, makes, two, at_one, at_two, outcome_made, charge_made}
+use Rattle.cel_code.specs.Meaning.{value_of, priced_of, cost_of}
+use Rattle.cel_code.specs.Machine.{Frame, State, on, Goes, Ends, push, constant, made, operate, operate_by, joined, join, act, act_at, inputs_of, step, Gets, Stays, Moves, Run}
+use Rattle.cel_code.specs.Placed.{Code, code_in, Has, Pushes, Stands, literal, unary, binary, both, either, conditional}
+use Rattle.cel_code.specs.Correct.{Computes}
+use Rattle.cel_code.proofs.Levels.{value_is, value_level, cost_level}
+
+module _ (image : Image) (slots : List Outcome) where
+  abbrev code : Code
+  code = code_in image
+
+  -- one stretch after another
+  pub follows_on : (s m t : State) (c d a j k b : ℕ) → Gets image slots s m c j → Gets image slots m t d k → a ≡ c + d → b ≡ j + k → Gets image slots s t a b
+  follows_on s m t c d a j k b (Stays e f g) r ea eb =
+      let x : a ≡ d = omega arith in
+      let y : b ≡ k = omega arith in
+      rw (e, x, y) r
+  follows_on s m t c d a j k b (Moves l x y n st g f h) r ea eb =
+      Moves l x (y + d) (n + k) st (follows_on l m t y d (y + d) n k (n + k) g r refl refl) (omega arith) (omega arith)
+
+  -- the machine gets from one state to another for a charge
+  record Leads (s t : State) (charge : ℕ) : Type 0 where
+    steps : ℕ
+    gets : Gets image slots s t charge steps
+
+  leads_on : (s m t : State) (c d : ℕ) → Leads s m c → Leads m t d → Leads s t (c + d)
+  leads_on s m t c d l r =
+      record { steps = l.steps + r.steps; gets = follows_on s m t c d (c + d) l.steps r.steps _ l.gets r.gets refl refl }
+
+  costs : (s t : State) (c d : ℕ) → c ≡ d → Leads s t c → Leads s t d
+  costs s t c d e l = rw (sym e) l
+
+  one_step : (s t : State) (c : ℕ) → step image slots s ≡ Goes c t → Leads s t c
+  one_step s t c e = record { steps = 1; gets = Moves t c 0 0 e (Stays refl refl refl) (omega arith) (omega arith) }
+
+  module _ (frames : List Frame) where
+    -- what the code of an expression does: its value or error on the stack, for its cost
+    abbrev Gives : ℕ → List Outcome → ℕ → Option Outcome → ℕ → Type 0
+    Gives from stack to None cost = Unit {0}
+    Gives from stack to (Some x) cost = Leads (on from stack frames) (on to (x ∷ stack) frames) cost
+
+    at_instr : (at : ℕ) (i : Instr) (stack : List Outcome) → Has code at i → step image slots (on at stack frames) ≡ act (inputs_of image slots) i at stack frames
+    at_instr at i stack h = ap (λ o. act_at (inputs_of image slots) o at stack frames) h.is
+
+    push_runs : (v : Value) (from to : ℕ) (stack : List Outcome) → Pushes code from to v → Leads (on from stack frames) (on to (Ok v ∷ stack) frames) 0
+    push_runs v from to stack p =
+        rw p.next (one_step _ _ 0 (at_instr from (Const p.number) stack p.instr ∙ ap (λ o. push (constant o) from stack frames) p.constant))
+
+    -- an operator's instruction
+    made_runs : (o : Option Made) (from m : ℕ) (stack s : List Outcome) (c : ℕ) → Leads (on from stack frames) (on m s frames) c → step image slots (on m s frames) ≡ made o m stack frames → Gives from stack (m + 1) (outcome_made o) (c + charge_made o)
+    made_runs None from m stack s c l e = tt
+    made_runs (Some d) from m stack s c l e = leads_on _ _ _ c d.charge l (one_step _ _ _ e)
+
+    unary_runs : (r : Row) (o : Option Outcome) (from m : ℕ) (stack : List Outcome) (c : ℕ) → ((s : List Outcome) → step image slots (on m s frames) ≡ operate r m s frames) → Gives from stack m o c → Gives from stack (m + 1) (outcome_made (at_one r o)) (c + charge_made (at_one r o))
+    unary_runs (One w r) None from m stack c st l = tt
+    unary_runs (One w r) (Some x) from m stack c st l = made_runs (at_one (One w r) (Some x)) from m stack (x ∷ stack) c l (st (x ∷ stack))
+    unary_runs (Two v w r) o from m stack c st l = tt
+
+    -- two operands of which the right is missing
+    two_none : {A B : Type 0} (f : A → B → Option Made) (x : Option (Result A CelError)) → two f x None ≡ None
+    two_none f None = refl
+    two_none f (Some (Err e)) = refl
+    two_none f (Some (Ok a)) = refl
+
+    binary_runs : (r : Row) (oa ob : Option Outcome) (from m n : ℕ) (stack : List Outcome) (c d : ℕ) → ((s : List Outcome) → step image slots (on n s frames) ≡ operate r n s frames) → Gives from stack m oa c → ((s : List Outcome) → Gives m s n ob d) → Gives from stack (n + 1) (outcome_made (at_two r oa ob)) (c + d + charge_made (at_two r oa ob))
+    binary_runs (One w r) oa ob from m n stack c d st la lb = tt
+    binary_runs (Two v w r) None ob from m n stack c d st la lb = tt
+    binary_runs (Two v w r) (Some x) None from m n stack c d st la lb = rw (two_none (λ a b. makes (r.answer a b) (r.charge a b)) (taken v (Some x))) tt
+    binary_runs (Two v w r) (Some x) (Some y) from m n stack c d st la lb =
+        made_runs (at_two (Two v w r) (Some x) (Some y)) from n stack (y ∷ x ∷ stack) (c + d) (leads_on _ _ _ c d la (lb (x ∷ stack))) (st (y ∷ x ∷ stack))
+
+    -- the right side, and the instruction that joins the two
+    join_runs : (f : Side → Side → Outcome) (sx : Side) (o : Option Side) (from n : ℕ) (stack s : List Outcome) (c : ℕ) → Leads (on from stack frames) (on n s frames) c → step image slots (on n s frames) ≡ joined (join f (Some sx) o) n stack frames → Gives from stack (n + 1) (both_sides f sx o) c
+    join_runs f sx None from n stack s c l e = tt
+    join_runs f sx (Some sy) from n stack s c l e =
+        costs _ _ (c + 0) c (omega arith) (leads_on _ _ _ c 0 l (one_step _ _ _ e))
+
+    right_runs : (f : Side → Side → Outcome) (x : Outcome) (sx : Side) (ob : Option Outcome) (from m n : ℕ) (stack : List Outcome) (c d : ℕ) → Leads (on from stack frames) (on m (x ∷ stack) frames) c → ((s : List Outcome) → Gives m s n ob d) → ((y : Outcome) → step image slots (on n (y ∷ x ∷ stack) frames) ≡ joined (join f (Some sx) (side_of (Some y))) n stack frames) → Gives from stack (n + 1) (both_sides f sx (side_of ob)) (c + d)
+    right_runs f x sx None from m n stack c d la lb st = tt
+    right_runs f x sx (Some y) from m n stack c d la lb st =
+        join_runs f sx (side_of (Some y)) from n stack (y ∷ x ∷ stack) (c + d) (leads_on _ _ _ c d la (lb (x ∷ stack))) (st y)
+
+    and_runs : (oa ob : Option Outcome) (from m n : ℕ) (stack : List Outcome) (c d : ℕ) → Has code m (AndTest (n + 1)) → Has code n And → Gives from stack m oa c → ((s : List Outcome) → Gives (m + 1) s n ob d) → Gives from stack (n + 1) (and_value (side_of oa) (side_of ob)) (c + 1 + unless_false (side_of oa) d)
+    and_runs None ob from m n stack c d hm hn la lb = tt
+    and_runs (Some (Ok (value.Int z))) ob from m n stack c d hm hn la lb = tt
+    and_runs (Some (Ok (value.Bool false))) ob from m n stack c d hm hn la lb =
+        costs _ _ (c + 1) _ (omega arith) (leads_on _ _ _ c 1 la (one_step _ _ 1 (at_instr m _ _ hm)))
+    and_runs (Some (Ok (value.Bool true))) ob from m n stack c d hm hn la lb =
+        right_runs and_of (Ok (value.Bool true)) (Ok true) ob from (m + 1) n stack (c + 1) d (leads_on _ _ _ c 1 la (one_step _ _ 1 (at_instr m _ _ hm))) lb (λ y. at_instr n _ _ hn)
+    and_runs (Some (Err e)) ob from m n stack c d hm hn la lb =
+        right_runs and_of (Err e) (Err e) ob from (m + 1) n stack (c + 1) d (leads_on _ _ _ c 1 la (one_step _ _ 1 (at_instr m _ _ hm))) lb (λ y. at_instr n _ _ hn)
+
+    or_runs : (oa ob : Option Outcome) (from m n : ℕ) (stack : List Outcome) (c d : ℕ) → Has code m (OrTest (n + 1)) → Has code n Or → Gives from stack m oa c → ((s : List Outcome) → Gives (m + 1) s n ob d) → Gives from stack (n + 1) (or_value (side_of oa) (side_of ob)) (c + 1 + unless_true (side_of oa) d)
+    or_runs None ob from m n stack c d hm hn la lb = tt
+    or_runs (Some (Ok (value.Int z))) ob from m n stack c d hm hn la lb = tt
+    or_runs (Some (Ok (value.Bool true))) ob from m n stack c d hm hn la lb =
+        costs _ _ (c + 1) _ (omega arith) (leads_on _ _ _ c 1 la (one_step _ _ 1 (at_instr m _ _ hm)))
+    or_runs (Some (Ok (value.Bool false))) ob from m n stack c d hm hn la lb =
+        right_runs or_of (Ok (value.Bool false)) (Ok false) ob from (m + 1) n stack (c + 1) d (leads_on _ _ _ c 1 la (one_step _ _ 1 (at_instr m _ _ hm))) lb (λ y. at_instr n _ _ hn)
+    or_runs (Some (Err e)) ob from m n stack c d hm hn la lb =
+        right_runs or_of (Err e) (Err e) ob from (m + 1) n stack (c + 1) d (leads_on _ _ _ c 1 la (one_step _ _ 1 (at_instr m _ _ hm))) lb (λ y. at_instr n _ _ hn)
+
+    -- a branch after the condition
+    branch_runs : (o : Option Outcome) (from m to : ℕ) (stack : List Outcome) (c d : ℕ) → Leads (on from stack frames) (on m stack frames) c → Gives m stack to o d → Gives from stack to o (c + d)
+    branch_runs None from m to stack c d l r = tt
+    branch_runs (Some x) from m to stack c d l r = leads_on _ _ _ c d l r
+
+    jump_runs : (o : Option Outcome) (from m to : ℕ) (stack : List Outcome) (c : ℕ) → Has code m (Jump to) → Gives from stack m o c → Gives from stack to o c
+    jump_runs None from m to stack c h l = tt
+    jump_runs (Some x) from m to stack c h l =
+        costs _ _ (c + 0) c (omega arith) (leads_on _ _ _ c 0 l (one_step _ _ 0 (at_instr m _ _ h)))
+
+    conditional_runs : (oc oa ob : Option Outcome) (from m n to : ℕ) (stack : List Outcome) (c d e : ℕ) → Has code m (Cond (n + 1) to) → Has code n (Jump to) → Gives from stack m oc c → Gives (m + 1) stack n oa d → Gives (n + 1) stack to ob e → Gives from stack to (conditional_value (side_of oc) oa ob) (c + 1 + of_branch (side_of oc) d e)
+    conditional_runs None oa ob from m n to stack c d e hm hn lc la lb = tt
+    conditional_runs (Some (Ok (value.Int z))) oa ob from m n to stack c d e hm hn lc la lb = tt
+    conditional_runs (Some (Err f)) oa ob from m n to stack c d e hm hn lc la lb =
+        costs _ _ (c + 1) _ (omega arith) (leads_on _ _ _ c 1 lc (one_step _ _ 1 (at_instr m _ _ hm)))
+    conditional_runs (Some (Ok (value.Bool true))) oa ob from m n to stack c d e hm hn lc la lb =
+        branch_runs oa from (m + 1) to stack (c + 1) d (leads_on _ _ _ c 1 lc (one_step _ _ 1 (at_instr m _ _ hm))) (jump_runs oa (m + 1) n to stack d hn la)
+    conditional_runs (Some (Ok (value.Bool false))) oa ob from m n to stack c d e hm hn lc la lb =
+        branch_runs ob from (n + 1) to stack (c + 1) e (leads_on _ _ _ c 1 lc (one_step _ _ 1 (at_instr m _ _ hm))) lb
+
+    op_code : (op : Operator) → operator_of (code_of op) ≡ Some op
+    op_code operator.Not = refl
+    op_code operator.Negate = refl
+    op_code operator.Add = refl
+    op_code operator.Subtract = refl
+    op_code operator.Multiply = refl
+    op_code operator.Divide = refl
+    op_code operator.Remainder = refl
+    op_code operator.Equal = refl
+    op_code operator.NotEqual = refl
+    op_code operator.Less = refl
+    op_code operator.AtMost = refl
+    op_code operator.Greater = refl
+    op_code operator.AtLeast = refl
+
+    op_step : (op : Operator) (at : ℕ) (s : List Outcome) → Has code at (Op (code_of op)) → step image slots (on at s frames) ≡ operate (row op) at s frames
+    op_step op at s h = at_instr at _ s h ∙ ap (λ o. operate_by o at s frames) (op_code op)
+
+    -- the same under other names of the end, the outcome and the cost
+    gives_as : (from n to : ℕ) (stack : List Outcome) (o p : Option Outcome) (c d : ℕ) → to ≡ n → p ≡ o → d ≡ c → Gives from stack n o c → Gives from stack to p d
+    gives_as from n to stack o p c d e f g l = rw (e, f, g) l
+
+    module _ (env : Env) where
+      -- the value that a cost asks for
+      asked : (a : TypedTree) → (priced_of a).value env ≡ value_of a env
+      asked a = ap (λ v. v env) (value_is a)
+
+      tree_runs : (e : TypedTree) (from to : ℕ) (stack : List Outcome) → Stands code e from to → Gives from stack to (value_of e env) (cost_of e env)
+      tree_runs e from to stack (literal v f p) =
+          gives_as from to to stack _ _ _ _ refl (value_level e _ env f) (cost_level e _ env f) (push_runs v from to stack p)
+      tree_runs e from to stack (unary op a m f h i next) =
+          gives_as from (m + 1) to stack _ _ _ _ next (value_level e _ env f) (cost_level e _ env f ∙ ap (λ o. cost_of a env + charge_made (at_one (row op) o)) (asked a))
+          (unary_runs (row op) (value_of a env) from m stack (cost_of a env) (λ s. op_step op m s i) (tree_runs a from m stack h))
+      tree_runs e from to stack (binary op a b m n f h k i next) =
+          gives_as from (n + 1) to stack _ _ _ _ next (value_level e _ env f) (cost_level e _ env f ∙ ap (λ o. (cost_of a env + cost_of b env) + charge_made (at_two (row op) o ((priced_of b).value env))) (asked a) ∙ ap (λ o. (cost_of a env + cost_of b env) + charge_made (at_two (row op) (value_of a env) o)) (asked b))
+          (binary_runs (row op) (value_of a env) (value_of b env) from m n stack (cost_of a env) (cost_of b env) (λ s. op_step op n s i) (tree_runs a from m stack h) (λ s. tree_runs b m n s k))
+      tree_runs e from to stack (both a b m n f h i k j next) =
+          let test : Has code m (AndTest (n + 1)) = rw (sym next) i in
+          gives_as from (n + 1) to stack _ _ _ _ next (value_level e _ env f) (cost_level e _ env f ∙ ap (λ o. (cost_of a env + 1) + unless_false (side_of o) (cost_of b env)) (asked a))
+          (and_runs (value_of a env) (value_of b env) from m n stack (cost_of a env) (cost_of b env) test j (tree_runs a from m stack h) (λ s. tree_runs b (m + 1) n s k))
+      tree_runs e from to stack (either a b m n f h i k j next) =
+          let test : Has code m (OrTest (n + 1)) = rw (sym next) i in
+          gives_as from (n + 1) to stack _ _ _ _ next (value_level e _ env f) (cost_level e _ env f ∙ ap (λ o. (cost_of a env + 1) + unless_true (side_of o) (cost_of b env)) (asked a))
+          (or_runs (value_of a env) (value_of b env) from m n stack (cost_of a env) (cost_of b env) test j (tree_runs a from m stack h) (λ s. tree_runs b (m + 1) n s k))
+      tree_runs e from to stack (conditional c a b m n f h i k j l) =
+          gives_as from to to stack _ _ _ _ refl (value_level e _ env f) (cost_level e _ env f ∙ ap (λ o. (cost_of c env + 1) + of_branch (side_of o) (cost_of a env) (cost_of b env)) (asked c))
+          (conditional_runs (value_of c env) (value_of a env) (value_of b env) from m n to stack (cost_of c env) (cost_of a env) (cost_of b env) i j (tree_runs c from m stack h) (tree_runs a (m + 1) n stack k) (tree_runs b (n + 1) to stack l))
+
+  computes_from : (to : ℕ) (o : Option Outcome) (c : ℕ) → Has code to End → Gives [] 0 [] to o c → (x : Outcome) → o ≡ Some x → (steps : ℕ) × Run image slots x c steps
+  computes_from to None c h l x e = cc
+  computes_from to (Some y) c h l x e =
+      let same : y ≡ x = cc in
+      (l.steps + 1, record { last = on to (y ∷ []) []; before = l.steps; gets = l.gets; ends = at_instr [] to End (y ∷ []) h ∙ ap Ends same; count = refl })
+
+  pub runs : (e : TypedTree) (to : ℕ) → Stands code e 0 to → Has code to End → (x : Outcome) → value_of e (outside slots) ≡ Some x → (steps : ℕ) × Run image slots x (cost_of e (outside slots)) steps
+  runs e to h end x q = computes_from to (value_of e (outside slots)) (cost_of e (outside slots)) end (tree_runs [] (outside slots) e 0 to [] h) x q
+
+pub computes : (image : Image) (e : TypedTree) (to : ℕ) → Stands (code_in image) e 0 to → Has (code_in image) to End → Computes image e
+computes image e to h end = λ slots x q. runs image slots e to h end x q

@@ -1,0 +1,92 @@
+-- Rows of the tables, worked by the definitions.
+use Rattle.std.proofs.Common.{◌≡◌, true, false, [], ◌∷◌, Some, None, refl}
+use Rattle.std.specs.Prelude.{Ok, Err, pos, negsuc}
+use Rattle.cel_value.specs.declared.value.Value.TheVariants as value
+use Rattle.cel_value.specs.declared.cel_type.CelType.TheVariants as type
+use Rattle.cel_value.specs.declared.cel_error.CelError.TheVariants.{Overflow, DivideByZero}
+use Rattle.cel_parse.specs.declared.expr.BinaryOperator.TheVariants as binary_operator
+use Rattle.cel_parse.specs.declared.expr.Syntax.TheVariants as syntax
+use Rattle.cel_code.specs.declared.cel_check.fault.TypeRule.TheVariants.{NoOverload, Mixed}
+use Rattle.cel_code.specs.declared.cel_check.operator.Operator.TheVariants as operator
+use Rattle.cel_code.specs.declared.cel_check.tree.Form.TheVariants as form
+use Rattle.cel_code.specs.declared.instr.Instr.TheVariants.{Const, Op, End}
+use Rattle.cel_code.specs.declared.image.Image.{Image}
+use Rattle.cel_code.specs.Outcomes.{Env}
+use Rattle.cel_code.specs.Operators.{row, at_one, at_two, type_of_two}
+use Rattle.cel_code.specs.Meaning.{value_at, cost_at}
+use Rattle.cel_code.specs.Machine.{on, Goes, Ends, Stuck, step}
+use Rattle.cel_code.specs.Typing.{Names, node, refused, checked_at}
+
+-- operators: 1 + 2, 1 / 0, the least int divided by -1, an error before a number
+sum_row : at_two (row operator.Add) (Some (Ok (value.Int (pos 1)))) (Some (Ok (value.Int (pos 2)))) ≡ Some (record { outcome = Ok (value.Int (pos 3)); charge = 1 })
+sum_row = refl
+
+zero_row : at_two (row operator.Divide) (Some (Ok (value.Int (pos 1)))) (Some (Ok (value.Int (pos 0)))) ≡ Some (record { outcome = Err DivideByZero; charge = 1 })
+zero_row = refl
+
+least_row : at_two (row operator.Divide) (Some (Ok (value.Int (negsuc 9223372036854775807)))) (Some (Ok (value.Int (negsuc 0)))) ≡ Some (record { outcome = Err Overflow; charge = 1 })
+least_row = refl
+
+error_row : at_two (row operator.Multiply) (Some (Err Overflow)) (Some (Ok (value.Int (pos 2)))) ≡ Some (record { outcome = Err Overflow; charge = 1 })
+error_row = refl
+
+wrong_kind_row : at_one (row operator.Not) (Some (Ok (value.Int (pos 1)))) ≡ None
+wrong_kind_row = refl
+
+-- types: an int and a truth value have no sum and no comparison
+no_sum_row : type_of_two (row operator.Add) type.Int type.Bool ≡ Err NoOverload
+no_sum_row = refl
+
+no_order_row : type_of_two (row operator.Less) type.Int type.Bool ≡ Err NoOverload
+no_order_row = refl
+
+equal_row : type_of_two (row operator.Equal) type.Int type.Int ≡ Ok type.Bool
+equal_row = refl
+
+-- the checker at one level: a literal, two faults of which the left is first
+literal_row : (names : Names) → checked_at 4 (syntax.Bool true) names ≡ Ok (node type.Bool (form.Literal (value.Bool true)))
+literal_row names = refl
+
+left_first_row : (names : Names) → checked_at 9 (syntax.Binary binary_operator.Add (λ _. refused 2 NoOverload) (λ _. refused 5 Mixed)) names ≡ refused 2 NoOverload
+left_first_row names = refl
+
+-- the value: `&&` is false where a side is, whatever the other
+absorbed : (env : Env) → value_at (form.And (λ _. Some (Err DivideByZero)) (λ _. Some (Ok (value.Bool false)))) env ≡ Some (Ok (value.Bool false))
+absorbed env = refl
+
+left_error : (env : Env) → value_at (form.Or (λ _. Some (Err Overflow)) (λ _. Some (Err DivideByZero))) env ≡ Some (Err Overflow)
+left_error env = refl
+
+one_branch : (env : Env) → value_at (form.Conditional (λ _. Some (Ok (value.Bool false))) (λ _. Some (Err Overflow)) (λ _. Some (Ok (value.Int (pos 2))))) env ≡ Some (Ok (value.Int (pos 2)))
+one_branch env = refl
+
+-- the cost: a false left of `&&` charges 1 and leaves the right unvisited
+unvisited : (env : Env) → cost_at (form.And (record { value = λ _. Some (Ok (value.Bool false)); cost = λ _. 0 }) (record { value = λ _. Some (Err DivideByZero); cost = λ _. 2 })) env ≡ 1
+unvisited env = refl
+
+visited : (env : Env) → cost_at (form.And (record { value = λ _. Some (Err Overflow); cost = λ _. 3 }) (record { value = λ _. Some (Ok (value.Bool true)); cost = λ _. 2 })) env ≡ 6
+visited env = refl
+
+-- the machine: CONST, an operator without its operand, past the code
+negation : Image
+negation = record { slots = []; constants = value.Int (pos 1) ∷ []; targets = []; result = type.Int; code = Const 0 ∷ Op 1 ∷ Op 2 ∷ End ∷ [] }
+
+pushes_row : step negation [] (on 0 [] []) ≡ Goes 0 (on 1 (Ok (value.Int (pos 1)) ∷ []) [])
+unfolding negation
+pushes_row = refl
+
+negates_row : step negation [] (on 1 (Ok (value.Int (pos 1)) ∷ []) []) ≡ Goes 1 (on 2 (Ok (value.Int (negsuc 0)) ∷ []) [])
+unfolding negation
+negates_row = refl
+
+missing_row : step negation [] (on 2 (Ok (value.Int (pos 1)) ∷ []) []) ≡ Stuck
+unfolding negation
+missing_row = refl
+
+ends_row : step negation [] (on 3 (Err Overflow ∷ []) []) ≡ Ends (Err Overflow)
+unfolding negation
+ends_row = refl
+
+past_row : step negation [] (on 4 [] []) ≡ Stuck
+unfolding negation
+past_row = refl

@@ -1,0 +1,22 @@
+use Rattle.std.proofs.Common.{ap}
+use Rattle.cel_code.proofs.Place.{placed}
+use Rattle.cel_code.proofs.Runs.{computes}
+use Rattle.cel_code.proofs.Preserved.{preserved_outside}
+use Rattle.cel_code.proofs.compiler.compile.Goals as goal
+
+pub returns-in_err-slots-clause-preserves : goal.returns-in_err-slots-clause-preserves
+returns-in_err-slots-clause-preserves c = preserved_outside c.args.typed.now
+
+pub returns-in_err-emit-clause-preserves : goal.returns-in_err-emit-clause-preserves
+returns-in_err-emit-clause-preserves c = preserved_outside c.args.typed.now
+
+pub returns-in_err-put-clause-preserves : goal.returns-in_err-put-clause-preserves
+returns-in_err-put-clause-preserves c = preserved_outside c.args.typed.now
+
+pub returns-clause-computes : goal.returns-clause-computes
+returns-clause-computes c =
+    let p = placed _ _ _ c.args.typed.now.tree (ap (λ d. d.instrs) c.new-draft.ensures) c.in_ok-emit.ensures c.in_ok-put.ensures in
+    computes _ c.args.typed.now.tree p.to p.stands p.ends
+
+pub returns-clause-preserves : goal.returns-clause-preserves
+returns-clause-preserves c = preserved_outside c.args.typed.now

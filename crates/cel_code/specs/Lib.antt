@@ -1,0 +1,9 @@
+pub mod Correct
+pub mod Drafts
+pub mod Machine
+pub mod Meaning
+pub mod Operators
+pub mod Outcomes
+pub mod Placed
+pub mod Typing
+pub mod Wants

@@ -1,0 +1,143 @@
+-- What the machine does with an image, one instruction at a time.
+use Rattle.std.specs.Prelude.{◌≡◌, ℕ, ◌+◌, true, false, List, [], ◌∷◌, Option, Some, None, Ok, Err, slice_get}
+use Rattle.cel_value.specs.declared.value.Value.{Value}
+use Rattle.cel_code.specs.declared.cel_check.operator.Operator.{Operator}
+use Rattle.cel_code.specs.declared.instr.Instr.{Instr}
+use Rattle.cel_code.specs.declared.instr.Instr.TheVariants.{Const, Op, AndTest, OrTest, And, Or, Cond, Jump, End}
+use Rattle.cel_code.specs.declared.image.Image.{Image}
+use Rattle.cel_code.specs.Outcomes.{Outcome, Side, and_of, or_of, both_sides}
+use Rattle.cel_code.specs.Wants.{side_of}
+use Rattle.cel_code.specs.Operators.{Made, Row, One, Two, row, operator_of, at_one, at_two}
+
+-- an open loop: where it begins and where it leads, and the items of its range, the present one first
+pub record Frame : Type 0 where
+  pub start : ℕ
+  pub exit : ℕ
+  pub items : List Value
+
+-- the number of the next instruction, the stack of values and errors, the top first, and the open loops, the innermost first
+pub record State : Type 0 where
+  pub at : ℕ
+  pub stack : List Outcome
+  pub frames : List Frame
+
+-- a state by its parts
+abbrev pub on : ℕ → List Outcome → List Frame → State
+on at stack frames = record { at = at; stack = stack; frames = frames }
+
+-- what an instruction reads beside the state: the image's constants, and what the slots hold
+pub record Inputs : Type 0 where
+  pub constants : List Value
+  pub slots : List Outcome
+
+-- a step goes on for a charge, or ends with an outcome; it is stuck where an operand is missing or of a kind that the
+-- instruction does not take, where a constant is missing, or where there is no instruction
+pub data Next : Type 0 where
+  Goes : (charge : ℕ) → (to : State) → Next
+  Ends : (outcome : Outcome) → Next
+  Stuck : Next
+
+-- on top of the stack, and on to the next instruction
+abbrev pub push : Option Outcome → ℕ → List Outcome → List Frame → Next
+push None at stack frames = Stuck
+push (Some x) at stack frames = Goes 0 (on (at + 1) (x ∷ stack) frames)
+
+-- a constant as what is pushed
+abbrev pub constant : Option Value → Option Outcome
+constant None = None
+constant (Some v) = Some (Ok v)
+
+-- an operator's answer, for its charge
+abbrev pub made : Option Made → ℕ → List Outcome → List Frame → Next
+made None at stack frames = Stuck
+made (Some m) at stack frames = Goes m.charge (on (at + 1) (m.outcome ∷ stack) frames)
+
+-- a row of the operators at the operands on the stack
+abbrev pub operate : Row → ℕ → List Outcome → List Frame → Next
+operate (One w r) at (x ∷ stack) frames = made (at_one (One w r) (Some x)) at stack frames
+operate (Two v w r) at (y ∷ x ∷ stack) frames = made (at_two (Two v w r) (Some x) (Some y)) at stack frames
+operate _ at _ frames = Stuck
+
+-- the operator of a number, if there is one
+abbrev pub operate_by : Option Operator → ℕ → List Outcome → List Frame → Next
+operate_by None at stack frames = Stuck
+operate_by (Some op) at stack frames = operate (row op) at stack frames
+
+-- a false left of `&&` jumps; the stack stays
+abbrev pub and_test : Option Side → ℕ → ℕ → List Outcome → List Frame → Next
+and_test None to at stack frames = Stuck
+and_test (Some (Ok false)) to at stack frames = Goes 1 (on to stack frames)
+and_test (Some (Ok true)) to at stack frames = Goes 1 (on (at + 1) stack frames)
+and_test (Some (Err e)) to at stack frames = Goes 1 (on (at + 1) stack frames)
+
+-- a true left of `||` jumps; the stack stays
+abbrev pub or_test : Option Side → ℕ → ℕ → List Outcome → List Frame → Next
+or_test None to at stack frames = Stuck
+or_test (Some (Ok true)) to at stack frames = Goes 1 (on to stack frames)
+or_test (Some (Ok false)) to at stack frames = Goes 1 (on (at + 1) stack frames)
+or_test (Some (Err e)) to at stack frames = Goes 1 (on (at + 1) stack frames)
+
+-- both sides joined
+abbrev pub joined : Option Outcome → ℕ → List Outcome → List Frame → Next
+joined None at stack frames = Stuck
+joined (Some x) at stack frames = Goes 0 (on (at + 1) (x ∷ stack) frames)
+
+-- both sides, where both are sides
+abbrev pub join : (Side → Side → Outcome) → Option Side → Option Side → Option Outcome
+join f None y = None
+join f (Some x) y = both_sides f x y
+
+-- a condition goes on, to the other branch, or with its error behind both
+abbrev pub branch : Option Side → ℕ → ℕ → ℕ → List Outcome → List Frame → Next
+branch None if_false if_error at stack frames = Stuck
+branch (Some (Ok true)) if_false if_error at stack frames = Goes 1 (on (at + 1) stack frames)
+branch (Some (Ok false)) if_false if_error at stack frames = Goes 1 (on if_false stack frames)
+branch (Some (Err e)) if_false if_error at stack frames = Goes 1 (on if_error (Err e ∷ stack) frames)
+
+-- one instruction
+abbrev pub act : Inputs → Instr → ℕ → List Outcome → List Frame → Next
+act inputs (Const k) at stack frames = push (constant (slice_get inputs.constants k)) at stack frames
+act inputs (Op o) at stack frames = operate_by (operator_of o) at stack frames
+act inputs (AndTest to) at (x ∷ stack) frames = and_test (side_of (Some x)) to at (x ∷ stack) frames
+act inputs (OrTest to) at (x ∷ stack) frames = or_test (side_of (Some x)) to at (x ∷ stack) frames
+act inputs And at (y ∷ x ∷ stack) frames = joined (join and_of (side_of (Some x)) (side_of (Some y))) at stack frames
+act inputs Or at (y ∷ x ∷ stack) frames = joined (join or_of (side_of (Some x)) (side_of (Some y))) at stack frames
+act inputs (Cond if_false if_error) at (x ∷ stack) frames = branch (side_of (Some x)) if_false if_error at stack frames
+act inputs (Jump to) at stack frames = Goes 0 (on to stack frames)
+act inputs End at (x ∷ stack) frames = Ends x
+act inputs _ at _ frames = Stuck
+
+-- the instruction at a place, if there is one
+abbrev pub act_at : Inputs → Option Instr → ℕ → List Outcome → List Frame → Next
+act_at inputs None at stack frames = Stuck
+act_at inputs (Some i) at stack frames = act inputs i at stack frames
+
+-- what an image reads where its slots hold these
+abbrev pub inputs_of : Image → List Outcome → Inputs
+inputs_of image slots = record { constants = image.constants; slots = slots }
+
+-- one step
+abbrev pub step : Image → List Outcome → State → Next
+step image slots s = act_at (inputs_of image slots) (slice_get image.code s.at) s.at s.stack s.frames
+
+-- the machine gets from a state to another, in so many steps for so great a charge
+pub data Gets (image : Image) (slots : List Outcome) : State → State → ℕ → ℕ → Type 0 where
+  Stays : {s t : State} {charge steps : ℕ} → s ≡ t → charge ≡ 0 → steps ≡ 0 → Gets image slots s t charge steps
+  Moves : {s t : State} {charge steps : ℕ} (m : State) (c d n : ℕ) → step image slots s ≡ Goes c m → Gets image slots m t d n → charge ≡ c + d → steps ≡ n + 1 → Gets image slots s t charge steps
+
+-- the run from the first instruction: its outcome, what it charges, and its steps
+pub record Run (image : Image) (slots : List Outcome) (outcome : Outcome) (charged steps : ℕ) : Type 0 where
+  pub last : State
+  pub before : ℕ
+  pub gets : Gets image slots (on 0 [] []) last charged before
+  pub ends : step image slots last ≡ Ends outcome
+  pub count : steps ≡ before + 1
+
+-- the machine is stuck at an instruction, after a charge and so many steps
+pub record IsStuck (image : Image) (slots : List Outcome) (at : ℕ) : Type 0 where
+  pub last : State
+  pub charged : ℕ
+  pub before : ℕ
+  pub gets : Gets image slots (on 0 [] []) last charged before
+  pub here : last.at ≡ at
+  pub stuck : step image slots last ≡ Stuck

@@ -1,0 +1,73 @@
+-- Where the instructions of an expression stand in an image.
+use Rattle.std.specs.Prelude.{◌≡◌, ℕ, ◌+◌, ◌<◌, ◌≤◌, List, [], ◌∷◌, ◌++◌, length, Some, slice_get, slice_set}
+use Rattle.cel_value.specs.declared.value.Value.{Value}
+use Rattle.cel_code.specs.declared.cel_check.operator.Operator.{Operator}
+use Rattle.cel_code.specs.declared.cel_check.tree.TypedTree.{TypedTree, out-TypedTree}
+use Rattle.cel_code.specs.declared.cel_check.tree.Form.{Form}
+use Rattle.cel_code.specs.declared.cel_check.tree.Form.TheVariants as form
+use Rattle.cel_code.specs.declared.instr.Instr.{Instr}
+use Rattle.cel_code.specs.declared.instr.Instr.TheVariants.{Const, Op, AndTest, OrTest, And, Or, Cond, Jump}
+use Rattle.cel_code.specs.declared.image.Image.{Image}
+use Rattle.cel_code.specs.Operators.{code_of}
+
+-- what the machine reads of an image: constants and instructions
+pub record Code : Type 0 where
+  pub constants : List Value
+  pub instrs : List Instr
+
+-- the constants and instructions of an image
+abbrev pub code_in : Image → Code
+code_in image = record { constants = image.constants; instrs = image.code }
+
+-- one instruction more
+abbrev pub with_instr : Code → Instr → Code
+with_instr code i = record code { instrs = code.instrs ++ i ∷ [] }
+
+-- another instruction at a place
+abbrev pub patched : Code → ℕ → Instr → Code
+patched code at i = record code { instrs = slice_set code.instrs at i }
+
+-- a constant has a number, and no constant is lost
+pub record Interns (old new : Code) (v : Value) (number : ℕ) : Type 0 where
+  pub instrs : new.instrs ≡ old.instrs
+  pub constant : slice_get new.constants number ≡ Some v
+  pub kept : (k : ℕ) (w : Value) → slice_get old.constants k ≡ Some w → slice_get new.constants k ≡ Some w
+
+-- an instruction stands at a place
+pub record Has (code : Code) (at : ℕ) (i : Instr) : Type 0 where
+  pub is : slice_get code.instrs at ≡ Some i
+
+-- a constant is pushed
+pub record Pushes (code : Code) (from to : ℕ) (v : Value) : Type 0 where
+  pub number : ℕ
+  pub instr : Has code from (Const number)
+  pub constant : slice_get code.constants number ≡ Some v
+  pub next : to ≡ from + 1
+
+-- a level of an expression
+pub record IsForm (e : TypedTree) (f : Form TypedTree) : Type 0 where
+  pub is : (out-TypedTree e).form ≡ f
+
+-- the instructions of an expression stand from one place up to another
+pub data Stands (code : Code) : TypedTree → ℕ → ℕ → Type 0 where
+  literal : {e : TypedTree} {from to : ℕ} (v : Value) → IsForm e (form.Literal v) → Pushes code from to v → Stands code e from to
+  unary : {e : TypedTree} {from to : ℕ} (op : Operator) (a : TypedTree) (m : ℕ) → IsForm e (form.Unary op a) → Stands code a from m → Has code m (Op (code_of op)) → to ≡ m + 1 → Stands code e from to
+  binary : {e : TypedTree} {from to : ℕ} (op : Operator) (a b : TypedTree) (m n : ℕ) → IsForm e (form.Binary op a b) → Stands code a from m → Stands code b m n → Has code n (Op (code_of op)) → to ≡ n + 1 → Stands code e from to
+  both : {e : TypedTree} {from to : ℕ} (a b : TypedTree) (m n : ℕ) → IsForm e (form.And a b) → Stands code a from m → Has code m (AndTest to) → Stands code b (m + 1) n → Has code n And → to ≡ n + 1 → Stands code e from to
+  either : {e : TypedTree} {from to : ℕ} (a b : TypedTree) (m n : ℕ) → IsForm e (form.Or a b) → Stands code a from m → Has code m (OrTest to) → Stands code b (m + 1) n → Has code n Or → to ≡ n + 1 → Stands code e from to
+  conditional : {e : TypedTree} {from to : ℕ} (c a b : TypedTree) (m n : ℕ) → IsForm e (form.Conditional c a b) → Stands code c from m → Has code m (Cond (n + 1) to) → Stands code a (m + 1) n → Has code n (Jump to) → Stands code b (n + 1) to → Stands code e from to
+
+-- from one place up to another the same instructions stand in both, and no constant is lost
+pub record Same (old new : Code) (from to : ℕ) : Type 0 where
+  pub instr : (i : ℕ) → from ≤ i → i < to → slice_get new.instrs i ≡ slice_get old.instrs i
+  pub constant : (k : ℕ) (v : Value) → slice_get old.constants k ≡ Some v → slice_get new.constants k ≡ Some v
+
+-- what stood before stands still
+pub record Keeps (old new : Code) : Type 0 where
+  pub grows : length old.instrs ≤ length new.instrs
+  pub same : Same old new 0 (length old.instrs)
+
+-- what is written for an expression stands behind what stood before
+pub record Emits (old new : Code) (e : TypedTree) : Type 0 where
+  pub stands : Stands new e (length old.instrs) (length new.instrs)
+  pub keeps : Keeps old new

@@ -1,0 +1,19 @@
+//! Types of expressions, and the operators that they choose: [`check`] answers the typed tree of an expression in a
+//! scope of names, or the first rule that it breaks.
+
+mod checker;
+mod fault;
+mod node;
+mod operator;
+mod overload;
+mod scope;
+mod size;
+mod tree;
+mod typed;
+
+pub use checker::check;
+pub use fault::{CheckError, TypeFault, TypeRule};
+pub use operator::{Made, Operator, Overload, is_truth};
+pub use scope::Scope;
+pub use tree::{Form, TypedTree};
+pub use typed::Typed;

@@ -1,0 +1,44 @@
+ghost use Rattle.std.specs.Prelude.{◌≡◌, Ok, Err};
+ghost use Rattle.cel_code.specs.Typing.{overload_of_one, overload_of_two};
+
+use crate::cel_check::fault::TypeRule;
+use crate::cel_check::operator::{Operator, Overload};
+use cel_parse::{BinaryOperator, UnaryOperator};
+use cel_value::CelType;
+
+/// The first overload that takes an operand of a type.
+pub fn overload_of_one(operator: UnaryOperator, operand: &CelType) -> Result<Overload, TypeRule>
+    ensures { result ≡ overload_of_one operator operand.now }
+{
+    let operator = match operator {
+        UnaryOperator::Not => Operator::Not,
+        UnaryOperator::Negate => Operator::Negate,
+    };
+    let cel_type = operator.type_of_one(operand)?;
+    Ok(Overload { operator, cel_type })
+}
+
+/// The first overload that takes operands of two types.
+pub fn overload_of_two(
+    operator: BinaryOperator,
+    left: &CelType,
+    right: &CelType,
+) -> Result<Overload, TypeRule>
+    ensures { result ≡ overload_of_two operator left.now right.now }
+{
+    let operator = match operator {
+        BinaryOperator::Less => Operator::Less,
+        BinaryOperator::AtMost => Operator::AtMost,
+        BinaryOperator::Greater => Operator::Greater,
+        BinaryOperator::AtLeast => Operator::AtLeast,
+        BinaryOperator::Equal => Operator::Equal,
+        BinaryOperator::NotEqual => Operator::NotEqual,
+        BinaryOperator::Add => Operator::Add,
+        BinaryOperator::Subtract => Operator::Subtract,
+        BinaryOperator::Multiply => Operator::Multiply,
+        BinaryOperator::Divide => Operator::Divide,
+        BinaryOperator::Remainder => Operator::Remainder,
+    };
+    let cel_type = operator.type_of_two(left, right)?;
+    Ok(Overload { operator, cel_type })
+}

@@ -1,0 +1,23 @@
+/// One instruction. A jump names the number of the instruction that it goes to, a constant its number in the image,
+/// and an operator the number of [`crate::cel_check::Operator::code`].
+#[derive(Clone, Copy, Debug, PartialEq, Eq)]
+pub enum Instr {
+    /// Pushes a constant.
+    Const(usize),
+    /// Pops an operator's operands and pushes its answer.
+    Op(usize),
+    /// Goes on where the top is false, and otherwise to the next instruction.
+    AndTest(usize),
+    /// Goes on where the top is true, and otherwise to the next instruction.
+    OrTest(usize),
+    /// Pops both sides of `&&` and pushes their conjunction.
+    And,
+    /// Pops both sides of `||` and pushes their disjunction.
+    Or,
+    /// Pops a condition: true goes to the next instruction, false to the first place, and an error, which is pushed
+    /// again, to the second.
+    Cond(usize, usize),
+    Jump(usize),
+    /// Ends the run; the top is its outcome.
+    End,
+}

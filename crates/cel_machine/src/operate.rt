@@ -1,0 +1,184 @@
+ghost use Rattle.std.specs.Prelude.{◌≡◌, ◌≤◌, Some, IfSome, not, neg_ℤ, ◌+ℤ◌, ◌-ℤ◌, ◌*ℤ◌, int_div, int_rem};
+ghost use Rattle.cel_value.specs.Value.{same as same_values};
+ghost use Rattle.cel_code.specs.Operators.{row, at_one, at_two, int_or_overflow, divided, less as order_of, lesser_weight as weight_of_lesser, makes};
+ghost use Rattle.cel_machine.specs.Families.{IsArithmetic, IsOrder, equality_of, truth_where};
+
+use cel_code::cel_check::{Made, Operator};
+use cel_value::{CelError, Value, equal, weight};
+
+/// What an operator makes of one operand; nothing where it takes another count or another kind.
+pub fn on_one(op: Operator, x: Result<Value, CelError>) -> Option<Made>
+    ensures exact { result ≡ at_one (row op) (Some x) }
+    ensures cheap { IfSome result (λ m. m.charge ≤ 1) }
+{
+    match (op, x) {
+        (Operator::Not, Ok(Value::Bool(b))) => made(Ok(Value::Bool(!b)), 1),
+        (Operator::Negate, Ok(Value::Int(n))) => made(negated(n), 1),
+        (Operator::Not | Operator::Negate, Err(e)) => made(Err(e), 1),
+        _ => None,
+    }
+}
+
+/// What an operator makes of two operands; nothing where it takes another count or other kinds.
+pub fn on_two(op: Operator, x: Result<Value, CelError>, y: Result<Value, CelError>) -> Option<Made>
+    ensures exact { result ≡ at_two (row op) (Some x) (Some y) }
+    ensures cheap { IfSome result (λ m. m.charge ≤ 1) }
+{
+    match op {
+        Operator::Not | Operator::Negate => None,
+        Operator::Add
+        | Operator::Subtract
+        | Operator::Multiply
+        | Operator::Divide
+        | Operator::Remainder => arithmetic(op, x, y),
+        Operator::Equal => equality(true, x, y),
+        Operator::NotEqual => equality(false, x, y),
+        Operator::Less | Operator::AtMost | Operator::Greater | Operator::AtLeast => {
+            order(op, x, y)
+        }
+    }
+}
+
+fn made(outcome: Result<Value, CelError>, charge: u64) -> Option<Made>
+    ensures { result ≡ makes (Some outcome) charge }
+{
+    Some(Made { outcome, charge })
+}
+
+fn arithmetic(op: Operator, x: Result<Value, CelError>, y: Result<Value, CelError>) -> Option<Made>
+    requires { IsArithmetic op }
+    ensures exact { result ≡ at_two (row op) (Some x) (Some y) }
+    ensures cheap { IfSome result (λ m. m.charge ≤ 1) }
+{
+    match (x, y) {
+        (Ok(Value::Bool(_)), _) | (_, Ok(Value::Bool(_))) => None,
+        (Err(e), _) | (Ok(_), Err(e)) => made(Err(e), 1),
+        (Ok(Value::Int(m)), Ok(Value::Int(n))) => match op {
+            Operator::Add => made(sum(m, n), 1),
+            Operator::Subtract => made(difference(m, n), 1),
+            Operator::Multiply => made(product(m, n), 1),
+            Operator::Divide => made(quotient(m, n), 1),
+            Operator::Remainder => made(remainder(m, n), 1),
+            _ => unreachable!(),
+        },
+    }
+}
+
+fn negated(n: i64) -> Result<Value, CelError>
+    ensures { result ≡ int_or_overflow (neg_ℤ n) }
+{
+    match n.checked_neg() {
+        Some(negated) => Ok(Value::Int(negated)),
+        None => Err(CelError::Overflow),
+    }
+}
+
+fn sum(m: i64, n: i64) -> Result<Value, CelError>
+    ensures { result ≡ int_or_overflow (m +ℤ n) }
+{
+    match m.checked_add(n) {
+        Some(sum) => Ok(Value::Int(sum)),
+        None => Err(CelError::Overflow),
+    }
+}
+
+fn difference(m: i64, n: i64) -> Result<Value, CelError>
+    ensures { result ≡ int_or_overflow (m -ℤ n) }
+{
+    match m.checked_sub(n) {
+        Some(difference) => Ok(Value::Int(difference)),
+        None => Err(CelError::Overflow),
+    }
+}
+
+fn product(m: i64, n: i64) -> Result<Value, CelError>
+    ensures { result ≡ int_or_overflow (m *ℤ n) }
+{
+    match m.checked_mul(n) {
+        Some(product) => Ok(Value::Int(product)),
+        None => Err(CelError::Overflow),
+    }
+}
+
+fn quotient(m: i64, n: i64) -> Result<Value, CelError>
+    ensures { result ≡ divided int_div m n }
+{
+    if n == 0 {
+        return Err(CelError::DivideByZero);
+    }
+    match m.checked_div(n) {
+        Some(quotient) => Ok(Value::Int(quotient)),
+        None => Err(CelError::Overflow),
+    }
+}
+
+fn remainder(m: i64, n: i64) -> Result<Value, CelError>
+    ensures { result ≡ divided int_rem m n }
+{
+    if n == 0 {
+        return Err(CelError::DivideByZero);
+    }
+    match m.checked_rem(n) {
+        Some(remainder) => Ok(Value::Int(remainder)),
+        None => Err(CelError::Overflow),
+    }
+}
+
+fn equality(is: bool, x: Result<Value, CelError>, y: Result<Value, CelError>) -> Option<Made>
+    ensures exact { result ≡ at_two (equality_of is) (Some x) (Some y) }
+    ensures cheap { IfSome result (λ m. m.charge ≤ 1) }
+{
+    match (x, y) {
+        (Err(e), _) | (Ok(_), Err(e)) => made(Err(e), 1),
+        (Ok(v), Ok(w)) => made(Ok(Value::Bool(same(v, w) == is)), lesser_weight(v, w)),
+    }
+}
+
+fn same(v: Value, w: Value) -> bool
+    ensures { result ≡ same_values v w }
+{
+    equal(&v, &w)
+}
+
+fn lesser_weight(v: Value, w: Value) -> u64
+    ensures exact { result ≡ weight_of_lesser v w }
+    ensures cheap { result ≤ 1 }
+{
+    weight(&v).min(weight(&w))
+}
+
+fn order(op: Operator, x: Result<Value, CelError>, y: Result<Value, CelError>) -> Option<Made>
+    requires { IsOrder op }
+    ensures exact { result ≡ at_two (row op) (Some x) (Some y) }
+    ensures cheap { IfSome result (λ m. m.charge ≤ 1) }
+{
+    match (x, y) {
+        (Err(e), _) | (Ok(_), Err(e)) => made(Err(e), 1),
+        (Ok(v), Ok(w)) => match op {
+            Operator::Less => truth(less(v, w), true, lesser_weight(v, w)),
+            Operator::AtMost => truth(less(w, v), false, lesser_weight(v, w)),
+            Operator::Greater => truth(less(w, v), true, lesser_weight(v, w)),
+            Operator::AtLeast => truth(less(v, w), false, lesser_weight(v, w)),
+            _ => unreachable!(),
+        },
+    }
+}
+
+fn less(v: Value, w: Value) -> Option<bool>
+    ensures { result ≡ order_of v w }
+{
+    match (v, w) {
+        (Value::Bool(a), Value::Bool(b)) => Some(!a && b),
+        (Value::Int(m), Value::Int(n)) => Some(m < n),
+        _ => None,
+    }
+}
+
+fn truth(b: Option<bool>, is: bool, charge: u64) -> Option<Made>
+    ensures { result ≡ makes (truth_where is b) charge }
+{
+    match b {
+        None => None,
+        Some(b) => made(Ok(Value::Bool(b == is)), charge),
+    }
+}

@@ -1,0 +1,79 @@
+-- A text spells one expression, or is refused.
+use Rattle.std.proofs.Common.{◌≡◌, ℕ, List, [], length, refl, sym, ap, subst}
+use Rattle.cel_parse.specs.declared.cel_lex.token.Token.{Token}
+use Rattle.cel_parse.specs.declared.cel_lex.fault.LexFault.{LexFault}
+use Rattle.cel_parse.specs.declared.expr.Expr.{Expr}
+use Rattle.cel_parse.specs.declared.fault.ParseFault.{ParseFault}
+use Rattle.cel_parse.specs.declared.fault.ParseFault.TheVariants.{Lex, Unexpected}
+use Rattle.cel_parse.specs.declared.tree.Tree.{Tree}
+use Rattle.cel_parse.specs.Lexis.{IsCut}
+use Rattle.cel_parse.specs.Expansion.{expanded}
+use Rattle.cel_parse.specs.Parsing.{IsTree, IsUnexpected, HasNoTree, unexpected, too_deep, IsParsed, IsRefused, no_cut, no_tree, no_expression}
+use Rattle.cel_parse.proofs.Cutting.{one_cut, one_refusal, no_refusal}
+use Rattle.cel_parse.specs.Grammar.{Derives, Expression}
+use Rattle.cel_parse.proofs.Stages.{agrees_self}
+use Rattle.cel_parse.proofs.Ranges.{expanded_lexical}
+use Rattle.cel_parse.proofs.OnePlace.{one_place}
+use Rattle.cel_parse.proofs.Answered.{one_tree}
+
+same_tokens : {text : List ℕ} {ts us : List Token} → IsCut text ts → IsCut text us → ts ≡ us
+same_tokens p q = one_cut p.cut q.cut
+
+same_tree : {text : List ℕ} {ts us : List Token} {a b : Tree} → IsCut text ts → IsCut text us → IsTree ts a → IsTree us b → a ≡ b
+same_tree {ts = ts} {us} {a} {b} p q t u = one_tree ts a b t (subst (λ x. IsTree x b) (sym (same_tokens p q)) u)
+
+pub same_expression : (text : List ℕ) (a b : Expr) → IsParsed text a → IsParsed text b → a ≡ b
+same_expression text a b p q =
+    let e = ap expanded (same_tree p.cut q.cut p.is_tree q.is_tree) in
+    let x = p.expanded in
+    let y = q.expanded in
+    cc
+
+-- tokens with a tree have one
+has_tree : {finish : ℕ} {ts : List Token} {e : Tree} {f : ParseFault} → HasNoTree finish ts f → IsTree ts e → ⊥
+has_tree {e = e} (unexpected u) t = u.stops u.rest (agrees_self u.rest) e (subst (λ x. Derives Expression x [] e) u.tokens t.derived)
+has_tree {e = e} (too_deep d) t = d.none_within e t.derived t.within
+
+tree_or_none : {text : List ℕ} {finish : ℕ} {ts us : List Token} {e : Tree} {f : ParseFault} → IsCut text ts → IsCut text us → HasNoTree finish ts f → IsTree us e → ⊥
+tree_or_none {e = e} p q n t = has_tree n (subst (λ x. IsTree x e) (same_tokens q p) t)
+
+pub not_both : (text : List ℕ) (e : Expr) (f : ParseFault) → IsParsed text e → IsRefused text f → ⊥
+not_both text e f p (no_cut r) = no_refusal text p.tokens _ p.cut r
+not_both text e f p (no_tree c n) = tree_or_none c p.cut n p.is_tree
+not_both text e f p (no_expression c t x) =
+    let s = ap expanded (same_tree p.cut c p.is_tree t) in
+    let y = p.expanded in
+    cc
+
+lexical_none : {finish : ℕ} {ts : List Token} {g : ParseFault} {f : LexFault} → HasNoTree finish ts g → g ≡ Lex f → ⊥
+lexical_none (unexpected u) h = cc
+lexical_none (too_deep d) h = cc
+
+-- what refuses a text in one of its numbers, or in its characters, is the only fault
+first_fault : (text : List ℕ) (f : LexFault) (g h : ParseFault) → IsRefused text h → IsRefused text g → h ≡ Lex f → g ≡ h
+first_fault text f g h (no_cut {f = a} r) (no_cut {f = b} s) q = ap Lex (one_refusal text b a s r)
+first_fault text f g h (no_cut r) (no_tree c n) q = absurd (no_refusal text _ _ c r)
+first_fault text f g h (no_cut r) (no_expression c t x) q = absurd (no_refusal text _ _ c r)
+first_fault text f g h (no_tree c n) s q = absurd (lexical_none n q)
+first_fault text f g h (no_expression c t x) (no_cut r) q = absurd (no_refusal text _ _ c r)
+first_fault text f g h (no_expression c t x) (no_tree d n) q = absurd (tree_or_none d c n t)
+first_fault text f g h (no_expression c t x) (no_expression d u y) q = let e = ap expanded (same_tree c d t u) in cc
+
+pub only_fault : (text : List ℕ) (f : LexFault) (g : ParseFault) → IsRefused text (Lex f) → IsRefused text g → g ≡ Lex f
+only_fault text f g r s = first_fault text f g (Lex f) r s refl
+
+unexpected_of : {finish : ℕ} {ts : List Token} (f : ParseFault) (p : ℕ) → HasNoTree finish ts f → f ≡ Unexpected p → IsUnexpected finish ts p
+unexpected_of {finish} {ts} f p (unexpected {place} u) h = subst (λ x. IsUnexpected finish ts x) (cc) u
+unexpected_of f p (too_deep d) h = absurd cc
+
+-- where no token is expected, it is one place
+unexpected_place : (text : List ℕ) (f g : ParseFault) (p q : ℕ) → IsRefused text f → IsRefused text g → f ≡ Unexpected p → g ≡ Unexpected q → p ≡ q
+unexpected_place text f g p q (no_cut r) s h i = absurd cc
+unexpected_place text f g p q (no_expression {e = e} c t x) s h i = absurd (let l = expanded_lexical e f x in let k = l.1 in cc)
+unexpected_place text f g p q (no_tree c n) (no_cut r) h i = absurd cc
+unexpected_place text f g p q (no_tree c n) (no_expression {e = e} d u y) h i = absurd (let l = expanded_lexical e g y in let k = l.1 in cc)
+unexpected_place text f g p q (no_tree {ts = ts} c n) (no_tree {ts = us} d m) h i =
+    one_place (unexpected_of f p n h) (subst (λ x. IsUnexpected (length text) x q) (same_tokens d c) (unexpected_of g q m i))
+
+pub one_unexpected : (text : List ℕ) (p q : ℕ) → IsRefused text (Unexpected p) → IsRefused text (Unexpected q) → p ≡ q
+one_unexpected text p q r s = unexpected_place text (Unexpected p) (Unexpected q) p q r s refl refl

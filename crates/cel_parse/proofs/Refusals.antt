@@ -1,0 +1,31 @@
+-- Why a text is refused, by the step that refuses it.
+use Rattle.std.proofs.Common.{◌≡◌, ℕ, List, length, Result, Ok, Err, ap, subst, ◌∙◌}
+use Rattle.std.specs.Prelude.{IsErrOf}
+use Rattle.cel_parse.specs.declared.cel_lex.token.Token.{Token}
+use Rattle.cel_parse.specs.declared.cel_lex.fault.LexFault.{LexFault}
+use Rattle.cel_parse.specs.declared.cel_lex.fault.LexError.{LexError}
+use Rattle.cel_parse.specs.declared.cel_lex.fault.LexError.TheVariants as lexing
+use Rattle.cel_parse.specs.declared.expr.Expr.{Expr}
+use Rattle.cel_parse.specs.declared.fault.ParseFault.{ParseFault}
+use Rattle.cel_parse.specs.declared.fault.ParseError.{ParseError}
+use Rattle.cel_parse.specs.declared.fault.ParseError.TheVariants as errors
+use Rattle.cel_parse.specs.declared.tree.Tree.{Tree}
+use Rattle.cel_parse.specs.Lexis.{IsCut, Refuses}
+use Rattle.cel_parse.specs.Faults.{from_lexing}
+use Rattle.cel_parse.specs.Views.{same, Gives}
+use Rattle.cel_parse.specs.Expansion.{expanded}
+use Rattle.cel_parse.specs.Parsing.{IsTree, HasNoTree, IsRefused, no_cut, no_tree, no_expression}
+
+pub refused_cut : (text : List ℕ) (l : LexError) (f : ParseFault) → from_lexing l ≡ errors.Fault f → ((g : LexFault) → l ≡ lexing.Fault g → Refuses text g) → IsRefused text f
+refused_cut text lexing.OutOfMemory f e h = absurd cc
+refused_cut text (lexing.Fault g) f e h = subst (λ x. IsRefused text x) (cc) (no_cut (h g cc))
+
+pub refused_tree : (text : List ℕ) (ts us : List Token) (f : ParseFault) → IsCut text us → ts ≡ us → HasNoTree (length text) ts f → IsRefused text f
+refused_tree text ts us f c e n = no_tree c (subst (λ x. HasNoTree (length text) x f) e n)
+
+pub refused_expression : (text : List ℕ) (ts us : List Token) (tree : Tree) (r : Result Expr ParseError) (f : ParseFault) → IsCut text us → ts ≡ us → IsTree ts tree → Gives same r (expanded tree) → IsErrOf r (errors.Fault f) → IsRefused text f
+refused_expression text ts us tree (Ok x) f c e t g h = absurd cc
+refused_expression text ts us tree (Err errors.OutOfMemory) f c e t g h = absurd cc
+refused_expression text ts us tree (Err (errors.Fault k)) f c e t g h =
+    let q : k ≡ f = cc in
+    no_expression c (subst (λ x. IsTree x tree) e t) (g ∙ ap Err q)

@@ -1,0 +1,9 @@
+pub mod Lexis
+pub mod Scan
+pub mod Faults
+pub mod Grammar
+pub mod Limits
+pub mod Descent
+pub mod Views
+pub mod Expansion
+pub mod Parsing

@@ -1,0 +1,36 @@
+-- What the code's values stand for.
+use Rattle.std.specs.Prelude.{◌≡◌, ℕ, List, Option, option_map, Result, Ok, Err}
+use Rattle.std.specs.Borrow.{Bor}
+use Rattle.cel_parse.specs.declared.cel_lex.token.Infix.{Infix}
+use Rattle.cel_parse.specs.declared.cel_lex.token.Token.{Token}
+use Rattle.cel_parse.specs.declared.fault.ParseFault.{ParseFault}
+use Rattle.cel_parse.specs.declared.fault.ParseError.{ParseError}
+use Rattle.cel_parse.specs.declared.fault.ParseError.TheVariants as errors
+use Rattle.cel_parse.specs.declared.nodes.Taken.{Taken}
+use Rattle.cel_parse.specs.Descent.{Found}
+
+-- a failure is the fault that reading gives, unless memory ran out
+abbrev pub Fails : {Y : Type 0} → ParseError → Result Y ParseFault → Type 0
+Fails errors.OutOfMemory read = Unit {0}
+Fails (errors.Fault f) read = read ≡ Err f
+
+-- what a function returned, seen by view, is what reading gives, unless memory ran out
+abbrev pub Gives : {X Y : Type 0} → (X → Y) → Result X ParseError → Result Y ParseFault → Type 0
+Gives view (Ok x) read = read ≡ Ok (view x)
+Gives view (Err e) read = Fails e read
+
+-- a value as it is
+abbrev pub same : {X : Type 0} → X → X
+same x = x
+
+-- what was taken from the tokens
+abbrev pub seen : Taken → Found
+seen t = record { tree = t.tree; deep = t.depth; rest = t.rest.now }
+
+-- what stands first, and the tokens after it
+abbrev pub seen_head : Option (ℕ × Bor (List Token)) → Option (ℕ × List Token)
+seen_head o = option_map (λ x. (x.0, x.1.now)) o
+
+-- the operator that stands first, its place, and the tokens after it
+abbrev pub seen_operator : Option (Infix × ℕ × Bor (List Token)) → Option (Infix × ℕ × List Token)
+seen_operator o = option_map (λ x. (x.0, x.1, x.2.now)) o

@@ -1,0 +1,22 @@
+//! The trees of CEL texts.
+//!
+//! [`cel_lex::tokens`] cuts a text into tokens, or tells its first fault. [`parse`] answers the expression of the one
+//! tree that the grammar derives from them, or why there is none within the limits. [`one_expression`] is the law that
+//! a text has one of the two, and only one.
+#![tactic(auto)]
+
+pub mod cel_lex;
+mod descent;
+mod expansion;
+mod expr;
+mod fault;
+mod heads;
+mod nodes;
+mod parser;
+#[cfg(test)]
+mod tests;
+mod tree;
+
+pub use expr::{BinaryOperator, Expr, Syntax, UnaryOperator};
+pub use fault::{ParseError, ParseFault};
+pub use parser::{one_expression, parse};

@@ -1,0 +1,37 @@
+//! The expression of a text.
+
+ghost use Rattle.std.specs.Prelude.{◌≡◌, ℕ, List, IfOk, IsErrOf};
+ghost use Rattle.cel_parse.specs.declared.cel_lex.fault.LexFault.{LexFault};
+ghost use Rattle.cel_parse.specs.declared.expr.Expr.{Expr};
+ghost use Rattle.cel_parse.specs.declared.fault.ParseFault.{ParseFault};
+ghost use Rattle.cel_parse.specs.declared.fault.ParseFault.TheVariants.{Lex, Unexpected};
+ghost use Rattle.cel_parse.specs.declared.fault.ParseError.TheVariants as errors;
+ghost use Rattle.cel_parse.specs.Parsing.{IsParsed, IsRefused};
+
+use crate::cel_lex::tokens;
+use crate::descent::tree_of;
+use crate::expansion::expand;
+use crate::expr::Expr;
+use crate::fault::ParseError;
+use std::alloc::Global;
+
+/// The expression that a text spells.
+pub fn parse(alloc: Global, text: &str) -> Result<Expr, ParseError>
+    // The text spells the expression that is answered.
+    ensures parsed { IfOk result (λ e. IsParsed text.now e) }
+    // A text is refused only for the fault that is answered.
+    ensures refused { (f : ParseFault) → IsErrOf result (errors.Fault f) → IsRefused text.now f }
+{
+    let cut = tokens(alloc, text)?;
+    let tree = tree_of(alloc, text.len(), cut.as_slice())?;
+    expand(alloc, &tree)
+}
+
+/// A text spells one expression or is refused, and not both. Where a character or a number refuses it, nothing else
+/// does, and no token is unexpected but one.
+pub fn one_expression()
+    ensures expressions { (text : List ℕ) (a b : Expr) → IsParsed text a → IsParsed text b → a ≡ b }
+    ensures either { (text : List ℕ) (e : Expr) (f : ParseFault) → IsParsed text e → IsRefused text f → ⊥ }
+    ensures lexing { (text : List ℕ) (f : LexFault) (g : ParseFault) → IsRefused text (Lex f) → IsRefused text g → g ≡ Lex f }
+    ensures places { (text : List ℕ) (p q : ℕ) → IsRefused text (Unexpected p) → IsRefused text (Unexpected q) → p ≡ q }
+{}

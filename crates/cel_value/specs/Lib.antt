@@ -1,0 +1,3 @@
+pub mod CelType
+pub mod Names
+pub mod Value

@@ -1,0 +1,15 @@
+//! Containers that contracts see as what they hold, so that a tree of them is plain data and `≡` on it is
+//! equality of content.
+//!
+//! [`Text`] is seen as its bytes, [`TextMap`] as the list of its entries by key, [`Items`] as a list and
+//! [`Boxed`] as the value inside.
+#![tactic(auto)]
+
+#[cfg(test)]
+mod tests;
+mod text;
+mod text_map;
+
+pub use sqlite_items::{Boxed, Items};
+pub use text::{Keyed, Text};
+pub use text_map::TextMap;

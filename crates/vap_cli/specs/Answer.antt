@@ -1,0 +1,67 @@
+-- What `eval` prints.
+use Rattle.std.specs.Prelude.{ℕ, List, [], ◌∷◌, ◌++◌, codes, decimal, if◌then◌else◌}
+use Rattle.std.specs.Fmt.{signed_decimal}
+use Rattle.cel_value.specs.declared.value.Value.{Value}
+use Rattle.cel_value.specs.declared.value.Value.TheVariants.{Bool, Int}
+use Rattle.cel_value.specs.Names.{error_name}
+use Rattle.cel_parse.specs.declared.cel_lex.fault.LexFaultKind.{LexFaultKind}
+use Rattle.cel_parse.specs.declared.cel_lex.fault.LexFaultKind.TheVariants.{BadChar, IntRange, TooLong}
+use Rattle.cel_parse.specs.declared.fault.ParseFault.{ParseFault}
+use Rattle.cel_parse.specs.declared.fault.ParseFault.TheVariants.{Lex, Unexpected, TooDeep}
+use Rattle.cel_code.specs.declared.cel_check.fault.TypeRule.{TypeRule}
+use Rattle.cel_code.specs.declared.cel_check.fault.TypeRule.TheVariants.{NoOverload, Mixed, TooLarge}
+use Rattle.vap_cli.specs.declared.answer.Refusal.{Refusal}
+use Rattle.vap_cli.specs.declared.answer.Refusal.TheVariants as refusal
+use Rattle.vap_cli.specs.declared.answer.Answer.{Answer}
+use Rattle.vap_cli.specs.declared.answer.Answer.TheVariants as answer
+use Rattle.vap_cli.specs.declared.status.Status.{Status}
+use Rattle.vap_cli.specs.declared.status.Status.TheVariants.{Done, Fault}
+
+-- a value as compact JSON
+abbrev pub value_text : Value → List ℕ
+value_text (Bool truth) = if truth then codes "true" else codes "false"
+value_text (Int number) = signed_decimal number
+
+-- the name of a fault of the lexer
+abbrev pub lex_fault_name : LexFaultKind → List ℕ
+lex_fault_name BadChar = codes "BadChar"
+lex_fault_name IntRange = codes "IntRange"
+lex_fault_name TooLong = codes "TooLong"
+
+-- the name of a rule of typing
+abbrev pub type_rule_name : TypeRule → List ℕ
+type_rule_name NoOverload = codes "NoOverload"
+type_rule_name Mixed = codes "Mixed"
+type_rule_name TooLarge = codes "TooLarge"
+
+-- a fault's name with its place
+abbrev pub name_at : List ℕ → ℕ → List ℕ
+name_at name place = name ++ (codes " at " ++ decimal place)
+
+-- a fault of the parser with its place, where it has one
+abbrev pub parse_fault_text : ParseFault → List ℕ
+parse_fault_text (Lex fault) = name_at (lex_fault_name fault.kind) fault.place
+parse_fault_text (Unexpected place) = name_at (codes "Unexpected") place
+parse_fault_text TooDeep = codes "TooDeep"
+
+-- a refusal with its place, where it has one
+abbrev pub refusal_text : Refusal → List ℕ
+refusal_text (refusal.Parse fault) = parse_fault_text fault
+refusal_text (refusal.Type fault) = name_at (type_rule_name fault.rule) fault.place
+refusal_text (refusal.Stuck at) = name_at (codes "Stuck") at
+
+-- what tells an answer, without its line feed
+abbrev pub answer_text : Answer → List ℕ
+answer_text (answer.Value value) = value_text value
+answer_text (answer.Error error) = codes "error: " ++ error_name error
+answer_text (answer.Refused why) = codes "refused: " ++ refusal_text why
+
+-- the line that is printed for an answer
+abbrev pub answer_line : Answer → List ℕ
+answer_line answer = answer_text answer ++ 10 ∷ []
+
+-- how the program ends after an answer
+abbrev pub status_of : Answer → Status
+status_of (answer.Value value) = Done
+status_of (answer.Error error) = Fault
+status_of (answer.Refused why) = Fault

@@ -1,0 +1,74 @@
+-- What an expression comes to, by the definitions of its parts.
+use Rattle.std.specs.Prelude.{◌≡◌, ℕ, List, [], Some, Ok, Err}
+use Rattle.cel_parse.specs.declared.expr.Expr.{Expr}
+use Rattle.cel_parse.specs.declared.fault.ParseError.{ParseError}
+use Rattle.cel_parse.specs.declared.fault.ParseError.TheVariants as parsing
+use Rattle.cel_parse.specs.Parsing.{IsParsed, IsRefused}
+use Rattle.cel_code.specs.declared.cel_check.fault.CheckError.{CheckError}
+use Rattle.cel_code.specs.declared.cel_check.fault.CheckError.TheVariants as checking
+use Rattle.cel_code.specs.declared.cel_check.tree.TypedTree.{TypedTree}
+use Rattle.cel_code.specs.declared.image.Image.{Image}
+use Rattle.cel_code.specs.Correct.{Computes}
+use Rattle.cel_code.specs.Meaning.{value_of}
+use Rattle.cel_code.specs.Outcomes.{Outcome, outside}
+use Rattle.cel_code.specs.Typing.{Names, Checked, checked_within}
+use Rattle.cel_machine.specs.declared.ended.RunError.{RunError}
+use Rattle.cel_machine.specs.declared.ended.RunError.TheVariants as running
+use Rattle.cel_machine.specs.Follow.{HasNoRun}
+use Rattle.vap_cli.specs.declared.answer.Refusal.{Refusal}
+use Rattle.vap_cli.specs.declared.answer.Refusal.TheVariants as refusal
+use Rattle.vap_cli.specs.declared.answer.Answer.{Answer}
+use Rattle.vap_cli.specs.declared.answer.Answer.TheVariants as answer
+use Rattle.vap_cli.specs.declared.evaluation.EvaluationError.{EvaluationError}
+use Rattle.vap_cli.specs.declared.evaluation.EvaluationError.TheVariants.{OutOfMemory, Refused}
+
+-- no names
+abbrev pub no_names : Names
+no_names = record { slots = []; locals = [] }
+
+-- the text spells an expression, whose typed tree or first fault where there are no names is this
+pub record IsChecked (text : List ℕ) (checked : Checked) : Type 0 where
+  pub expression : Expr
+  pub parsed : IsParsed text expression
+  pub as_checked : checked_within expression no_names ≡ checked
+
+-- the text spells an expression that has a type and comes to this value or error
+pub record ComesTo (text : List ℕ) (outcome : Outcome) : Type 0 where
+  pub tree : TypedTree
+  pub typed : IsChecked text (Ok tree)
+  pub value : value_of tree (outside []) ≡ Some outcome
+
+-- the text spells an expression that has a type, and of an image that computes it the machine ends no run
+pub record IsStuck (text : List ℕ) (at : ℕ) : Type 0 where
+  pub tree : TypedTree
+  pub typed : IsChecked text (Ok tree)
+  pub image : Image
+  pub computes : Computes image tree
+  pub stuck : HasNoRun image [] at
+
+-- why a text comes to nothing
+abbrev pub IsRefusedFor : List ℕ → Refusal → Type 0
+IsRefusedFor text (refusal.Parse fault) = IsRefused text fault
+IsRefusedFor text (refusal.Type fault) = IsChecked text (Err fault)
+IsRefusedFor text (refusal.Stuck at) = IsStuck text at
+
+-- what a text comes to
+abbrev pub IsAnswer : List ℕ → Answer → Type 0
+IsAnswer text (answer.Value value) = ComesTo text (Ok value)
+IsAnswer text (answer.Error error) = ComesTo text (Err error)
+IsAnswer text (answer.Refused why) = IsRefusedFor text why
+
+-- what a failure to parse is to the whole
+abbrev pub from_parsing : ParseError → EvaluationError
+from_parsing parsing.OutOfMemory = OutOfMemory
+from_parsing (parsing.Fault fault) = Refused (refusal.Parse fault)
+
+-- what a failure to type is to the whole
+abbrev pub from_checking : CheckError → EvaluationError
+from_checking checking.OutOfMemory = OutOfMemory
+from_checking (checking.Fault fault) = Refused (refusal.Type fault)
+
+-- what a failure to run is to the whole
+abbrev pub from_running : RunError → EvaluationError
+from_running running.OutOfMemory = OutOfMemory
+from_running (running.Stuck at) = Refused (refusal.Stuck at)

@@ -1,0 +1,4 @@
+pub mod Answer
+pub mod Counted
+pub mod Eval
+pub mod Evaluation

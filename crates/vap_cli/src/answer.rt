@@ -1,0 +1,105 @@
+//! What `eval` answers, and how it is told.
+
+ghost use Rattle.std.specs.Prelude.{◌≡◌, IfOk, string_bytes};
+ghost use Rattle.vap_cli.specs.Answer.{answer_line, lex_fault_name, status_of, type_rule_name};
+
+use crate::status::Status;
+use cel_code::cel_check::{TypeFault, TypeRule};
+use cel_parse::ParseFault;
+use cel_parse::cel_lex::LexFaultKind;
+use cel_value::{CelError, Value};
+use std::alloc::{AllocError, Global};
+use std::fmt;
+
+/// Why an expression is not evaluated.
+#[derive(Clone, Copy, Debug, PartialEq, Eq)]
+pub enum Refusal {
+    Parse(ParseFault),
+    Type(TypeFault),
+    /// The machine found no step at this instruction.
+    Stuck { at: usize },
+}
+
+/// What an expression comes to.
+#[derive(Debug, PartialEq, Eq, Drop)]
+pub enum Answer {
+    Value(Value),
+    Error(CelError),
+    Refused(Refusal),
+}
+
+impl Answer {
+    /// The line that is printed.
+    pub fn line(&self, alloc: Global) -> Result<String, AllocError>
+        ensures { IfOk result (λ line. string_bytes line ≡ answer_line self.now) }
+    {
+        format!(in alloc; "{self}\n")
+    }
+
+    /// How the program ends after it.
+    pub fn status(&self) -> Status
+        ensures { result ≡ status_of self.now }
+    {
+        match self {
+            Answer::Value(_) => Status::Done,
+            Answer::Error(_) | Answer::Refused(_) => Status::Fault,
+        }
+    }
+}
+
+impl fmt::Display for Answer {
+    ghost use Rattle.std.specs.Prelude.{Some};
+    ghost use Rattle.vap_cli.specs.Answer.{answer_text};
+
+    ghost output = { λ answer. Some (answer_text answer) };
+
+    fn fmt<W: fmt::Write>(&self, f: &mut fmt::Formatter<W>) -> fmt::Result {
+        match self {
+            Answer::Value(Value::Bool(truth)) => write!(f, "{truth}"),
+            Answer::Value(Value::Int(number)) => write!(f, "{number}"),
+            Answer::Error(error) => {
+                let name = error.name();
+                write!(f, "error: {name}")
+            }
+            Answer::Refused(refusal) => write!(f, "refused: {refusal}"),
+        }
+    }
+}
+
+impl fmt::Display for Refusal {
+    ghost use Rattle.std.specs.Prelude.{Some};
+    ghost use Rattle.vap_cli.specs.Answer.{refusal_text};
+
+    ghost output = { λ refusal. Some (refusal_text refusal) };
+
+    fn fmt<W: fmt::Write>(&self, f: &mut fmt::Formatter<W>) -> fmt::Result {
+        let (name, place) = match self {
+            Refusal::Parse(ParseFault::TooDeep) => return write!(f, "TooDeep"),
+            Refusal::Parse(ParseFault::Lex(fault)) => (lex_fault_name(fault.kind), fault.place),
+            Refusal::Parse(ParseFault::Unexpected { place }) => ("Unexpected", *place),
+            Refusal::Type(fault) => (type_rule_name(fault.rule), fault.place),
+            Refusal::Stuck { at } => ("Stuck", *at),
+        };
+        write!(f, "{name} at {place}")
+    }
+}
+
+fn lex_fault_name(kind: LexFaultKind) -> &'static str
+    ensures { result.now ≡ lex_fault_name kind }
+{
+    match kind {
+        LexFaultKind::BadChar => "BadChar",
+        LexFaultKind::IntRange => "IntRange",
+        LexFaultKind::TooLong => "TooLong",
+    }
+}
+
+fn type_rule_name(rule: TypeRule) -> &'static str
+    ensures { result.now ≡ type_rule_name rule }
+{
+    match rule {
+        TypeRule::NoOverload => "NoOverload",
+        TypeRule::Mixed => "Mixed",
+        TypeRule::TooLarge => "TooLarge",
+    }
+}

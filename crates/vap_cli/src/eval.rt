@@ -1,0 +1,50 @@
+//! The command `eval`.
+
+ghost use Rattle.std.specs.Prelude.{◌≡◌, ◌+◌, ◌<◌, ◌^◌, ◌-◌, IfOk, OnOk, IsErrOf};
+ghost use Rattle.vap_cli.specs.Counted.{inner_of, failures_of};
+ghost use Rattle.vap_cli.specs.Eval.{Tells};
+ghost use Rattle.vap_cli.specs.declared.eval.EvalError.TheVariants.{OutOfMemory};
+
+use crate::counted::Counted;
+use crate::evaluation::answer;
+use crate::status::Status;
+use std::alloc::{AllocError, Global};
+use std::io::Write;
+use thiserror::Error;
+
+/// Why an expression's answer is not told.
+#[derive(Clone, Copy, Debug, PartialEq, Eq, Error)]
+pub enum EvalError {
+    #[error("the answer could not be written")]
+    Write,
+    #[error("out of memory")]
+    OutOfMemory,
+}
+
+impl From<AllocError> for EvalError {
+    ghost from_gives = { λ _ e. e ≡ OutOfMemory };
+
+    fn from(_error: AllocError) -> EvalError {
+        EvalError::OutOfMemory
+    }
+}
+
+/// Writes the line that `eval` prints for an expression, and tells how the program then ends.
+pub fn eval_to<W: Write>(
+    alloc: Global,
+    text: &str,
+    out: &mut Counted<W>,
+) -> Result<Status, EvalError>
+    requires { failures_of out.old < 2 ^ 64 - 1 }
+    ensures told { IfOk result (Tells text.now (W.contents (inner_of out.old)) (W.contents (inner_of out.new))) }
+    ensures all_written { OnOk result (failures_of out.new ≡ failures_of out.old) }
+    ensures write { IsErrOf result EvalError.Write → failures_of out.new ≡ failures_of out.old + 1 }
+    ensures memory { IsErrOf result EvalError.OutOfMemory → out.new ≡ out.old }
+{
+    let answer = answer(alloc, text)?;
+    let line = answer.line(alloc)?;
+    out.write_all(line.as_bytes())
+        .map_err(|_| EvalError::Write)?;
+    out.flush().map_err(|_| EvalError::Write)?;
+    Ok(answer.status())
+}

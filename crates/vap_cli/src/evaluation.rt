@@ -1,0 +1,97 @@
+//! From the text of an expression to what it comes to.
+
+ghost use Rattle.std.specs.Prelude.{◌≡◌, ℕ, List, Err, IfOk, IsErrOf};
+ghost use Rattle.cel_parse.specs.declared.fault.ParseFault.{ParseFault};
+ghost use Rattle.cel_parse.specs.Parsing.{IsRefused};
+ghost use Rattle.cel_code.specs.declared.cel_check.fault.TypeFault.{TypeFault};
+ghost use Rattle.cel_code.specs.Outcomes.{Outcome};
+ghost use Rattle.vap_cli.specs.declared.evaluation.EvaluationError.TheVariants.{OutOfMemory, Refused};
+ghost use Rattle.vap_cli.specs.declared.answer.Refusal.{Refusal};
+ghost use Rattle.vap_cli.specs.Evaluation.{ComesTo, IsAnswer, IsChecked, IsRefusedFor, from_checking, from_parsing, from_running};
+
+use crate::answer::{Answer, Refusal};
+use cel_code::cel_check::{CheckError, Scope, check};
+use cel_code::compile;
+use cel_machine::{RunError, run};
+use cel_parse::{ParseError, one_expression, parse};
+use cel_value::{CelError, Value};
+use std::alloc::{AllocError, Global};
+
+/// Why an expression has no outcome.
+#[derive(Debug, Drop)]
+enum EvaluationError {
+    OutOfMemory,
+    Refused(Refusal),
+}
+
+impl From<AllocError> for EvaluationError {
+    ghost from_gives = { λ _ e. e ≡ OutOfMemory };
+
+    fn from(_error: AllocError) -> EvaluationError {
+        EvaluationError::OutOfMemory
+    }
+}
+
+impl From<ParseError> for EvaluationError {
+    ghost from_gives = { λ error e. e ≡ from_parsing error };
+
+    fn from(error: ParseError) -> EvaluationError {
+        match error {
+            ParseError::OutOfMemory => EvaluationError::OutOfMemory,
+            ParseError::Fault(fault) => EvaluationError::Refused(Refusal::Parse(fault)),
+        }
+    }
+}
+
+impl From<CheckError> for EvaluationError {
+    ghost from_gives = { λ error e. e ≡ from_checking error };
+
+    fn from(error: CheckError) -> EvaluationError {
+        match error {
+            CheckError::OutOfMemory => EvaluationError::OutOfMemory,
+            CheckError::Fault(fault) => EvaluationError::Refused(Refusal::Type(fault)),
+        }
+    }
+}
+
+impl From<RunError> for EvaluationError {
+    ghost from_gives = { λ error e. e ≡ from_running error };
+
+    fn from(error: RunError) -> EvaluationError {
+        match error {
+            RunError::OutOfMemory => EvaluationError::OutOfMemory,
+            RunError::Stuck { at } => EvaluationError::Refused(Refusal::Stuck { at }),
+        }
+    }
+}
+
+/// A text comes to one value or error at most, and then it is refused for none of its parts.
+pub fn one_outcome()
+    ensures outcomes { (text : List ℕ) (x y : Outcome) → ComesTo text x → ComesTo text y → x ≡ y }
+    ensures parsed { (text : List ℕ) (x : Outcome) (f : ParseFault) → ComesTo text x → IsRefused text f → ⊥ }
+    ensures typed { (text : List ℕ) (x : Outcome) (f : TypeFault) → ComesTo text x → IsChecked text (Err f) → ⊥ }
+{
+    one_expression();
+}
+
+/// What an expression comes to, where no name is in scope.
+pub fn answer(alloc: Global, text: &str) -> Result<Answer, AllocError>
+    ensures { IfOk result (IsAnswer text.now) }
+{
+    match outcome(alloc, text) {
+        Ok(Ok(value)) => Ok(Answer::Value(value)),
+        Ok(Err(error)) => Ok(Answer::Error(error)),
+        Err(EvaluationError::Refused(refusal)) => Ok(Answer::Refused(refusal)),
+        Err(EvaluationError::OutOfMemory) => Err(AllocError),
+    }
+}
+
+fn outcome(alloc: Global, text: &str) -> Result<Result<Value, CelError>, EvaluationError>
+    ensures comes { IfOk result (ComesTo text.now) }
+    ensures refused { (why : Refusal) → IsErrOf result (Refused why) → IsRefusedFor text.now why }
+{
+    let expression = parse(alloc, text)?;
+    let typed = check(alloc, &expression, &Scope::new(alloc))?;
+    let image = compile(alloc, &typed)?;
+    Ok(run(alloc, &image)?.outcome)
+}
