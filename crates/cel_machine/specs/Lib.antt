@@ -1,3 +1,9 @@
+pub mod Accepted
 pub mod Families
 pub mod Follow
-pub mod Refusals
+pub mod Paths
+pub mod Sound
+pub mod StackTypes
+pub mod Walked
+pub mod Typed
+pub mod Labelled

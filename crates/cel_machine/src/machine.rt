@@ -1,19 +1,28 @@
-ghost use Rattle.std.specs.Prelude.{◌≡◌, [], MatchResult};
+ghost use Rattle.std.specs.Prelude.{◌≡◌, ◌≤◌, true, length, IfOk};
+ghost use Rattle.cel_code.specs.Outcomes.{slots_fit};
 ghost use Rattle.cel_code.specs.Machine.{Run as IsRun};
-ghost use Rattle.cel_machine.specs.Refusals.{IsRefusal};
+ghost use Rattle.cel_machine.specs.StackTypes.{Fits};
+ghost use Rattle.cel_machine.specs.Paths.{path_cost};
+ghost use Rattle.cel_machine.specs.Accepted.{budget};
 
-use crate::ended::{Run, RunError};
+use crate::cel_verify::Program;
+use crate::ended::Run;
+use crate::slots::Slots;
 use crate::stack::Stack;
 use crate::step::{Move, step};
-use cel_code::Image;
-use std::alloc::Global;
+use std::alloc::{AllocError, Global};
 
-/// Runs an image. An image without slots is run from its first instruction; it is refused where an instruction can
-/// not be run, or does not go forward.
-pub fn run(alloc: Global, image: &Image) -> Result<Run, RunError>
-    ensures { MatchResult result (λ r. IsRun image.now [] r.outcome r.charged r.steps) (λ e. IsRefusal image.now [] e) }
+/// Runs a program where its slots hold these. The run is the definition's; it ends within as many steps as there are
+/// instructions, for no more than the dearest route and no more than the budget, with an outcome of the image's type.
+pub fn run(alloc: Global, program: &Program, slots: &Slots) -> Result<Run, AllocError>
+    requires { slots_fit program.now.slots slots.now ≡ true }
+    ensures run { IfOk result (λ r. IsRun program.now slots.now r.outcome r.charged r.steps) }
+    ensures fits { IfOk result (λ r. Fits r.outcome program.now.result) }
+    ensures steps { IfOk result (λ r. r.steps ≤ length program.now.code) }
+    ensures charged { IfOk result (λ r. r.charged ≤ path_cost program.now) }
+    ensures within_budget { IfOk result (λ r. r.charged ≤ budget) }
 {
-    let _len = image.code.len();
+    let image = program.image();
     let mut stack = Stack::new(alloc);
     let mut at = 0;
     let mut charged: u64 = 0;
@@ -21,9 +30,6 @@ pub fn run(alloc: Global, image: &Image) -> Result<Run, RunError>
     while let Some(instr) = image.code.get(at) {
         match step(image, *instr, at, &mut stack)? {
             Move::GoesTo(charge, to) => {
-                if to <= at {
-                    return Err(RunError::Stuck { at });
-                }
                 charged += charge;
                 steps += 1;
                 at = to;
@@ -35,8 +41,8 @@ pub fn run(alloc: Global, image: &Image) -> Result<Run, RunError>
                     steps: steps + 1,
                 });
             }
-            Move::IsStuckHere => return Err(RunError::Stuck { at }),
+            Move::IsStuckHere => unreachable!(),
         }
     }
-    Err(RunError::Stuck { at })
+    unreachable!()
 }

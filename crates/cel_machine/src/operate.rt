@@ -1,5 +1,4 @@
-ghost use Rattle.std.specs.Prelude.{◌≡◌, ◌≤◌, Some, IfSome, not, neg_ℤ, ◌+ℤ◌, ◌-ℤ◌, ◌*ℤ◌, int_div, int_rem};
-ghost use Rattle.cel_value.specs.Value.{same as same_values};
+ghost use Rattle.std.specs.Prelude.{◌≡◌, Some, neg_ℤ, ◌+ℤ◌, ◌-ℤ◌, ◌*ℤ◌, int_div, int_rem};
 ghost use Rattle.cel_code.specs.Operators.{row, at_one, at_two, int_or_overflow, divided, less as order_of, lesser_weight as weight_of_lesser, makes};
 ghost use Rattle.cel_machine.specs.Families.{IsArithmetic, IsOrder, equality_of, truth_where};
 
@@ -8,8 +7,7 @@ use cel_value::{CelError, Value, equal, weight};
 
 /// What an operator makes of one operand; nothing where it takes another count or another kind.
 pub fn on_one(op: Operator, x: Result<Value, CelError>) -> Option<Made>
-    ensures exact { result ≡ at_one (row op) (Some x) }
-    ensures cheap { IfSome result (λ m. m.charge ≤ 1) }
+    ensures { result ≡ at_one (row op) (Some x) }
 {
     match (op, x) {
         (Operator::Not, Ok(Value::Bool(b))) => made(Ok(Value::Bool(!b)), 1),
@@ -21,8 +19,7 @@ pub fn on_one(op: Operator, x: Result<Value, CelError>) -> Option<Made>
 
 /// What an operator makes of two operands; nothing where it takes another count or other kinds.
 pub fn on_two(op: Operator, x: Result<Value, CelError>, y: Result<Value, CelError>) -> Option<Made>
-    ensures exact { result ≡ at_two (row op) (Some x) (Some y) }
-    ensures cheap { IfSome result (λ m. m.charge ≤ 1) }
+    ensures { result ≡ at_two (row op) (Some x) (Some y) }
 {
     match op {
         Operator::Not | Operator::Negate => None,
@@ -47,8 +44,7 @@ fn made(outcome: Result<Value, CelError>, charge: u64) -> Option<Made>
 
 fn arithmetic(op: Operator, x: Result<Value, CelError>, y: Result<Value, CelError>) -> Option<Made>
     requires { IsArithmetic op }
-    ensures exact { result ≡ at_two (row op) (Some x) (Some y) }
-    ensures cheap { IfSome result (λ m. m.charge ≤ 1) }
+    ensures { result ≡ at_two (row op) (Some x) (Some y) }
 {
     match (x, y) {
         (Ok(Value::Bool(_)), _) | (_, Ok(Value::Bool(_))) => None,
@@ -125,32 +121,23 @@ fn remainder(m: i64, n: i64) -> Result<Value, CelError>
 }
 
 fn equality(is: bool, x: Result<Value, CelError>, y: Result<Value, CelError>) -> Option<Made>
-    ensures exact { result ≡ at_two (equality_of is) (Some x) (Some y) }
-    ensures cheap { IfSome result (λ m. m.charge ≤ 1) }
+    ensures { result ≡ at_two (equality_of is) (Some x) (Some y) }
 {
     match (x, y) {
         (Err(e), _) | (Ok(_), Err(e)) => made(Err(e), 1),
-        (Ok(v), Ok(w)) => made(Ok(Value::Bool(same(v, w) == is)), lesser_weight(v, w)),
+        (Ok(v), Ok(w)) => made(Ok(Value::Bool(equal(&v, &w) == is)), lesser_weight(v, w)),
     }
 }
 
-fn same(v: Value, w: Value) -> bool
-    ensures { result ≡ same_values v w }
-{
-    equal(&v, &w)
-}
-
 fn lesser_weight(v: Value, w: Value) -> u64
-    ensures exact { result ≡ weight_of_lesser v w }
-    ensures cheap { result ≤ 1 }
+    ensures { result ≡ weight_of_lesser v w }
 {
     weight(&v).min(weight(&w))
 }
 
 fn order(op: Operator, x: Result<Value, CelError>, y: Result<Value, CelError>) -> Option<Made>
     requires { IsOrder op }
-    ensures exact { result ≡ at_two (row op) (Some x) (Some y) }
-    ensures cheap { IfSome result (λ m. m.charge ≤ 1) }
+    ensures { result ≡ at_two (row op) (Some x) (Some y) }
 {
     match (x, y) {
         (Err(e), _) | (Ok(_), Err(e)) => made(Err(e), 1),

@@ -1,8 +1,8 @@
-ghost use Rattle.std.specs.Prelude.{◌≡◌, ◌+◌, ◌<◌, ◌^◌, ◌≤◌, List, IfOk, IfSome, Some, is_none, slice_get};
+ghost use Rattle.std.specs.Prelude.{◌≡◌, ◌+◌, ◌<◌, ◌^◌, List, IfOk, Some, is_none, slice_get};
 ghost use Rattle.cel_code.specs.Outcomes.{Outcome, Side};
 ghost use Rattle.cel_code.specs.Wants.{side_of};
 ghost use Rattle.cel_code.specs.Machine.{Frame, act, inputs_of, push, constant as constant_of, operate_by, made as made_next, join as sides_joined};
-ghost use Rattle.cel_machine.specs.Follow.{IsCheap, next_of, test_of, join_of, sides_of, branch_of};
+ghost use Rattle.cel_machine.specs.Follow.{next_of, test_of, join_of, sides_of, branch_of};
 
 use crate::operate::{on_one, on_two};
 use crate::stack::Stack;
@@ -23,8 +23,7 @@ pub enum Move {
 /// One instruction.
 pub fn step(image: &Image, instr: Instr, at: usize, stack: &mut Stack) -> Result<Move, AllocError>
     requires { at + 1 < 2 ^ 64 }
-    ensures exact { IfOk result (λ m. (slots : List Outcome) (frames : List Frame) → act (inputs_of image.now slots) instr at stack.old frames ≡ next_of m stack.new frames) }
-    ensures cheap { IfOk result IsCheap }
+    ensures { IfOk result (λ m. (slots : List Outcome) (frames : List Frame) → act (inputs_of image.now slots) instr at stack.old frames ≡ next_of m stack.new frames) }
 {
     match instr {
         Instr::Const(number) => constant(image, number, at, stack),
@@ -47,8 +46,7 @@ pub fn step(image: &Image, instr: Instr, at: usize, stack: &mut Stack) -> Result
 
 fn constant(image: &Image, number: usize, at: usize, stack: &mut Stack) -> Result<Move, AllocError>
     requires { at + 1 < 2 ^ 64 }
-    ensures exact { IfOk result (λ m. (frames : List Frame) → push (constant_of (slice_get image.now.constants number)) at stack.old frames ≡ next_of m stack.new frames) }
-    ensures cheap { IfOk result IsCheap }
+    ensures { IfOk result (λ m. (frames : List Frame) → push (constant_of (slice_get image.now.constants number)) at stack.old frames ≡ next_of m stack.new frames) }
 {
     let Some(value) = image.constants.get(number) else {
         return Ok(Move::IsStuckHere);
@@ -59,8 +57,7 @@ fn constant(image: &Image, number: usize, at: usize, stack: &mut Stack) -> Resul
 
 fn operate(op: Operator, at: usize, stack: &mut Stack) -> Result<Move, AllocError>
     requires { at + 1 < 2 ^ 64 }
-    ensures exact { IfOk result (λ m. (frames : List Frame) → operate_by (Some op) at stack.old frames ≡ next_of m stack.new frames) }
-    ensures cheap { IfOk result IsCheap }
+    ensures { IfOk result (λ m. (frames : List Frame) → operate_by (Some op) at stack.old frames ≡ next_of m stack.new frames) }
 {
     let Some(y) = stack.pop() else {
         return Ok(Move::IsStuckHere);
@@ -75,10 +72,8 @@ fn operate(op: Operator, at: usize, stack: &mut Stack) -> Result<Move, AllocErro
 }
 
 fn finish(made: Option<Made>, at: usize, stack: &mut Stack) -> Result<Move, AllocError>
-    requires room { at + 1 < 2 ^ 64 }
-    requires cheap { IfSome made (λ m. m.charge ≤ 1) }
-    ensures exact { IfOk result (λ m. (frames : List Frame) → made_next made at stack.old frames ≡ next_of m stack.new frames) }
-    ensures cheap { IfOk result IsCheap }
+    requires { at + 1 < 2 ^ 64 }
+    ensures { IfOk result (λ m. (frames : List Frame) → made_next made at stack.old frames ≡ next_of m stack.new frames) }
 {
     let Some(made) = made else {
         return Ok(Move::IsStuckHere);
@@ -90,8 +85,7 @@ fn finish(made: Option<Made>, at: usize, stack: &mut Stack) -> Result<Move, Allo
 // The jump of a test, which is taken where the top is this truth value.
 fn test(stack: &Stack, ends: bool, to: usize, at: usize) -> Move
     requires { at + 1 < 2 ^ 64 }
-    ensures exact { (frames : List Frame) → test_of ends stack.now to at frames ≡ next_of result stack.now frames }
-    ensures cheap { IsCheap result }
+    ensures { (frames : List Frame) → test_of ends stack.now to at frames ≡ next_of result stack.now frames }
 {
     match stack.top() {
         Some(Ok(Value::Bool(b))) if b == ends => Move::GoesTo(1, to),
@@ -103,8 +97,7 @@ fn test(stack: &Stack, ends: bool, to: usize, at: usize) -> Move
 // Both sides of `&&`, where `all` is true, or of `||`.
 fn join(stack: &mut Stack, all: bool, at: usize) -> Result<Move, AllocError>
     requires { at + 1 < 2 ^ 64 }
-    ensures exact { IfOk result (λ m. (frames : List Frame) → join_of all stack.old at frames ≡ next_of m stack.new frames) }
-    ensures cheap { IfOk result IsCheap }
+    ensures { IfOk result (λ m. (frames : List Frame) → join_of all stack.old at frames ≡ next_of m stack.new frames) }
 {
     let Some(y) = stack.pop() else {
         return Ok(Move::IsStuckHere);
@@ -147,8 +140,7 @@ fn branch(
     at: usize,
 ) -> Result<Move, AllocError>
     requires { at + 1 < 2 ^ 64 }
-    ensures exact { IfOk result (λ m. (frames : List Frame) → branch_of if_false if_error stack.old at frames ≡ next_of m stack.new frames) }
-    ensures cheap { IfOk result IsCheap }
+    ensures { IfOk result (λ m. (frames : List Frame) → branch_of if_false if_error stack.old at frames ≡ next_of m stack.new frames) }
 {
     match stack.pop() {
         Some(Ok(Value::Bool(true))) => Ok(Move::GoesTo(1, at + 1)),

@@ -1,5 +1,6 @@
 -- A run of an image that computes an expression ends with the expression's value or error.
-use Rattle.std.proofs.Common.{◌≡◌, ℕ, [], Option, Some, None, IsTrue, refl, ap, ◌∙◌}
+use Rattle.std.proofs.Common.{◌≡◌, ℕ, List, [], Option, Some, None, IsTrue, refl, sym, ap, ◌∙◌, subst}
+use Rattle.std.specs.Prelude.{Ok}
 use Rattle.cel_value.specs.declared.cel_type.CelType.{CelType}
 use Rattle.cel_code.specs.declared.cel_check.tree.TypedTree.{TypedTree}
 use Rattle.cel_code.specs.declared.image.Image.{Image}
@@ -8,6 +9,14 @@ use Rattle.cel_code.specs.Meaning.{value_of, type_of}
 use Rattle.cel_code.specs.Outcomes.{Outcome, outcome_fits, outside}
 use Rattle.cel_code.specs.Machine.{Run}
 use Rattle.cel_code.proofs.OneRun.{one_run}
+use Rattle.cel_machine.specs.Accepted.{IsRefused}
+use Rattle.cel_machine.specs.declared.cel_verify.fault.VerifyError.{VerifyError}
+use Rattle.cel_machine.specs.declared.cel_verify.fault.VerifyError.TheVariants as verifying
+use Rattle.vap_cli.specs.declared.answer.Refusal.{Refusal}
+use Rattle.vap_cli.specs.declared.answer.Refusal.TheVariants as refusal
+use Rattle.vap_cli.specs.declared.evaluation.EvaluationError.{EvaluationError}
+use Rattle.vap_cli.specs.declared.evaluation.EvaluationError.TheVariants.{Refused}
+use Rattle.vap_cli.specs.Evaluation.{IsChecked, IsNotRunFor, IsRefusedFor, from_verifying}
 
 -- an outcome that fits is there
 is_some : (t : CelType) (o : Option Outcome) → IsTrue (outcome_fits t o) → (x : Outcome) × (o ≡ Some x)
@@ -20,3 +29,22 @@ run_gives image tree x charged steps computes fits run =
     let (y, is) = is_some _ _ fits in
     let (n, ran) = computes [] y is in
     is ∙ ap Some (one_run image [] y x _ _ _ _ ran run).outcome
+
+-- the same of a program of the image, whose slots are none
+pub program_gives : (image program : Image) (slots : List Outcome) (tree : TypedTree) (x : Outcome) (charged steps : ℕ) → Computes image tree → IsTrue (outcome_fits (type_of tree) (value_of tree (outside []))) → program ≡ image → slots ≡ [] → Run program slots x charged steps → value_of tree (outside []) ≡ Some x
+program_gives image program slots tree x charged steps computes fits same none run =
+    let r : Run image [] x charged steps = rw (sym same, sym none) run in
+    run_gives image tree x charged steps computes fits r
+
+-- a refusal of an image that computes an expression
+pub not_run : (tree : TypedTree) (image : Image) (error : VerifyError) (why : Refusal) (e : EvaluationError) → Computes image tree → IsRefused image error → e ≡ from_verifying error → e ≡ Refused why → IsNotRunFor tree why
+not_run tree image verifying.OutOfMemory why e computes refused from is = cc
+not_run tree image (verifying.Fault f) why e computes refused from is =
+    let same : refusal.Unverified f.at ≡ why = cc in
+    subst (IsNotRunFor tree) same (record { image = image; computes = computes; fault = f; faulty = refused.0; here = refl })
+
+-- a text whose expression is not run is refused for that
+pub not_run_text : (text : List ℕ) (tree : TypedTree) (why : Refusal) → IsChecked text (Ok tree) → IsNotRunFor tree why → IsRefusedFor text why
+not_run_text text tree (refusal.Parse fault) typed h = absurd h
+not_run_text text tree (refusal.Type fault) typed h = absurd h
+not_run_text text tree (refusal.Unverified at) typed h = record { tree = tree; typed = typed; faulty = h }

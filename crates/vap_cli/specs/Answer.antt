@@ -48,7 +48,7 @@ parse_fault_text TooDeep = codes "TooDeep"
 abbrev pub refusal_text : Refusal → List ℕ
 refusal_text (refusal.Parse fault) = parse_fault_text fault
 refusal_text (refusal.Type fault) = name_at (type_rule_name fault.rule) fault.place
-refusal_text (refusal.Stuck at) = name_at (codes "Stuck") at
+refusal_text (refusal.Unverified at) = name_at (codes "Unverified") at
 
 -- what tells an answer, without its line feed
 abbrev pub answer_text : Answer → List ℕ

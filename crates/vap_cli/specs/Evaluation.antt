@@ -12,9 +12,10 @@ use Rattle.cel_code.specs.Correct.{Computes}
 use Rattle.cel_code.specs.Meaning.{value_of}
 use Rattle.cel_code.specs.Outcomes.{Outcome, outside}
 use Rattle.cel_code.specs.Typing.{Names, Checked, checked_within}
-use Rattle.cel_machine.specs.declared.ended.RunError.{RunError}
-use Rattle.cel_machine.specs.declared.ended.RunError.TheVariants as running
-use Rattle.cel_machine.specs.Follow.{HasNoRun}
+use Rattle.cel_machine.specs.declared.cel_verify.fault.VerifyFault.{VerifyFault}
+use Rattle.cel_machine.specs.declared.cel_verify.fault.VerifyError.{VerifyError}
+use Rattle.cel_machine.specs.declared.cel_verify.fault.VerifyError.TheVariants as verifying
+use Rattle.cel_machine.specs.Accepted.{IsFault}
 use Rattle.vap_cli.specs.declared.answer.Refusal.{Refusal}
 use Rattle.vap_cli.specs.declared.answer.Refusal.TheVariants as refusal
 use Rattle.vap_cli.specs.declared.answer.Answer.{Answer}
@@ -38,19 +39,31 @@ pub record ComesTo (text : List ℕ) (outcome : Outcome) : Type 0 where
   pub typed : IsChecked text (Ok tree)
   pub value : value_of tree (outside []) ≡ Some outcome
 
--- the text spells an expression that has a type, and of an image that computes it the machine ends no run
-pub record IsStuck (text : List ℕ) (at : ℕ) : Type 0 where
-  pub tree : TypedTree
-  pub typed : IsChecked text (Ok tree)
+-- an image that computes the expression has a fault at this instruction
+pub record IsFaulty (tree : TypedTree) (at : ℕ) : Type 0 where
   pub image : Image
   pub computes : Computes image tree
-  pub stuck : HasNoRun image [] at
+  pub fault : VerifyFault
+  pub faulty : IsFault image fault
+  pub here : fault.at ≡ at
+
+-- the text spells an expression that has a type, and of which an image is faulty
+pub record IsUnverified (text : List ℕ) (at : ℕ) : Type 0 where
+  pub tree : TypedTree
+  pub typed : IsChecked text (Ok tree)
+  pub faulty : IsFaulty tree at
+
+-- why a typed expression comes to nothing
+abbrev pub IsNotRunFor : TypedTree → Refusal → Type 0
+IsNotRunFor tree (refusal.Parse fault) = ⊥
+IsNotRunFor tree (refusal.Type fault) = ⊥
+IsNotRunFor tree (refusal.Unverified at) = IsFaulty tree at
 
 -- why a text comes to nothing
 abbrev pub IsRefusedFor : List ℕ → Refusal → Type 0
 IsRefusedFor text (refusal.Parse fault) = IsRefused text fault
 IsRefusedFor text (refusal.Type fault) = IsChecked text (Err fault)
-IsRefusedFor text (refusal.Stuck at) = IsStuck text at
+IsRefusedFor text (refusal.Unverified at) = IsUnverified text at
 
 -- what a text comes to
 abbrev pub IsAnswer : List ℕ → Answer → Type 0
@@ -68,7 +81,7 @@ abbrev pub from_checking : CheckError → EvaluationError
 from_checking checking.OutOfMemory = OutOfMemory
 from_checking (checking.Fault fault) = Refused (refusal.Type fault)
 
--- what a failure to run is to the whole
-abbrev pub from_running : RunError → EvaluationError
-from_running running.OutOfMemory = OutOfMemory
-from_running (running.Stuck at) = Refused (refusal.Stuck at)
+-- what a failure to verify is to the whole
+abbrev pub from_verifying : VerifyError → EvaluationError
+from_verifying verifying.OutOfMemory = OutOfMemory
+from_verifying (verifying.Fault fault) = Refused (refusal.Unverified fault.at)

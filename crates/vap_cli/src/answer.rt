@@ -16,8 +16,8 @@ use std::fmt;
 pub enum Refusal {
     Parse(ParseFault),
     Type(TypeFault),
-    /// The machine found no step at this instruction.
-    Stuck { at: usize },
+    /// The verifier refuses the compiled image, at this instruction.
+    Unverified { at: usize },
 }
 
 /// What an expression comes to.
@@ -78,7 +78,7 @@ impl fmt::Display for Refusal {
             Refusal::Parse(ParseFault::Lex(fault)) => (lex_fault_name(fault.kind), fault.place),
             Refusal::Parse(ParseFault::Unexpected { place }) => ("Unexpected", *place),
             Refusal::Type(fault) => (type_rule_name(fault.rule), fault.place),
-            Refusal::Stuck { at } => ("Stuck", *at),
+            Refusal::Unverified { at } => ("Unverified", *at),
         };
         write!(f, "{name} at {place}")
     }

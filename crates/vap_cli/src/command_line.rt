@@ -1,5 +1,8 @@
 //! What the words of a command line ask for.
 
+ghost use Rattle.std.specs.Prelude.{◌≡◌};
+ghost use Rattle.vap_cli.specs.declared.command_line.WordsError.TheVariants.{OutOfMemory};
+
 use clap::error::ErrorKind;
 use clap::{Arg, Command};
 use std::alloc::{AllocError, Global};
@@ -14,6 +17,8 @@ pub enum WordsError {
 }
 
 impl From<AllocError> for WordsError {
+    ghost from_gives = { λ _ e. e ≡ OutOfMemory };
+
     fn from(_error: AllocError) -> WordsError {
         WordsError::OutOfMemory
     }

@@ -1,18 +1,20 @@
 //! From the text of an expression to what it comes to.
 
-ghost use Rattle.std.specs.Prelude.{◌≡◌, ℕ, List, Err, IfOk, IsErrOf};
+ghost use Rattle.std.specs.Prelude.{◌≡◌, ℕ, List, [], Some, Err, IfOk, IsErrOf};
 ghost use Rattle.cel_parse.specs.declared.fault.ParseFault.{ParseFault};
 ghost use Rattle.cel_parse.specs.Parsing.{IsRefused};
 ghost use Rattle.cel_code.specs.declared.cel_check.fault.TypeFault.{TypeFault};
-ghost use Rattle.cel_code.specs.Outcomes.{Outcome};
+ghost use Rattle.cel_code.specs.Meaning.{value_of};
+ghost use Rattle.cel_code.specs.Outcomes.{Outcome, outside};
 ghost use Rattle.vap_cli.specs.declared.evaluation.EvaluationError.TheVariants.{OutOfMemory, Refused};
 ghost use Rattle.vap_cli.specs.declared.answer.Refusal.{Refusal};
-ghost use Rattle.vap_cli.specs.Evaluation.{ComesTo, IsAnswer, IsChecked, IsRefusedFor, from_checking, from_parsing, from_running};
+ghost use Rattle.vap_cli.specs.Evaluation.{ComesTo, IsAnswer, IsChecked, IsNotRunFor, IsRefusedFor, from_checking, from_parsing, from_verifying};
 
 use crate::answer::{Answer, Refusal};
-use cel_code::cel_check::{CheckError, Scope, check};
+use cel_code::cel_check::{CheckError, Scope, Typed, check};
 use cel_code::compile;
-use cel_machine::{RunError, run};
+use cel_machine::cel_verify::{VerifyError, verify};
+use cel_machine::{Slots, run};
 use cel_parse::{ParseError, one_expression, parse};
 use cel_value::{CelError, Value};
 use std::alloc::{AllocError, Global};
@@ -54,13 +56,15 @@ impl From<CheckError> for EvaluationError {
     }
 }
 
-impl From<RunError> for EvaluationError {
-    ghost from_gives = { λ error e. e ≡ from_running error };
+impl From<VerifyError> for EvaluationError {
+    ghost from_gives = { λ error e. e ≡ from_verifying error };
 
-    fn from(error: RunError) -> EvaluationError {
+    fn from(error: VerifyError) -> EvaluationError {
         match error {
-            RunError::OutOfMemory => EvaluationError::OutOfMemory,
-            RunError::Stuck { at } => EvaluationError::Refused(Refusal::Stuck { at }),
+            VerifyError::OutOfMemory => EvaluationError::OutOfMemory,
+            VerifyError::Fault(fault) => {
+                EvaluationError::Refused(Refusal::Unverified { at: fault.at })
+            }
         }
     }
 }
@@ -92,6 +96,20 @@ fn outcome(alloc: Global, text: &str) -> Result<Result<Value, CelError>, Evaluat
 {
     let expression = parse(alloc, text)?;
     let typed = check(alloc, &expression, &Scope::new(alloc))?;
-    let image = compile(alloc, &typed)?;
-    Ok(run(alloc, &image)?.outcome)
+    run_typed(alloc, &typed)
+}
+
+/// The value or error of an expression without slots.
+fn run_typed(alloc: Global, typed: &Typed) -> Result<Result<Value, CelError>, EvaluationError>
+    requires { typed.now.slots ≡ [] }
+    ensures comes { IfOk result (λ x. value_of typed.now.tree (outside []) ≡ Some x) }
+    ensures refused { (why : Refusal) → IsErrOf result (Refused why) → IsNotRunFor typed.now.tree why }
+{
+    let image = compile(alloc, typed)?;
+    let program = match verify(alloc, image) {
+        Ok(program) => program,
+        Err((error, _)) => return Err(EvaluationError::from(error)),
+    };
+    let slots = Slots::new(&program, Vec::new(alloc));
+    Ok(run(alloc, &program, &slots)?.outcome)
 }

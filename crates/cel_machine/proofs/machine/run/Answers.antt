@@ -1,20 +1,66 @@
-use Rattle.std.proofs.Common.{◌≤◌, [], sym, ap, ◌∙◌, subst}
-use Rattle.cel_machine.specs.Follow.{next_of, IsCheap}
-use Rattle.cel_machine.proofs.Turns.{begins, stepped, turns, goes_back}
+use Rattle.std.proofs.Common.{◌+◌, [], length, sym, ap, arith}
+use Rattle.cel_machine.specs.Paths.{path_cost}
+use Rattle.cel_machine.proofs.Turns.{starts}
+use Rattle.cel_machine.proofs.Walking.{no_end}
+use Rattle.cel_machine.proofs.Running.{IsAt, here, goes, there, outcome_fits, not_stuck}
 use Rattle.cel_machine.proofs.machine.run.Goals as goal
 
 pub loop-instr-init : goal.loop-instr-init
-loop-instr-init c = begins c.args.image.now [] c.new-stack.result c.new-stack.ensures
+loop-instr-init c = starts c.image-image.result.now c.args.slots.now c.new-stack.result c.new-stack.ensures
+
+pub step-requires : goal.step-requires
+step-requires c =
+    let h : IsAt c.image-image.result.now c.loop-instr.at c.loop-instr.charged c.loop-instr.steps = here c.args.program.now c.image-image.result.now c.args.slots.now c.image-image.ensures.accepted c.image-image.ensures.image c.loop-instr.at c.loop-instr.stack c.loop-instr.charged c.loop-instr.steps c.loop-instr.invariant in
+    omega (arith, h.room)
+
+pub overflow_add-charged : goal.overflow_add-charged
+overflow_add-charged c =
+    let t : IsAt c.image-image.result.now c.in-GoesTo.to (c.loop-instr.charged + c.in-GoesTo.charge) (c.loop-instr.steps + 1) = there c.args.program.now c.image-image.result.now c.args.slots.now c.image-image.ensures.accepted c.image-image.ensures.image c.loop-instr.at c.loop-instr.stack c.loop-instr.charged c.loop-instr.steps c.loop-instr.invariant c.in-Some.instr.now c.in_ok-charge.field-0 c.step.new.stack (sym c.in-Some.ensures.value) (c.in_ok-charge.ensures c.args.slots.now []) c.in-GoesTo.charge c.in-GoesTo.to c.in-GoesTo.is in
+    omega (arith, t.cheap)
+
+pub overflow_add-steps : goal.overflow_add-steps
+overflow_add-steps c =
+    let h : IsAt c.image-image.result.now c.loop-instr.at c.loop-instr.charged c.loop-instr.steps = here c.args.program.now c.image-image.result.now c.args.slots.now c.image-image.ensures.accepted c.image-image.ensures.image c.loop-instr.at c.loop-instr.stack c.loop-instr.charged c.loop-instr.steps c.loop-instr.invariant in
+    omega (arith, h.few)
+
+pub loop-instr-smaller : goal.loop-instr-smaller
+loop-instr-smaller c =
+    let h : IsAt c.image-image.result.now c.loop-instr.at c.loop-instr.charged c.loop-instr.steps = here c.args.program.now c.image-image.result.now c.args.slots.now c.image-image.ensures.accepted c.image-image.ensures.image c.loop-instr.at c.loop-instr.stack c.loop-instr.charged c.loop-instr.steps c.loop-instr.invariant in
+    omega (arith, h.within)
 
 pub loop-instr-preserved : goal.loop-instr-preserved
 loop-instr-preserved c =
-    let cheap : c.in-GoesTo.charge ≤ 1 = subst IsCheap c.in-GoesTo.is c.in_ok-charge.ensures.cheap in
-    turns c.args.image.now [] c.loop-instr.at c.in-GoesTo.to c.loop-instr.stack c.step.new.stack c.in-GoesTo.charge c.loop-instr.charged c.loop-instr.steps
-    (stepped c.args.image.now [] c.loop-instr.at c.in-Some.instr.now c.loop-instr.stack c.step.new.stack _ (sym c.in-Some.ensures.value) (c.in_ok-charge.ensures.exact [] []) ∙ ap (λ m. next_of m c.step.new.stack []) c.in-GoesTo.is)
-    c.if-to-at.false cheap c.loop-instr.invariant
+    goes c.args.program.now c.image-image.result.now c.args.slots.now c.image-image.ensures.accepted c.image-image.ensures.image c.loop-instr.at c.loop-instr.stack c.loop-instr.charged c.loop-instr.steps c.loop-instr.invariant c.in-Some.instr.now c.in_ok-charge.field-0 c.step.new.stack (sym c.in-Some.ensures.value) (c.in_ok-charge.ensures c.args.slots.now []) c.in-GoesTo.charge c.in-GoesTo.to c.in-GoesTo.is
 
-pub returns-then-to-at : goal.returns-then-to-at
-returns-then-to-at c =
-    goes_back c.args.image.now [] c.loop-instr.at c.in-GoesTo.to c.loop-instr.stack c.step.new.stack c.in-GoesTo.charge c.loop-instr.charged c.loop-instr.steps
-    (stepped c.args.image.now [] c.loop-instr.at c.in-Some.instr.now c.loop-instr.stack c.step.new.stack _ (sym c.in-Some.ensures.value) (c.in_ok-charge.ensures.exact [] []) ∙ ap (λ m. next_of m c.step.new.stack []) c.in-GoesTo.is)
-    c.if-to-at.true c.loop-instr.invariant
+pub overflow_add-result : goal.overflow_add-result
+overflow_add-result c =
+    let h : IsAt c.image-image.result.now c.loop-instr.at c.loop-instr.charged c.loop-instr.steps = here c.args.program.now c.image-image.result.now c.args.slots.now c.image-image.ensures.accepted c.image-image.ensures.image c.loop-instr.at c.loop-instr.stack c.loop-instr.charged c.loop-instr.steps c.loop-instr.invariant in
+    omega (arith, h.few)
+
+pub returns-in-EndsWith-clause-fits : goal.returns-in-EndsWith-clause-fits
+returns-in-EndsWith-clause-fits c =
+    outcome_fits c.args.program.now c.image-image.result.now c.args.slots.now c.image-image.ensures.accepted c.image-image.ensures.image c.loop-instr.at c.loop-instr.stack c.loop-instr.charged c.loop-instr.steps c.loop-instr.invariant c.in-Some.instr.now c.in_ok-charge.field-0 c.step.new.stack (sym c.in-Some.ensures.value) (c.in_ok-charge.ensures c.args.slots.now []) c.in-EndsWith.outcome c.in-EndsWith.is
+
+pub returns-in-EndsWith-clause-steps : goal.returns-in-EndsWith-clause-steps
+returns-in-EndsWith-clause-steps c =
+    let h : IsAt c.image-image.result.now c.loop-instr.at c.loop-instr.charged c.loop-instr.steps = here c.args.program.now c.image-image.result.now c.args.slots.now c.image-image.ensures.accepted c.image-image.ensures.image c.loop-instr.at c.loop-instr.stack c.loop-instr.charged c.loop-instr.steps c.loop-instr.invariant in
+    omega (arith, h.counted, ap (λ p. length p.code) c.image-image.ensures.image)
+
+pub returns-in-EndsWith-clause-charged : goal.returns-in-EndsWith-clause-charged
+returns-in-EndsWith-clause-charged c =
+    let h : IsAt c.image-image.result.now c.loop-instr.at c.loop-instr.charged c.loop-instr.steps = here c.args.program.now c.image-image.result.now c.args.slots.now c.image-image.ensures.accepted c.image-image.ensures.image c.loop-instr.at c.loop-instr.stack c.loop-instr.charged c.loop-instr.steps c.loop-instr.invariant in
+    omega (arith, h.cost, ap path_cost c.image-image.ensures.image)
+
+pub returns-in-EndsWith-clause-within_budget : goal.returns-in-EndsWith-clause-within_budget
+returns-in-EndsWith-clause-within_budget c =
+    let h : IsAt c.image-image.result.now c.loop-instr.at c.loop-instr.charged c.loop-instr.steps = here c.args.program.now c.image-image.result.now c.args.slots.now c.image-image.ensures.accepted c.image-image.ensures.image c.loop-instr.at c.loop-instr.stack c.loop-instr.charged c.loop-instr.steps c.loop-instr.invariant in
+    omega (arith, h.cheap)
+
+pub unreachable-requires : goal.unreachable-requires
+unreachable-requires c =
+    not_stuck c.args.program.now c.image-image.result.now c.args.slots.now c.image-image.ensures.accepted c.image-image.ensures.image c.loop-instr.at c.loop-instr.stack c.loop-instr.charged c.loop-instr.steps c.loop-instr.invariant c.in-Some.instr.now c.in_ok-charge.field-0 c.step.new.stack (sym c.in-Some.ensures.value) (c.in_ok-charge.ensures c.args.slots.now []) c.in-IsStuckHere.is
+
+pub unreachable-requires-2 : goal.unreachable-requires-2
+unreachable-requires-2 c =
+    let h : IsAt c.image-image.result.now c.loop-instr.at c.loop-instr.charged c.loop-instr.steps = here c.args.program.now c.image-image.result.now c.args.slots.now c.image-image.ensures.accepted c.image-image.ensures.image c.loop-instr.at c.loop-instr.stack c.loop-instr.charged c.loop-instr.steps c.loop-instr.invariant in
+    no_end c.image-image.result.now.code c.loop-instr.at h.inside (sym c.in_default.ensures.value)

@@ -1,9 +1,10 @@
-use Rattle.std.proofs.Common.{◌-◌, [], length}
-use Rattle.cel_machine.specs.Follow.{IsAt}
+use Rattle.std.proofs.Common.{◌-◌, []}
+use Rattle.cel_code.specs.Machine.{Gets, on}
+use Rattle.cel_machine.specs.Paths.{path_steps}
 use Rattle.cel_machine.proofs.machine.run.Given as goal
 
 abbrev pub invariant-loop-instr : goal.invariant-loop-instr
-invariant-loop-instr l = IsAt l.image [] l.at l.stack l.charged l.steps
+invariant-loop-instr l = Gets l.image l.slots (on 0 [] []) (on l.at l.stack []) l.charged l.steps
 
 abbrev pub decreases-loop-instr : goal.decreases-loop-instr
-decreases-loop-instr l = length l.image.code - l.at
+decreases-loop-instr l = path_steps l.image - l.steps

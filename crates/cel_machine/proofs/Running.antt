@@ -1,0 +1,75 @@
+-- The run of an accepted image.
+use Rattle.std.proofs.Common.{◌≡◌, ℕ, ◌+◌, ◌<◌, ◌≤◌, List, [], length, Some, refl, sym, ap, ◌∙◌, subst, arith}
+use Rattle.std.specs.Prelude.{slice_get}
+use Rattle.cel_code.specs.declared.instr.Instr.{Instr}
+use Rattle.cel_code.specs.declared.image.Image.{Image}
+use Rattle.cel_code.specs.Outcomes.{Outcome}
+use Rattle.cel_code.specs.Machine.{State, on, Ends, Stuck, act, step, inputs_of, Gets, Run}
+use Rattle.cel_machine.specs.declared.step.Move.{Move}
+use Rattle.cel_machine.specs.declared.step.Move.TheVariants.{GoesTo, EndsWith, IsStuckHere}
+use Rattle.cel_machine.specs.StackTypes.{Fits}
+use Rattle.cel_machine.specs.Paths.{path_cost, path_steps}
+use Rattle.cel_machine.specs.Accepted.{IsAccepted, budget, max_count}
+use Rattle.cel_machine.specs.Follow.{next_of}
+use Rattle.cel_machine.proofs.Steps.{begins, gets_typed, one_left, runs_within}
+use Rattle.cel_machine.proofs.Turns.{one_more, stepped}
+
+-- where the run is
+pub record IsAt (image : Image) (at charged steps : ℕ) : Type 0 where
+  pub inside : at < length image.code
+  pub room : at + 1 < 65537
+  pub within : steps + 1 ≤ path_steps image
+  pub counted : steps + 1 ≤ length image.code
+  pub few : steps + 1 ≤ max_count
+  pub cost : charged ≤ path_cost image
+  pub cheap : charged ≤ budget
+
+module _ (p image : Image) (slots : List Outcome) (accepted : IsAccepted p) (is : image ≡ p) where
+  state_at : (s : State) (charged steps : ℕ) → Gets p slots (on 0 [] []) s charged steps → IsAt p s.at charged steps
+  state_at s charged steps g =
+      let r = gets_typed p slots accepted.sound (on 0 [] []) s charged steps g (begins p slots accepted.sound) in
+      let w = runs_within p slots accepted.sound in
+      let a = r.2 in
+      let b = one_left p slots accepted.sound s r.0 in
+      record {
+        inside = r.0.inside;
+        room = omega (arith, r.0.inside, accepted.counted.code);
+        within = omega arith;
+        counted = w.steps s charged steps g;
+        few = omega (arith, w.steps s charged steps g, accepted.counted.code);
+        cost = w.charge s charged steps g;
+        cheap = omega (arith, w.charge s charged steps g, accepted.cheap);
+      }
+
+  module _ (at : ℕ) (stack : List Outcome) (charged steps : ℕ) (g : Gets image slots (on 0 [] []) (on at stack []) charged steps) where
+    gets : Gets p slots (on 0 [] []) (on at stack []) charged steps
+    gets = subst (λ i. Gets i slots (on 0 [] []) (on at stack []) charged steps) is g
+
+    pub here : IsAt image at charged steps
+    here = subst (λ i. IsAt i at charged steps) (sym is) (state_at (on at stack []) charged steps gets)
+
+    module _ (i : Instr) (m : Move) (stack' : List Outcome) (hi : slice_get image.code at ≡ Some i) (e : act (inputs_of image slots) i at stack [] ≡ next_of m stack' []) where
+      steps_to : step image slots (on at stack []) ≡ next_of m stack' []
+      steps_to = stepped image slots at i stack stack' m hi e
+
+      pub goes : (charge to : ℕ) → m ≡ GoesTo charge to → Gets image slots (on 0 [] []) (on to stack' []) (charged + charge) (steps + 1)
+      goes charge to q = one_more image slots (on at stack []) (on to stack' []) charge charged steps (steps_to ∙ ap (λ n. next_of n stack' []) q) g
+
+      pub there : (charge to : ℕ) → m ≡ GoesTo charge to → IsAt image to (charged + charge) (steps + 1)
+      there charge to q =
+          let h = subst (λ i. Gets i slots (on 0 [] []) (on to stack' []) (charged + charge) (steps + 1)) is (goes charge to q) in
+          subst (λ i. IsAt i to (charged + charge) (steps + 1)) (sym is) (state_at (on to stack' []) (charged + charge) (steps + 1) h)
+
+      pub finishes : (x : Outcome) → m ≡ EndsWith x → Run p slots x charged (steps + 1)
+      finishes x q =
+          subst (λ i. Run i slots x charged (steps + 1)) is (record { last = on at stack []; before = steps; gets = g; ends = steps_to ∙ ap (λ n. next_of n stack' []) q; count = refl })
+
+      pub outcome_fits : (x : Outcome) → m ≡ EndsWith x → Fits x p.result
+      outcome_fits x q =
+          let w = runs_within p slots accepted.sound in
+          w.outcome (on at stack []) charged steps x gets (subst (λ i. step i slots (on at stack []) ≡ Ends x) is (steps_to ∙ ap (λ n. next_of n stack' []) q))
+
+      pub not_stuck : m ≡ IsStuckHere → ⊥
+      not_stuck q =
+          let w = runs_within p slots accepted.sound in
+          w.never (on at stack []) charged steps gets (subst (λ i. step i slots (on at stack []) ≡ Stuck) is (steps_to ∙ ap (λ n. next_of n stack' []) q))
