@@ -1,7 +1,7 @@
 -- The answer of a reader of all tokens is the definition's.
 use Rattle.std.proofs.Common.{sym, ◌≡◌, ℕ, ◌≤◌, List, [], ◌∷◌, ◌++◌, Result, Ok, Err, refl, ap, subst, ◌∙◌, arith}
 use Rattle.std.specs.Prelude.{IfOk, IsErrOf, max}
-use Rattle.cel_parse.specs.declared.cel_lex.token.Token.{Token}
+use Rattle.cel_lex.specs.declared.token.Token.{Token}
 use Rattle.cel_parse.specs.declared.fault.ParseFault.{ParseFault}
 use Rattle.cel_parse.specs.declared.fault.ParseFault.TheVariants.{Unexpected, TooDeep}
 use Rattle.cel_parse.specs.declared.fault.ParseError.{ParseError}

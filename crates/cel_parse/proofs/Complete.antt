@@ -3,11 +3,11 @@ use Rattle.std.proofs.Common.{◌≡◌, ℕ, zero, suc, ◌+◌, ◌-◌, ◌<�
 use Rattle.std.specs.Prelude.{nat_lt, max}
 use Rattle.std.proofs.lemmas.Bool.{eq-eqb, ltb-false}
 use Rattle.std.proofs.lemmas.Bool.Decides.{eqb_tells}
-use Rattle.cel_parse.specs.declared.cel_lex.token.Infix.{Infix}
-use Rattle.cel_parse.specs.declared.cel_lex.token.Infix.TheVariants as op
-use Rattle.cel_parse.specs.declared.cel_lex.token.TokenKind.{TokenKind}
-use Rattle.cel_parse.specs.declared.cel_lex.token.TokenKind.TheVariants as kind
-use Rattle.cel_parse.specs.declared.cel_lex.token.Token.{Token}
+use Rattle.cel_lex.specs.declared.token.Infix.{Infix}
+use Rattle.cel_lex.specs.declared.token.Infix.TheVariants as op
+use Rattle.cel_lex.specs.declared.token.TokenKind.{TokenKind}
+use Rattle.cel_lex.specs.declared.token.TokenKind.TheVariants as kind
+use Rattle.cel_lex.specs.declared.token.Token.{Token}
 use Rattle.cel_parse.specs.declared.expr.UnaryOperator.{UnaryOperator}
 use Rattle.cel_parse.specs.declared.expr.UnaryOperator.TheVariants.{Not, Negate}
 use Rattle.cel_parse.specs.declared.fault.ParseFault.{ParseFault}

@@ -1,7 +1,7 @@
 -- How deep each node is.
 use Rattle.std.proofs.Common.{◌≡◌, ℕ, ◌+◌, ◌<◌, Bool, sym, ap, subst, ◌∙◌, arith}
 use Rattle.std.specs.Prelude.{max}
-use Rattle.cel_parse.specs.declared.cel_lex.token.Infix.{Infix}
+use Rattle.cel_lex.specs.declared.token.Infix.{Infix}
 use Rattle.cel_parse.specs.declared.expr.UnaryOperator.{UnaryOperator}
 use Rattle.cel_parse.specs.declared.tree.Tree.{Tree, Number as number, Truth as truth, Unary as unary, Binary as binary, Conditional as conditional}
 use Rattle.cel_parse.specs.declared.tree.Tree.TheOpen.{Tree-F}

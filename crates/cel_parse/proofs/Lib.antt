@@ -1,7 +1,3 @@
-pub mod PieceNext
-pub mod Cutting
-pub mod Digits
-pub mod Turn
 pub mod Loop
 pub mod Depths
 pub mod Steps

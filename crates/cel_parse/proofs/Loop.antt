@@ -1,7 +1,7 @@
 -- One turn of the loop over the operators of a level.
 use Rattle.std.proofs.Common.{◌≡◌, ℕ, suc, ◌+◌, ◌-◌, ◌<◌, ◌≤◌, List, Option, Some, None, Ok, Err, sym, ap, ◌∙◌, arith}
-use Rattle.cel_parse.specs.declared.cel_lex.token.Infix.{Infix}
-use Rattle.cel_parse.specs.declared.cel_lex.token.Token.{Token}
+use Rattle.cel_lex.specs.declared.token.Infix.{Infix}
+use Rattle.cel_lex.specs.declared.token.Token.{Token}
 use Rattle.cel_parse.specs.declared.fault.ParseFault.TheVariants.{TooDeep}
 use Rattle.cel_parse.specs.declared.fault.ParseError.{ParseError}
 use Rattle.cel_parse.specs.declared.fault.ParseError.TheVariants as errors

@@ -1,15 +1,15 @@
 -- A text spells one expression, or is refused.
 use Rattle.std.proofs.Common.{◌≡◌, ℕ, List, [], length, refl, sym, ap, subst}
-use Rattle.cel_parse.specs.declared.cel_lex.token.Token.{Token}
-use Rattle.cel_parse.specs.declared.cel_lex.fault.LexFault.{LexFault}
+use Rattle.cel_lex.specs.declared.token.Token.{Token}
+use Rattle.cel_lex.specs.declared.fault.LexFault.{LexFault}
 use Rattle.cel_parse.specs.declared.expr.Expr.{Expr}
 use Rattle.cel_parse.specs.declared.fault.ParseFault.{ParseFault}
 use Rattle.cel_parse.specs.declared.fault.ParseFault.TheVariants.{Lex, Unexpected}
 use Rattle.cel_parse.specs.declared.tree.Tree.{Tree}
-use Rattle.cel_parse.specs.Lexis.{IsCut}
+use Rattle.cel_lex.specs.Lexis.{IsCut}
 use Rattle.cel_parse.specs.Expansion.{expanded}
 use Rattle.cel_parse.specs.Parsing.{IsTree, IsUnexpected, HasNoTree, unexpected, too_deep, IsParsed, IsRefused, no_cut, no_tree, no_expression}
-use Rattle.cel_parse.proofs.Cutting.{one_cut, one_refusal, no_refusal}
+use Rattle.cel_lex.proofs.Cutting.{one_cut, one_refusal, no_refusal}
 use Rattle.cel_parse.specs.Grammar.{Derives, Expression}
 use Rattle.cel_parse.proofs.Stages.{agrees_self}
 use Rattle.cel_parse.proofs.Ranges.{expanded_lexical}

@@ -1,6 +1,6 @@
 -- A text has one first token with which no text of the grammar goes on.
 use Rattle.std.proofs.Common.{◌≡◌, ℕ, List, [], ◌∷◌, ◌++◌, refl, sym, ap, subst, ◌∙◌, append_assoc}
-use Rattle.cel_parse.specs.declared.cel_lex.token.Token.{Token}
+use Rattle.cel_lex.specs.declared.token.Token.{Token}
 use Rattle.cel_parse.specs.Grammar.{Derives, Expression, place_at}
 use Rattle.cel_parse.specs.Parsing.{Agrees, same_first, IsUnexpected}
 

@@ -1,6 +1,6 @@
 -- The only fault of a finished tree is a number out of range.
 use Rattle.std.proofs.Common.{◌≡◌, Bool, true, false, cond, Result, Ok, Err, refl, sym, ap, subst, ◌∙◌}
-use Rattle.cel_parse.specs.declared.cel_lex.fault.LexFault.{LexFault}
+use Rattle.cel_lex.specs.declared.fault.LexFault.{LexFault}
 use Rattle.cel_parse.specs.declared.expr.Expr.{Expr}
 use Rattle.cel_parse.specs.declared.fault.ParseFault.{ParseFault}
 use Rattle.cel_parse.specs.declared.fault.ParseFault.TheVariants.{Lex}

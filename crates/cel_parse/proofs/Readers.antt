@@ -1,11 +1,11 @@
 -- What is read is in the grammar and within the limits, and what is too deep exceeds them.
 use Rattle.std.proofs.Common.{◌≡◌, ℕ, true, zero, suc, ◌+◌, ◌-◌, ◌≤◌, List, [], ◌∷◌, Some, None, Ok, Err, refl, sym, ap, ◌∙◌, inl, inr, arith}
 use Rattle.std.specs.Prelude.{max, ◌⊎◌}
-use Rattle.cel_parse.specs.declared.cel_lex.token.Infix.{Infix}
-use Rattle.cel_parse.specs.declared.cel_lex.token.Infix.TheVariants as op
-use Rattle.cel_parse.specs.declared.cel_lex.token.TokenKind.{TokenKind}
-use Rattle.cel_parse.specs.declared.cel_lex.token.TokenKind.TheVariants as kind
-use Rattle.cel_parse.specs.declared.cel_lex.token.Token.{Token}
+use Rattle.cel_lex.specs.declared.token.Infix.{Infix}
+use Rattle.cel_lex.specs.declared.token.Infix.TheVariants as op
+use Rattle.cel_lex.specs.declared.token.TokenKind.{TokenKind}
+use Rattle.cel_lex.specs.declared.token.TokenKind.TheVariants as kind
+use Rattle.cel_lex.specs.declared.token.Token.{Token}
 use Rattle.cel_parse.specs.declared.expr.UnaryOperator.{UnaryOperator}
 use Rattle.cel_parse.specs.declared.expr.UnaryOperator.TheVariants.{Not, Negate}
 use Rattle.cel_parse.specs.declared.fault.ParseFault.TheVariants.{Unexpected}

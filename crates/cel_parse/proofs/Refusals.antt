@@ -1,16 +1,16 @@
 -- Why a text is refused, by the step that refuses it.
 use Rattle.std.proofs.Common.{◌≡◌, ℕ, List, length, Result, Ok, Err, ap, subst, ◌∙◌}
 use Rattle.std.specs.Prelude.{IsErrOf}
-use Rattle.cel_parse.specs.declared.cel_lex.token.Token.{Token}
-use Rattle.cel_parse.specs.declared.cel_lex.fault.LexFault.{LexFault}
-use Rattle.cel_parse.specs.declared.cel_lex.fault.LexError.{LexError}
-use Rattle.cel_parse.specs.declared.cel_lex.fault.LexError.TheVariants as lexing
+use Rattle.cel_lex.specs.declared.token.Token.{Token}
+use Rattle.cel_lex.specs.declared.fault.LexFault.{LexFault}
+use Rattle.cel_lex.specs.declared.fault.LexError.{LexError}
+use Rattle.cel_lex.specs.declared.fault.LexError.TheVariants as lexing
 use Rattle.cel_parse.specs.declared.expr.Expr.{Expr}
 use Rattle.cel_parse.specs.declared.fault.ParseFault.{ParseFault}
 use Rattle.cel_parse.specs.declared.fault.ParseError.{ParseError}
 use Rattle.cel_parse.specs.declared.fault.ParseError.TheVariants as errors
 use Rattle.cel_parse.specs.declared.tree.Tree.{Tree}
-use Rattle.cel_parse.specs.Lexis.{IsCut, Refuses}
+use Rattle.cel_lex.specs.Lexis.{IsCut, Refuses}
 use Rattle.cel_parse.specs.Faults.{from_lexing}
 use Rattle.cel_parse.specs.Views.{same, Gives}
 use Rattle.cel_parse.specs.Expansion.{expanded}

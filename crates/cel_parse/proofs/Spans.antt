@@ -1,7 +1,7 @@
 -- What stands behind a part of a text.
 use Rattle.std.proofs.Common.{◌≡◌, ℕ, ◌+◌, ◌-◌, ◌≤◌, List, [], ◌∷◌, ap, subst, ◌∙◌, arith, le_refl, le_trans}
-use Rattle.cel_parse.specs.declared.cel_lex.token.Infix.{Infix}
-use Rattle.cel_parse.specs.declared.cel_lex.token.Token.{Token}
+use Rattle.cel_lex.specs.declared.token.Infix.{Infix}
+use Rattle.cel_lex.specs.declared.token.Token.{Token}
 use Rattle.cel_parse.specs.declared.tree.Tree.{Tree}
 use Rattle.cel_parse.specs.Grammar.{Part, Joins, Derives, whole, chosen, or_one, or_more, and_one, and_more, relation_one, relation_more, sum_one, sum_more, product_one, product_more, bare, nots, minuses, not_one, not_more, negative, minus_one, minus_more, int, yes, no, within}
 use Rattle.cel_parse.specs.Limits.{open_after, nests, IsEnd, whole_text, behind}

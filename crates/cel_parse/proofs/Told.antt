@@ -3,7 +3,7 @@ use Rattle.std.proofs.Common.{◌≡◌, ℕ, ◌+◌, ◌<◌, ◌≤◌, Bool,
 use Rattle.std.specs.Prelude.{max, nat_lt}
 use Rattle.std.proofs.lemmas.Bool.{ltb-false}
 use borrow.Author.Tests.{ltb-true}
-use Rattle.cel_parse.specs.declared.cel_lex.token.Token.{Token}
+use Rattle.cel_lex.specs.declared.token.Token.{Token}
 use Rattle.cel_parse.specs.declared.fault.ParseFault.TheVariants.{Unexpected, TooDeep}
 use Rattle.cel_parse.specs.declared.tree.Tree.{Tree}
 use Rattle.cel_parse.specs.Grammar.{Part, Derives}

@@ -1,60 +1,22 @@
 -- Worked rows of the definitions.
-use Rattle.std.proofs.Common.{◌≡◌, ℕ, ◌+◌, true, false, [], ◌∷◌, Some, None, Ok, Err, refl, ◌∙◌}
-use Rattle.std.specs.Prelude.{codes, max, pos, negsuc}
-use Rattle.cel_parse.specs.declared.cel_lex.token.Infix.TheVariants as op
-use Rattle.cel_parse.specs.declared.cel_lex.token.TokenKind.{TokenKind}
-use Rattle.cel_parse.specs.declared.cel_lex.token.TokenKind.TheVariants as kind
-use Rattle.cel_parse.specs.declared.cel_lex.token.Token.{Token}
-use Rattle.cel_parse.specs.declared.cel_lex.piece.Piece.TheVariants as piece
-use Rattle.cel_parse.specs.declared.cel_lex.fault.LexFaultKind.TheVariants as fault
+use Rattle.std.proofs.Common.{◌≡◌, ℕ, ◌+◌, true, false, [], ◌∷◌, Ok, Err, refl, ◌∙◌}
+use Rattle.std.specs.Prelude.{max, pos, negsuc}
+use Rattle.cel_lex.specs.declared.token.Infix.TheVariants as op
+use Rattle.cel_lex.specs.declared.token.TokenKind.{TokenKind}
+use Rattle.cel_lex.specs.declared.token.TokenKind.TheVariants as kind
+use Rattle.cel_lex.specs.declared.token.Token.{Token}
+use Rattle.cel_lex.specs.declared.fault.LexFaultKind.TheVariants as fault
 use Rattle.cel_parse.specs.declared.expr.UnaryOperator.TheVariants.{Not}
 use Rattle.cel_parse.specs.declared.expr.Syntax.TheVariants as syntax
 use Rattle.cel_parse.specs.declared.fault.ParseFault.TheVariants.{Lex}
 use Rattle.cel_parse.specs.declared.tree.Tree.{Number as number, Truth as truth, Unary as unary, Binary as binary}
-use Rattle.cel_parse.specs.Lexis.{piece_of, Cuts, Fails, end, blank, token, bad, after_token}
 use Rattle.cel_parse.specs.Grammar.{Expression, Derives, whole, or_one, and_one, relation_one, sum_one, sum_more, product_one, bare, nots, minuses, not_more, not_one, negative, int, yes}
 use Rattle.cel_parse.specs.Limits.{depth, nests}
 use Rattle.cel_parse.specs.Expansion.{expr, number_of}
-use Rattle.cel_parse.specs.Scan.{next_of}
 use Rattle.cel_parse.proofs.Depths.{depth-number, depth-binary}
-use Rattle.cel_parse.proofs.PieceNext.{next_reads}
-
-pub at_most_is_one_piece : piece_of (codes "<=") ≡ Some (piece.Token (kind.Operator op.AtMost))
-unfolding piece_of
-at_most_is_one_piece = refl
-
-pub two_signs_are_no_piece : piece_of (codes "!!") ≡ None
-unfolding piece_of
-two_signs_are_no_piece = refl
-
-pub keyword_is_no_name : piece_of (codes "true") ≡ Some (piece.Token kind.True)
-unfolding piece_of
-keyword_is_no_name = refl
-
-pub longer_word_is_a_name : piece_of (codes "true1") ≡ Some (piece.Token kind.Name)
-unfolding piece_of
-longer_word_is_a_name = refl
-
-pub too_large_is_no_token : piece_of (codes "9223372036854775809") ≡ Some piece.Large
-unfolding piece_of
-too_large_is_no_token = refl
 
 abbrev token_at : TokenKind → ℕ → ℕ → Token
 token_at kind start finish = record { kind = kind; start = start; end = finish }
-
--- "1 <=2"
-pub blanks_are_left_out : Cuts 0 (codes "1 <=2") (token_at (kind.Int 1) 0 1 ∷ token_at (kind.Operator op.AtMost) 2 4 ∷ token_at (kind.Int 2) 4 5 ∷ [])
-unfolding next_of
-blanks_are_left_out =
-    token {n = 1} (next_reads (codes "1 <=2"))
-    (blank {n = 1} (next_reads (codes " <=2"))
-    (token {n = 2} (next_reads (codes "<=2"))
-    (token {n = 1} (next_reads (codes "2")) end)))
-
--- "1="
-pub lone_equals_is_a_fault : Fails 0 (codes "1=") (record { kind = fault.BadChar; place = 1 })
-unfolding next_of
-lone_equals_is_a_fault = after_token {n = 1} (next_reads (codes "1=")) (bad (next_reads (codes "=")))
 
 -- "-9223372036854775808"
 pub least_number : (t n : Token) → t.kind ≡ kind.Operator op.Subtract → n.kind ≡ kind.Int 9223372036854775808 → Derives Expression (t ∷ n ∷ []) [] (number t.start true 9223372036854775808)

@@ -1,10 +1,10 @@
 -- Reading tokens from left to right, without left recursion, with the first fault that is met.
 use Rattle.std.specs.Prelude.{ℕ, zero, suc, ◌+◌, max, Bool, true, false, List, [], ◌∷◌, Option, Some, None, Result, Ok, Err, nat_lt, nat_eq, if◌then◌else◌}
-use Rattle.cel_parse.specs.declared.cel_lex.token.Infix.{Infix}
-use Rattle.cel_parse.specs.declared.cel_lex.token.Infix.TheVariants as op
-use Rattle.cel_parse.specs.declared.cel_lex.token.TokenKind.{TokenKind}
-use Rattle.cel_parse.specs.declared.cel_lex.token.TokenKind.TheVariants as kind
-use Rattle.cel_parse.specs.declared.cel_lex.token.Token.{Token}
+use Rattle.cel_lex.specs.declared.token.Infix.{Infix}
+use Rattle.cel_lex.specs.declared.token.Infix.TheVariants as op
+use Rattle.cel_lex.specs.declared.token.TokenKind.{TokenKind}
+use Rattle.cel_lex.specs.declared.token.TokenKind.TheVariants as kind
+use Rattle.cel_lex.specs.declared.token.Token.{Token}
 use Rattle.cel_parse.specs.declared.expr.UnaryOperator.{UnaryOperator}
 use Rattle.cel_parse.specs.declared.expr.UnaryOperator.TheVariants.{Not, Negate}
 use Rattle.cel_parse.specs.declared.fault.ParseFault.{ParseFault}

@@ -1,8 +1,8 @@
 -- The expression of a tree.
 use Rattle.std.specs.Prelude.{ℕ, ◌^◌, ℤ, pos, negsuc, zero, suc, Bool, true, false, Result, Ok, Err, nat_le, nat_lt, if◌then◌else◌}
-use Rattle.cel_parse.specs.declared.cel_lex.token.Infix.{Infix}
-use Rattle.cel_parse.specs.declared.cel_lex.token.Infix.TheVariants as op
-use Rattle.cel_parse.specs.declared.cel_lex.fault.LexFaultKind.TheVariants.{IntRange}
+use Rattle.cel_lex.specs.declared.token.Infix.{Infix}
+use Rattle.cel_lex.specs.declared.token.Infix.TheVariants as op
+use Rattle.cel_lex.specs.declared.fault.LexFaultKind.TheVariants.{IntRange}
 use Rattle.cel_parse.specs.declared.expr.BinaryOperator.TheVariants as binary
 use Rattle.cel_parse.specs.declared.expr.Syntax.{Syntax}
 use Rattle.cel_parse.specs.declared.expr.Syntax.TheVariants as syntax

@@ -1,6 +1,6 @@
 -- The faults of the lexer among those of the parser.
-use Rattle.cel_parse.specs.declared.cel_lex.fault.LexError.{LexError}
-use Rattle.cel_parse.specs.declared.cel_lex.fault.LexError.TheVariants as lexing
+use Rattle.cel_lex.specs.declared.fault.LexError.{LexError}
+use Rattle.cel_lex.specs.declared.fault.LexError.TheVariants as lexing
 use Rattle.cel_parse.specs.declared.fault.ParseFault.TheVariants.{Lex}
 use Rattle.cel_parse.specs.declared.fault.ParseError.{ParseError}
 use Rattle.cel_parse.specs.declared.fault.ParseError.TheVariants as errors

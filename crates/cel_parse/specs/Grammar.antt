@@ -1,10 +1,10 @@
 -- The grammar. A part derives a tree from the tokens that stand between two places: those from the first list on, up
 -- to where the second begins.
 use Rattle.std.specs.Prelude.{◌≡◌, ℕ, true, false, List, [], ◌∷◌}
-use Rattle.cel_parse.specs.declared.cel_lex.token.Infix.{Infix}
-use Rattle.cel_parse.specs.declared.cel_lex.token.Infix.TheVariants as op
-use Rattle.cel_parse.specs.declared.cel_lex.token.TokenKind.TheVariants as kind
-use Rattle.cel_parse.specs.declared.cel_lex.token.Token.{Token}
+use Rattle.cel_lex.specs.declared.token.Infix.{Infix}
+use Rattle.cel_lex.specs.declared.token.Infix.TheVariants as op
+use Rattle.cel_lex.specs.declared.token.TokenKind.TheVariants as kind
+use Rattle.cel_lex.specs.declared.token.Token.{Token}
 use Rattle.cel_parse.specs.declared.expr.UnaryOperator.TheVariants.{Not, Negate}
 use Rattle.cel_parse.specs.declared.tree.Tree.{Tree, Number as number, Truth as truth, Unary as unary, Binary as binary, Conditional as conditional}
 

@@ -1,5 +1,3 @@
-pub mod Lexis
-pub mod Scan
 pub mod Faults
 pub mod Grammar
 pub mod Limits

@@ -1,9 +1,9 @@
 -- How deep a tree and its text may be.
 use Rattle.std.specs.Prelude.{◌≡◌, ℕ, suc, ◌+◌, ◌-◌, ◌<◌, ◌≤◌, max, List, [], ◌∷◌}
-use Rattle.cel_parse.specs.declared.cel_lex.token.Infix.TheVariants.{Subtract}
-use Rattle.cel_parse.specs.declared.cel_lex.token.TokenKind.{TokenKind}
-use Rattle.cel_parse.specs.declared.cel_lex.token.TokenKind.TheVariants as kind
-use Rattle.cel_parse.specs.declared.cel_lex.token.Token.{Token}
+use Rattle.cel_lex.specs.declared.token.Infix.TheVariants.{Subtract}
+use Rattle.cel_lex.specs.declared.token.TokenKind.{TokenKind}
+use Rattle.cel_lex.specs.declared.token.TokenKind.TheVariants as kind
+use Rattle.cel_lex.specs.declared.token.Token.{Token}
 use Rattle.cel_parse.specs.declared.expr.UnaryOperator.{UnaryOperator}
 use Rattle.cel_parse.specs.declared.expr.UnaryOperator.TheVariants.{Not, Negate}
 use Rattle.cel_parse.specs.declared.tree.Tree.{Tree, fold-Tree}

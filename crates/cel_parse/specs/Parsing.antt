@@ -1,12 +1,12 @@
 -- The expression of a text, or why it has none.
 use Rattle.std.specs.Prelude.{◌≡◌, ℕ, List, [], ◌∷◌, ◌++◌, length, Ok, Err}
-use Rattle.cel_parse.specs.declared.cel_lex.token.Token.{Token}
-use Rattle.cel_parse.specs.declared.cel_lex.fault.LexFault.{LexFault}
+use Rattle.cel_lex.specs.declared.token.Token.{Token}
+use Rattle.cel_lex.specs.declared.fault.LexFault.{LexFault}
 use Rattle.cel_parse.specs.declared.expr.Expr.{Expr}
 use Rattle.cel_parse.specs.declared.fault.ParseFault.{ParseFault}
 use Rattle.cel_parse.specs.declared.fault.ParseFault.TheVariants.{Lex, Unexpected, TooDeep}
 use Rattle.cel_parse.specs.declared.tree.Tree.{Tree}
-use Rattle.cel_parse.specs.Lexis.{IsCut, Refuses}
+use Rattle.cel_lex.specs.Lexis.{IsCut, Refuses}
 use Rattle.cel_parse.specs.Grammar.{Derives, Expression, place_at}
 use Rattle.cel_parse.specs.Limits.{IsWithin, IsTooDeep}
 use Rattle.cel_parse.specs.Expansion.{expanded}

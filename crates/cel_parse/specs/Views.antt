@@ -1,8 +1,8 @@
 -- What the code's values stand for.
 use Rattle.std.specs.Prelude.{◌≡◌, ℕ, List, Option, option_map, Result, Ok, Err}
 use Rattle.std.specs.Borrow.{Bor}
-use Rattle.cel_parse.specs.declared.cel_lex.token.Infix.{Infix}
-use Rattle.cel_parse.specs.declared.cel_lex.token.Token.{Token}
+use Rattle.cel_lex.specs.declared.token.Infix.{Infix}
+use Rattle.cel_lex.specs.declared.token.Token.{Token}
 use Rattle.cel_parse.specs.declared.fault.ParseFault.{ParseFault}
 use Rattle.cel_parse.specs.declared.fault.ParseError.{ParseError}
 use Rattle.cel_parse.specs.declared.fault.ParseError.TheVariants as errors

@@ -7,12 +7,12 @@ ghost use Rattle.cel_parse.specs.Parsing.{IsTree, HasNoTree};
 ghost use Rattle.cel_parse.specs.Views.{seen, same, Gives};
 ghost use Rattle.cel_parse.specs.Descent.{primary, nots_at, minuses_at, unary_at, operators, conditional_at, expression, all_of};
 
-use crate::cel_lex::{Token, TokenKind};
 use crate::expr::UnaryOperator;
 use crate::fault::{ParseError, ParseFault};
 use crate::heads::{bang_at, colon_at, int_at, joining_at, minus_at, question_at, unexpected_at};
 use crate::nodes::{Taken, both, shut, signed, three};
 use crate::tree::Tree;
+use cel_lex::{Token, TokenKind};
 use std::alloc::Global;
 
 #[cycle(descent)]

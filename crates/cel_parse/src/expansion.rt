@@ -5,10 +5,10 @@ ghost use Rattle.cel_parse.specs.declared.expr.Expr.{Expr};
 ghost use Rattle.cel_parse.specs.Views.{same, Gives};
 ghost use Rattle.cel_parse.specs.Expansion.{expr, number_of, form_of, expanded};
 
-use crate::cel_lex::{Infix, LexFault, LexFaultKind};
 use crate::expr::{BinaryOperator, Expr, Syntax, UnaryOperator};
 use crate::fault::{ParseError, ParseFault};
 use crate::tree::Tree;
+use cel_lex::{Infix, LexFault, LexFaultKind};
 use plain::Boxed;
 use std::alloc::Global;
 

@@ -4,7 +4,7 @@ ghost use Rattle.std.specs.Prelude.{◌≡◌};
 ghost use Rattle.cel_parse.specs.declared.fault.ParseError.TheVariants.{OutOfMemory};
 ghost use Rattle.cel_parse.specs.Faults.{from_lexing};
 
-use crate::cel_lex::{LexError, LexFault};
+use cel_lex::{LexError, LexFault};
 use std::alloc::{AllocError, AllocFailed};
 use thiserror::Error;
 

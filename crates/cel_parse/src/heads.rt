@@ -7,8 +7,8 @@ ghost use Rattle.cel_parse.specs.Grammar.{looseness, place_at};
 ghost use Rattle.cel_parse.specs.Views.{seen_head, seen_operator};
 ghost use Rattle.cel_parse.specs.Descent.{head_if, is_bang, is_close, is_question, is_colon, is_minus, number_at, operator_at};
 
-use crate::cel_lex::{Infix, Token, TokenKind};
 use crate::fault::{ParseError, ParseFault};
+use cel_lex::{Infix, Token, TokenKind};
 
 pub fn bang_at(tokens: &[Token]) -> Option<(usize, &[Token])>
     ensures { seen_head result ≡ head_if is_bang tokens.now }

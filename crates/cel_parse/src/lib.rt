@@ -1,11 +1,9 @@
 //! The trees of CEL texts.
 //!
-//! [`cel_lex::tokens`] cuts a text into tokens, or tells its first fault. [`parse`] answers the expression of the one
-//! tree that the grammar derives from them, or why there is none within the limits. [`one_expression`] is the law that
-//! a text has one of the two, and only one.
+//! [`parse`] answers the expression of the one tree that the grammar derives from a text's tokens, or why there is none
+//! within the limits. [`one_expression`] is the law that a text has one of the two, and only one.
 #![tactic(auto)]
 
-pub mod cel_lex;
 mod descent;
 mod expansion;
 mod expr;

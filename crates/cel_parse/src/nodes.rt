@@ -4,11 +4,11 @@ ghost use Rattle.std.specs.Prelude.{◌≡◌};
 ghost use Rattle.cel_parse.specs.Views.{seen, Gives};
 ghost use Rattle.cel_parse.specs.Descent.{node, closed, wrapped, joined, picked};
 
-use crate::cel_lex::{Infix, Token};
 use crate::expr::UnaryOperator;
 use crate::fault::{ParseError, ParseFault};
 use crate::heads::{close_at, unexpected_at};
 use crate::tree::Tree;
+use cel_lex::{Infix, Token};
 use plain::Boxed;
 use std::alloc::Global;
 

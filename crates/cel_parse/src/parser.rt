@@ -1,18 +1,18 @@
 //! The expression of a text.
 
 ghost use Rattle.std.specs.Prelude.{◌≡◌, ℕ, List, IfOk, IsErrOf};
-ghost use Rattle.cel_parse.specs.declared.cel_lex.fault.LexFault.{LexFault};
+ghost use Rattle.cel_lex.specs.declared.fault.LexFault.{LexFault};
 ghost use Rattle.cel_parse.specs.declared.expr.Expr.{Expr};
 ghost use Rattle.cel_parse.specs.declared.fault.ParseFault.{ParseFault};
 ghost use Rattle.cel_parse.specs.declared.fault.ParseFault.TheVariants.{Lex, Unexpected};
 ghost use Rattle.cel_parse.specs.declared.fault.ParseError.TheVariants as errors;
 ghost use Rattle.cel_parse.specs.Parsing.{IsParsed, IsRefused};
 
-use crate::cel_lex::tokens;
 use crate::descent::tree_of;
 use crate::expansion::expand;
 use crate::expr::Expr;
 use crate::fault::ParseError;
+use cel_lex::tokens;
 use std::alloc::Global;
 
 /// The expression that a text spells.

@@ -1,15 +1,17 @@
-use crate::cel_lex::{
-    Infix, LexError, LexFault, LexFaultKind, Token, TokenKind, one_answer, tokens,
-};
 use crate::{
     BinaryOperator, Expr, ParseError, ParseFault, Syntax, UnaryOperator, one_expression, parse,
 };
+use cel_lex::{LexFault, LexFaultKind};
 use std::alloc::Global;
 use std::test::Fail;
 
 const BAD_CHAR: LexFaultKind = LexFaultKind::BadChar;
 
+const BAD_ESCAPE: LexFaultKind = LexFaultKind::BadEscape;
+
 const INT_RANGE: LexFaultKind = LexFaultKind::IntRange;
+
+const UNTERMINATED: LexFaultKind = LexFaultKind::Unterminated;
 
 fn fault_of(alloc: Global, text: &str) -> Option<ParseFault> {
     match parse(alloc, text) {
@@ -80,30 +82,6 @@ fn binary_of(operator: BinaryOperator) -> &'static str {
 }
 
 #[test]
-fn texts_are_cut_by_longest_match(rt: HostRuntime) -> Result<(), Fail> {
-    let cut = tokens(rt.alloc(), " 12<=tru_e!=\t\n!!= false")?;
-    let wanted = [
-        (TokenKind::Int(12), 1, 3),
-        (TokenKind::Operator(Infix::AtMost), 3, 5),
-        (TokenKind::Name, 5, 10),
-        (TokenKind::Operator(Infix::NotEqual), 10, 12),
-        (TokenKind::Bang, 14, 15),
-        (TokenKind::Operator(Infix::NotEqual), 15, 17),
-        (TokenKind::False, 18, 23),
-    ];
-    assert_eq!(rt; cut.len(), wanted.len());
-    for (i, (kind, start, end)) in wanted.into_iter().enumerate() {
-        assert_eq!(rt;
-            cut.get(i).copied(),
-            Some(Token { kind, start, end }),
-            "token {i}"
-        );
-    }
-    one_answer();
-    Ok(())
-}
-
-#[test]
 fn a_root_is_its_loosest_operator(rt: HostRuntime) -> Result<(), Fail> {
     let rows = [
         ("1 + 2 * 3 == 7 && !(4 < 3)", "&&", 15),
@@ -151,11 +129,10 @@ fn numbers_have_64_bits(rt: HostRuntime) {
 fn the_first_lexical_fault_is_told(rt: HostRuntime) -> Result<(), Fail> {
     let rows = [
         ("1 & 2", BAD_CHAR, 2),
-        ("1.5", BAD_CHAR, 1),
-        ("'a'", BAD_CHAR, 0),
-        ("[1]", BAD_CHAR, 0),
         ("é", BAD_CHAR, 0),
-        ("*0 <= 'a'", BAD_CHAR, 6),
+        ("'abc", UNTERMINATED, 0),
+        ("*0 <= 'a", UNTERMINATED, 6),
+        (r"1 == '\ud800'", BAD_ESCAPE, 6),
         ("99999999999999999999999999", INT_RANGE, 0),
         ("9223372036854775809 #", INT_RANGE, 0),
         ("true && 46116860184273879043 +", INT_RANGE, 8),
@@ -178,12 +155,9 @@ fn the_first_lexical_fault_is_told(rt: HostRuntime) -> Result<(), Fail> {
 #[test]
 fn a_long_text_is_refused_at_0(rt: HostRuntime) -> Result<(), Fail> {
     let long = repeated(rt.alloc(), 16384, " ", "#", "")?;
-    let fault = match tokens(rt.alloc(), long.as_str()) {
-        Err(LexError::Fault(fault)) => Some(fault),
-        _ => None,
-    };
     let kind = LexFaultKind::TooLong;
-    assert_eq!(rt; fault, Some(LexFault { kind, place: 0 }));
+    let fault = ParseFault::Lex(LexFault { kind, place: 0 });
+    assert_eq!(rt; fault_of(rt.alloc(), long.as_str()), Some(fault));
     let full = repeated(rt.alloc(), 16383, " ", "1", "")?;
     assert_eq!(rt; int_of(rt.alloc(), full.as_str()), Some(1));
     Ok(())
@@ -202,7 +176,16 @@ fn the_first_unexpected_token_is_told(rt: HostRuntime) {
         ("1 2", 2),
         ("a", 0),
         ("truefalse", 0),
-        ("1u", 1),
+        ("1u", 0),
+        ("1.5", 1),
+        ("1 + 'a'", 4),
+        ("[1]", 0),
+        ("{}", 0),
+        ("1, 2", 1),
+        ("null", 0),
+        ("1 in 2", 2),
+        ("1 + for", 4),
+        ("1 // 2\n 3", 8),
         ("(- )", 3),
         ("1+-9223372036854775808)", 22),
         ("true ? 1", 8),

@@ -1,7 +1,7 @@
 //! What the grammar derives: trees whose numbers have a sign and a magnitude.
 
-use crate::cel_lex::Infix;
 use crate::expr::UnaryOperator;
+use cel_lex::Infix;
 use plain::Boxed;
 
 /// A tree of the grammar. Each node has the byte at which its operator or `?` begins, else its first token.

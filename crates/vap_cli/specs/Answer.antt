@@ -4,8 +4,8 @@ use Rattle.std.specs.Fmt.{signed_decimal}
 use Rattle.cel_value.specs.declared.value.Value.{Value}
 use Rattle.cel_value.specs.declared.value.Value.TheVariants.{Bool, Int}
 use Rattle.cel_value.specs.Names.{error_name}
-use Rattle.cel_parse.specs.declared.cel_lex.fault.LexFaultKind.{LexFaultKind}
-use Rattle.cel_parse.specs.declared.cel_lex.fault.LexFaultKind.TheVariants.{BadChar, IntRange, TooLong}
+use Rattle.cel_lex.specs.declared.fault.LexFaultKind.{LexFaultKind}
+use Rattle.cel_lex.specs.declared.fault.LexFaultKind.TheVariants.{BadChar, Unterminated, BadEscape, IntRange, TooLong}
 use Rattle.cel_parse.specs.declared.fault.ParseFault.{ParseFault}
 use Rattle.cel_parse.specs.declared.fault.ParseFault.TheVariants.{Lex, Unexpected, TooDeep}
 use Rattle.cel_code.specs.declared.cel_check.fault.TypeRule.{TypeRule}
@@ -25,6 +25,8 @@ value_text (Int number) = signed_decimal number
 -- the name of a fault of the lexer
 abbrev pub lex_fault_name : LexFaultKind → List ℕ
 lex_fault_name BadChar = codes "BadChar"
+lex_fault_name Unterminated = codes "Unterminated"
+lex_fault_name BadEscape = codes "BadEscape"
 lex_fault_name IntRange = codes "IntRange"
 lex_fault_name TooLong = codes "TooLong"
 

@@ -5,8 +5,8 @@ ghost use Rattle.vap_cli.specs.Answer.{answer_line, lex_fault_name, status_of, t
 
 use crate::status::Status;
 use cel_code::cel_check::{TypeFault, TypeRule};
+use cel_lex::LexFaultKind;
 use cel_parse::ParseFault;
-use cel_parse::cel_lex::LexFaultKind;
 use cel_value::{CelError, Value};
 use std::alloc::{AllocError, Global};
 use std::fmt;
@@ -89,6 +89,8 @@ fn lex_fault_name(kind: LexFaultKind) -> &'static str
 {
     match kind {
         LexFaultKind::BadChar => "BadChar",
+        LexFaultKind::Unterminated => "Unterminated",
+        LexFaultKind::BadEscape => "BadEscape",
         LexFaultKind::IntRange => "IntRange",
         LexFaultKind::TooLong => "TooLong",
     }

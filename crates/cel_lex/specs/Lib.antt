@@ -1,0 +1,10 @@
+pub mod Bytes
+pub mod Numbers
+pub mod Words
+pub mod Symbols
+pub mod Escapes
+pub mod Texts
+pub mod Spelling
+pub mod Lexis
+pub mod Together
+pub mod Scan

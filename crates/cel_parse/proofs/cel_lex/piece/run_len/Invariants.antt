@@ -1,7 +1,0 @@
-use Rattle.std.proofs.Common.{◌≡◌, ◌+◌, drop}
-use Rattle.std.specs.List.{prefix_len}
-use Rattle.cel_parse.specs.Scan.{test_of}
-use Rattle.cel_parse.proofs.cel_lex.piece.run_len.Given as goal
-
-abbrev pub invariant-loop-i : goal.invariant-loop-i
-invariant-loop-i l = l.i + prefix_len (test_of l.class) (drop l.i l.bytes) ≡ prefix_len (test_of l.class) l.bytes
