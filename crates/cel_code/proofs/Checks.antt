@@ -2,10 +2,14 @@
 use Rattle.std.proofs.Common.{◌≡◌, ℕ, cond, true, false, ◌&&◌, List, [], ◌∷◌, Option, Some, None, ap, sym, ◌∙◌, subst, refl, inl, inr}
 use Rattle.std.proofs.lemmas.Bool.{and_from, cases_Bool}
 use Rattle.std.specs.Prelude.{Result, Ok, Err}
-use Rattle.cel_value.specs.declared.value.Value.TheVariants as value
+use Rattle.cel_value.specs.declared.value.Value as value
 use Rattle.cel_value.specs.declared.cel_type.CelType.{CelType}
-use Rattle.cel_value.specs.declared.cel_type.CelType.TheVariants as type
+use Rattle.cel_value.specs.declared.cel_type.CelType as type
 use Rattle.cel_value.specs.CelType.{assignable, join}
+use Rattle.cel_value.specs.Join.{IsAbove}
+use Rattle.cel_value.proofs.Above.{join-above}
+use Rattle.cel_value.proofs.Reflexive.{assignable-refl}
+use Rattle.cel_code.proofs.Opened.{bool_fits, int_fits}
 use Rattle.cel_parse.specs.declared.expr.Expr.{Expr, roll-Expr}
 use Rattle.cel_parse.specs.declared.expr.Expr.TheOpen.{Expr-F}
 use Rattle.cel_parse.specs.declared.expr.Expr.TheFolds.{map-Expr, fold-roll-Expr, ind-Expr}
@@ -30,33 +34,10 @@ abbrev pub RightIn : Types → Checked → Type 0
 RightIn types (Err e) = Unit {0}
 RightIn types (Ok t) = is_right t types ≡ true
 
-assignable-refl : (t : CelType) → assignable t t ≡ true
-assignable-refl type.Never = refl
-assignable-refl type.Bool = refl
-assignable-refl type.Int = refl
-
 join_above : (s t u : CelType) → join s t ≡ Some u → (assignable s u && assignable t u) ≡ true
-join_above type.Never type.Never u e = refl
-join_above type.Never type.Bool type.Bool e = refl
-join_above type.Never type.Int type.Int e = refl
-join_above type.Bool type.Never type.Bool e = refl
-join_above type.Int type.Never type.Int e = refl
-join_above type.Bool type.Bool type.Bool e = refl
-join_above type.Int type.Int type.Int e = refl
-join_above type.Never type.Bool type.Never e = cc
-join_above type.Never type.Bool type.Int e = cc
-join_above type.Never type.Int type.Never e = cc
-join_above type.Never type.Int type.Bool e = cc
-join_above type.Bool type.Never type.Never e = cc
-join_above type.Bool type.Never type.Int e = cc
-join_above type.Int type.Never type.Never e = cc
-join_above type.Int type.Never type.Bool e = cc
-join_above type.Bool type.Bool type.Never e = cc
-join_above type.Bool type.Bool type.Int e = cc
-join_above type.Int type.Int type.Never e = cc
-join_above type.Int type.Int type.Bool e = cc
-join_above type.Bool type.Int u e = cc
-join_above type.Int type.Bool u e = cc
+join_above s t u e =
+    let above : IsAbove s t (Some u) = subst (IsAbove s t) e (join-above s t) in
+    and_from _ _ above.0 above.1
 
 judged-type : (t : TypedTree) → (judged_of t).type ≡ type_of t
 judged-type t = ap (λ j. j.type) (fold_out-TypedTree Judged judged_step t)
@@ -106,13 +87,13 @@ sides_right a b h = ap (λ s. is_truth s && is_truth (judged_of b).type) (judged
 
 and_right : (place : ℕ) (a b : TypedTree) (types : Types) → is_right a types ≡ true → is_right b types ≡ true → RightIn types (logic place form.And a b)
 and_right place a b types h k = elim (cases_Bool (is_truth (type_of a) && is_truth (type_of b))) [
-  | inl y ↦ rw y (node_right type.Bool (form.And a b) types (and_from _ _ (and_from _ _ h k) (and_from _ _ (sides_right a b y) refl)))
+  | inl y ↦ rw y (node_right type.Bool (form.And a b) types (and_from _ _ (and_from _ _ h k) (and_from _ _ (sides_right a b y) (assignable-refl type.Bool))))
   | inr n ↦ rw n tt
 ]
 
 or_right : (place : ℕ) (a b : TypedTree) (types : Types) → is_right a types ≡ true → is_right b types ≡ true → RightIn types (logic place form.Or a b)
 or_right place a b types h k = elim (cases_Bool (is_truth (type_of a) && is_truth (type_of b))) [
-  | inl y ↦ rw y (node_right type.Bool (form.Or a b) types (and_from _ _ (and_from _ _ h k) (and_from _ _ (sides_right a b y) refl)))
+  | inl y ↦ rw y (node_right type.Bool (form.Or a b) types (and_from _ _ (and_from _ _ h k) (and_from _ _ (sides_right a b y) (assignable-refl type.Bool))))
   | inr n ↦ rw n tt
 ]
 
@@ -138,8 +119,8 @@ abbrev part : {A : Type 0} → (Such → A) → ℕ → Syntax Such → Syntax A
 part f p y = (map-Expr _ _ f (record { place = p; form = y })).form
 
 level : (p : ℕ) (y : Syntax Such) (names : Names) → RightIn (types_of names) (checked_at p (part (λ e. checked e.0) p y) names)
-level p (syntax.Bool b) names = node_right type.Bool (form.Literal (value.Bool b)) (types_of names) refl
-level p (syntax.Int n) names = node_right type.Int (form.Literal (value.Int n)) (types_of names) refl
+level p (syntax.Bool b) names = node_right type.Bool (form.Literal (value.Bool b)) (types_of names) (bool_fits b)
+level p (syntax.Int n) names = node_right type.Int (form.Literal (value.Int n)) (types_of names) (int_fits n)
 level p (syntax.Unary op a) names = after_right (types_of names) (checked a.0 names) _ (a.1 names) (λ s h. unary_right p (unary_overloads op) s (types_of names) h)
 level p (syntax.Binary op a b) names = after_right (types_of names) (checked a.0 names) _ (a.1 names) (λ s h. after_right (types_of names) (checked b.0 names) _ (b.1 names) (λ t k. binary_right p (binary_overloads op) s t (types_of names) h k))
 level p (syntax.And a b) names = after_right (types_of names) (checked a.0 names) _ (a.1 names) (λ s h. after_right (types_of names) (checked b.0 names) _ (b.1 names) (λ t k. and_right p s t (types_of names) h k))

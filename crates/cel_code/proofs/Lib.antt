@@ -1,3 +1,4 @@
+pub mod Opened
 pub mod Checks
 pub mod Levels
 pub mod OneRun

@@ -3,7 +3,7 @@ use Rattle.std.proofs.Common.{◌≡◌, true, false, ◌&&◌, List, Option, So
 use Rattle.std.proofs.lemmas.Bool.{and_parts, and_from}
 use Rattle.std.specs.Prelude.{Result, Ok, Err}
 use Rattle.cel_value.specs.declared.cel_type.CelType.{CelType}
-use Rattle.cel_value.specs.declared.cel_type.CelType.TheVariants as type
+use Rattle.cel_value.specs.declared.cel_type.CelType as type
 use Rattle.cel_value.specs.CelType.{assignable}
 use Rattle.cel_code.specs.declared.cel_check.fault.TypeRule.{TypeRule}
 use Rattle.cel_code.specs.declared.cel_check.typed.Typed.{Typed}
@@ -17,21 +17,22 @@ use Rattle.cel_code.specs.Wants.{Truth, limit_of, side_of, taken}
 use Rattle.cel_code.specs.Operators.{row, at_one, at_two, outcome_made, type_of_one, type_of_two}
 use Rattle.cel_code.specs.Meaning.{Valuation, value_at, value_of, type_of, is_there, is_truth, takes_result, Judged, right_at, judged_step, judged_of, is_right}
 use Rattle.cel_code.proofs.Rows.{Taken, taken_fits, wider, row_right, one_operand, two_operands}
+use Rattle.cel_code.proofs.Opened.{bool_fits}
 use Rattle.cel_code.proofs.Levels.{part, fused}
 
 and_fits : (x y : Side) → outcome_fits type.Bool (Some (and_of x y)) ≡ true
-and_fits (Ok false) y = refl
-and_fits (Ok true) (Ok b) = refl
+and_fits (Ok false) y = bool_fits false
+and_fits (Ok true) (Ok b) = bool_fits b
 and_fits (Ok true) (Err e) = refl
-and_fits (Err e) (Ok false) = refl
+and_fits (Err e) (Ok false) = bool_fits false
 and_fits (Err e) (Ok true) = refl
 and_fits (Err e) (Err f) = refl
 
 or_fits : (x y : Side) → outcome_fits type.Bool (Some (or_of x y)) ≡ true
-or_fits (Ok true) y = refl
-or_fits (Ok false) (Ok b) = refl
+or_fits (Ok true) y = bool_fits true
+or_fits (Ok false) (Ok b) = bool_fits b
 or_fits (Ok false) (Err e) = refl
-or_fits (Err e) (Ok true) = refl
+or_fits (Err e) (Ok true) = bool_fits true
 or_fits (Err e) (Ok false) = refl
 or_fits (Err e) (Err f) = refl
 
@@ -50,7 +51,7 @@ side_there s x (Some l) q h k = there (taken Truth x) (taken_fits Truth s x l q 
 
 and_value_fits : (x y : Option Side) → is_there x ≡ true → is_there y ≡ true → outcome_fits type.Bool (and_value x y) ≡ true
 and_value_fits None y h k = absurd (true≢false (sym h))
-and_value_fits (Some (Ok false)) y h k = refl
+and_value_fits (Some (Ok false)) y h k = bool_fits false
 and_value_fits (Some (Ok true)) None h k = absurd (true≢false (sym k))
 and_value_fits (Some (Ok true)) (Some y) h k = and_fits (Ok true) y
 and_value_fits (Some (Err e)) None h k = absurd (true≢false (sym k))
@@ -58,7 +59,7 @@ and_value_fits (Some (Err e)) (Some y) h k = and_fits (Err e) y
 
 or_value_fits : (x y : Option Side) → is_there x ≡ true → is_there y ≡ true → outcome_fits type.Bool (or_value x y) ≡ true
 or_value_fits None y h k = absurd (true≢false (sym h))
-or_value_fits (Some (Ok true)) y h k = refl
+or_value_fits (Some (Ok true)) y h k = bool_fits true
 or_value_fits (Some (Ok false)) None h k = absurd (true≢false (sym k))
 or_value_fits (Some (Ok false)) (Some y) h k = or_fits (Ok false) y
 or_value_fits (Some (Err e)) None h k = absurd (true≢false (sym k))

@@ -1,20 +1,28 @@
 -- What an operator answers is of the type that its row gives, and its charge is at most the greatest.
-use Rattle.std.proofs.Common.{◌≡◌, ℕ, zero, suc, cond, ◌≤◌, Bool, true, false, not, Option, Some, None, refl, sym, subst, arith, true≢false}
-use Rattle.std.specs.Prelude.{Result, Ok, Err, ℤ, pos, negsuc, ◌+ℤ◌, ◌-ℤ◌, ◌*ℤ◌, neg_ℤ, int_div, int_rem}
+use Rattle.std.proofs.Common.{◌≡◌, ℕ, zero, suc, cond, ◌≤◌, Bool, true, false, not, Option, Some, None, refl, sym, ◌∙◌, subst, arith, true≢false}
+use Rattle.std.specs.Prelude.{Result, Ok, Err, ℤ, pos, negsuc, ◌+ℤ◌, ◌-ℤ◌, ◌*ℤ◌, neg_ℤ, int_div, int_rem, int_lt}
 use Rattle.std.proofs.lemmas.Option.{none-some, same_Some}
-use Rattle.cel_value.specs.declared.value.Value.{Value}
-use Rattle.cel_value.specs.declared.value.Value.TheVariants as value
-use Rattle.cel_value.specs.declared.cel_type.CelType.{CelType}
-use Rattle.cel_value.specs.declared.cel_type.CelType.TheVariants as type
+use Rattle.cel_value.specs.declared.value.Value.{Value, out-Value}
+use Rattle.cel_value.specs.declared.value.Value as value
+use Rattle.cel_value.specs.declared.value.Value.TheOpen.{Value-F}
+use Rattle.cel_value.specs.declared.cel_type.CelType.{CelType, out-CelType}
+use Rattle.cel_value.specs.declared.cel_type.CelType as type
+use Rattle.cel_value.specs.declared.cel_type.CelType.TheOpen.{CelType-F}
 use Rattle.cel_value.specs.declared.cel_error.CelError.{CelError}
 use Rattle.cel_value.specs.declared.cel_error.CelError.TheVariants.{Overflow}
 use Rattle.cel_value.specs.CelType.{fits, assignable, join as type_join}
+use Rattle.cel_value.specs.Fits.{fits_at}
+use Rattle.cel_value.specs.Value.{same, bool_lt}
+use Rattle.cel_value.proofs.Bounds.{weight_of-le}
+use Rattle.cel_value.proofs.Soundness.{IsWithin-from_assignable}
+use Rattle.cel_value.proofs.Joins.{join-Bool-Int, join-Int-Bool}
+use Rattle.cel_code.proofs.Opened.{opened, fits-out, bool_fits, int_fits}
 use Rattle.cel_code.specs.declared.cel_check.operator.Operator.{Operator}
 use Rattle.cel_code.specs.declared.cel_check.operator.Operator.TheVariants.{Not, Negate, Add, Subtract, Multiply, Divide, Remainder, Equal, NotEqual, Less, AtMost, Greater, AtLeast}
 use Rattle.cel_code.specs.declared.cel_check.fault.TypeRule.{TypeRule}
 use Rattle.cel_code.specs.Outcomes.{Outcome, outcome_fits}
-use Rattle.cel_code.specs.Wants.{Want, Any, Truth, Whole, Ordered, Of, taken_value, taken, Limit, limit_of, Within}
-use Rattle.cel_code.specs.Operators.{OneRow, TwoRow, Row, One, Two, row, in_range, int_or_overflow, divided, less, truth_of, untruth_of, bool_where, lesser_weight, lesser_greatest, arithmetic_row, equality_row, order_row, Made, makes, one, two, at_one, at_two, outcome_made, charge_made, of_limit, of_limits, type_of_one, type_of_two, most, most_of_two, greatest_of_one, greatest_of_two}
+use Rattle.cel_code.specs.Wants.{Want, Any, Truth, Whole, Ordered, Of, taken_at, taken_value, taken, Limit, limit_at, limit_of, Within, IsOrdered, IsOrderedLevel}
+use Rattle.cel_code.specs.Operators.{OneRow, TwoRow, Row, One, Two, row, in_range, int_or_overflow, divided, less_at, truth_of, untruth_of, bool_where, lesser_weight, lesser_greatest, arithmetic_row, equality_row, order_row, Made, makes, one, two, at_one, at_two, outcome_made, charge_made, of_limit, of_limits, type_of_one, type_of_two, most, most_of_two, greatest_of_one, greatest_of_two}
 
 -- an operand of the right type, taken as one of the kind, is an error or within the limit
 abbrev pub Taken : (w : Want) → Limit w → Option (Result (Of w) CelError) → Type 0
@@ -22,23 +30,34 @@ Taken w l None = ⊥
 Taken w l (Some (Err e)) = Unit {0}
 Taken w l (Some (Ok a)) = Within w l a
 
--- no value has the type Never
-never_fits : (v : Value) → fits v type.Never ≡ true → ⊥
-never_fits (value.Bool b) h = true≢false (sym h)
-never_fits (value.Int n) h = true≢false (sym h)
+in_order : (t : CelType) (o : CelType-F CelType) → out-CelType t ≡ o → IsOrderedLevel o → IsOrdered t
+in_order t o e h = subst IsOrderedLevel (sym e) h
+
+truth_taken : (v : Value) (o : CelType-F CelType) (p : Value-F Value) (t : CelType) (l : Limit Truth) → limit_at Truth t o ≡ Some l → fits_at (opened o) p ≡ true → Taken Truth l (taken_at Truth v p)
+truth_taken v CelType-F.Never p t l e h = absurd (true≢false (sym h))
+truth_taken v CelType-F.Bool (Value-F.Bool b) t l e h = tt
+truth_taken v CelType-F.Bool _ t l e h = absurd (true≢false (sym h))
+truth_taken v _ p t l e h = absurd (none-some _ e)
+
+whole_taken : (v : Value) (o : CelType-F CelType) (p : Value-F Value) (t : CelType) (l : Limit Whole) → limit_at Whole t o ≡ Some l → fits_at (opened o) p ≡ true → Taken Whole l (taken_at Whole v p)
+whole_taken v CelType-F.Never p t l e h = absurd (true≢false (sym h))
+whole_taken v CelType-F.Int (Value-F.Int n) t l e h = tt
+whole_taken v CelType-F.Int _ t l e h = absurd (true≢false (sym h))
+whole_taken v _ p t l e h = absurd (none-some _ e)
+
+ordered_taken : (v : Value) (o : CelType-F CelType) (p : Value-F Value) (t : CelType) (l : Limit Ordered) → out-CelType t ≡ o → limit_at Ordered t o ≡ Some l → fits_at (opened o) p ≡ true → fits v t ≡ true → Taken Ordered l (taken_at Ordered v p)
+ordered_taken v CelType-F.Never p t l i e h f = absurd (true≢false (sym h))
+ordered_taken v CelType-F.Bool (Value-F.Bool b) t l i e h f = let same = same_Some _ _ e in (subst (λ s. fits v s ≡ true) same f, subst IsOrdered same (in_order t CelType-F.Bool i tt))
+ordered_taken v CelType-F.Bool _ t l i e h f = absurd (true≢false (sym h))
+ordered_taken v CelType-F.Int (Value-F.Int n) t l i e h f = let same = same_Some _ _ e in (subst (λ s. fits v s ≡ true) same f, subst IsOrdered same (in_order t CelType-F.Int i tt))
+ordered_taken v CelType-F.Int _ t l i e h f = absurd (true≢false (sym h))
+ordered_taken v _ p t l i e h f = absurd (none-some _ e)
 
 value_taken : (w : Want) (t : CelType) (v : Value) (l : Limit w) → limit_of w t ≡ Some l → fits v t ≡ true → Taken w l (taken_value w v)
 value_taken Any t v l e h = subst (λ s. fits v s ≡ true) (same_Some _ _ e) h
-value_taken Truth type.Bool (value.Bool b) l e h = tt
-value_taken Truth type.Bool (value.Int n) l e h = absurd (true≢false (sym h))
-value_taken Truth type.Never v l e h = absurd (never_fits v h)
-value_taken Truth type.Int v l e h = absurd (none-some _ e)
-value_taken Whole type.Int (value.Int n) l e h = tt
-value_taken Whole type.Int (value.Bool b) l e h = absurd (true≢false (sym h))
-value_taken Whole type.Never v l e h = absurd (never_fits v h)
-value_taken Whole type.Bool v l e h = absurd (none-some _ e)
-value_taken Ordered t (value.Bool b) l e h = subst (λ s. fits (value.Bool b) s ≡ true) (same_Some _ _ e) h
-value_taken Ordered t (value.Int n) l e h = subst (λ s. fits (value.Int n) s ≡ true) (same_Some _ _ e) h
+value_taken Truth t v l e h = truth_taken v (out-CelType t) (out-Value v) t l e (sym (fits-out v t) ∙ h)
+value_taken Whole t v l e h = whole_taken v (out-CelType t) (out-Value v) t l e (sym (fits-out v t) ∙ h)
+value_taken Ordered t v l e h = ordered_taken v (out-CelType t) (out-Value v) t l refl e (sym (fits-out v t) ∙ h) h
 
 pub taken_fits : (w : Want) (t : CelType) (x : Option Outcome) (l : Limit w) → limit_of w t ≡ Some l → outcome_fits t x ≡ true → Taken w l (taken w x)
 taken_fits w t None l e h = absurd (true≢false (sym h))
@@ -62,11 +81,11 @@ RowRight (One w r) = (l : Limit w) → Gives (r.result l) (OneGood w r l)
 RowRight (Two v w r) = (l : Limit v) (m : Limit w) → Gives (r.result l m) (TwoGood v w r l m)
 
 range_fits : (b : Bool) (n : ℤ) → outcome_fits type.Int (Some (cond b (Ok (value.Int n)) (Err Overflow))) ≡ true
-range_fits true n = refl
+range_fits true n = int_fits n
 range_fits false n = refl
 
-int_fits : (n : ℤ) → outcome_fits type.Int (Some (int_or_overflow n)) ≡ true
-int_fits n = range_fits (in_range n) n
+checked_fits : (n : ℤ) → outcome_fits type.Int (Some (int_or_overflow n)) ≡ true
+checked_fits n = range_fits (in_range n) n
 
 divided_fits : (f : ℤ → ℤ → ℤ) (a b : ℤ) → outcome_fits type.Int (Some (divided f a b)) ≡ true
 divided_fits f a (pos zero) = refl
@@ -76,62 +95,61 @@ divided_fits f a (negsuc n) = range_fits (in_range (int_div a (negsuc n))) (f a 
 arithmetic_right : (f : ℤ → ℤ → Outcome) → ((a b : ℤ) → outcome_fits type.Int (Some (f a b)) ≡ true) → RowRight (Two Whole Whole (arithmetic_row f))
 arithmetic_right f h = λ l m. (omega arith, λ a b p q. (h a b, omega arith))
 
--- scalars and their types weigh 1
-one_weight : (v w : Value) → lesser_weight v w ≡ 1
-one_weight (value.Bool a) (value.Bool b) = refl
-one_weight (value.Bool a) (value.Int n) = refl
-one_weight (value.Int m) (value.Bool b) = refl
-one_weight (value.Int m) (value.Int n) = refl
+-- what fits weighs at most the greatest weight, and that is 1 at least
+one_greatest : (s t : CelType) → 1 ≤ lesser_greatest s t
+one_greatest s t = omega (arith, (weight_of-le s).0, (weight_of-le t).0)
 
-one_greatest : (s t : CelType) → lesser_greatest s t ≡ 1
-one_greatest type.Never type.Never = refl
-one_greatest type.Never type.Bool = refl
-one_greatest type.Never type.Int = refl
-one_greatest type.Bool type.Never = refl
-one_greatest type.Bool type.Bool = refl
-one_greatest type.Bool type.Int = refl
-one_greatest type.Int type.Never = refl
-one_greatest type.Int type.Bool = refl
-one_greatest type.Int type.Int = refl
-
-weight_within : (v w : Value) (s t : CelType) → lesser_weight v w ≤ lesser_greatest s t
-weight_within v w s t = omega (arith, one_weight v w, one_greatest s t)
+weight_within : (v w : Value) (s t : CelType) → fits v s ≡ true → fits w t ≡ true → lesser_weight v w ≤ lesser_greatest s t
+weight_within v w s t h k = omega (arith, (weight_of-le s).1 v h, (weight_of-le t).1 w k)
 
 where_right : (o : Option CelType) (P : CelType → Type 0) → P type.Bool → Gives (bool_where o) P
 where_right None P h = tt
 where_right (Some t) P h = h
 
 equality_right : (f : Bool → Bool) → RowRight (Two Any Any (equality_row f))
-equality_right f = λ s t. where_right (type_join s t) (TwoGood Any Any (equality_row f) s t) (omega (arith, one_greatest s t), λ v w p q. (refl, weight_within v w s t))
+equality_right f = λ s t. where_right (type_join s t) (TwoGood Any Any (equality_row f) s t) (one_greatest s t, λ v w p q. (bool_fits (f (same v w)), weight_within v w s t p q))
 
 -- two values of types that have a join are of one kind
-less_fits : (v w : Value) (s t : CelType) → fits v s ≡ true → fits w t ≡ true → Gives (bool_where (type_join s t)) (λ u. (outcome_fits u (truth_of (less v w)) ≡ true) × (outcome_fits u (untruth_of (less v w)) ≡ true) × (outcome_fits u (truth_of (less w v)) ≡ true) × (outcome_fits u (untruth_of (less w v)) ≡ true))
-less_fits (value.Bool a) (value.Bool b) type.Bool type.Bool p q = (refl, refl, refl, refl)
-less_fits (value.Int a) (value.Int b) type.Int type.Int p q = (refl, refl, refl, refl)
-less_fits (value.Bool a) (value.Int b) type.Bool type.Int p q = tt
-less_fits (value.Int a) (value.Bool b) type.Int type.Bool p q = tt
-less_fits (value.Bool a) w type.Int t p q = absurd (true≢false (sym p))
-less_fits (value.Int a) w type.Bool t p q = absurd (true≢false (sym p))
-less_fits v w type.Never t p q = absurd (never_fits v p)
-less_fits v (value.Bool b) s type.Int p q = absurd (true≢false (sym q))
-less_fits v (value.Int b) s type.Bool p q = absurd (true≢false (sym q))
-less_fits v w s type.Never p q = absurd (never_fits w q)
+abbrev LessFits : Value → Value → Value-F Value → Value-F Value → Option CelType → Type 0
+LessFits v w p q o = Gives (bool_where o) (λ u. (outcome_fits u (truth_of (less_at p q)) ≡ true) × (outcome_fits u (untruth_of (less_at p q)) ≡ true) × (outcome_fits u (truth_of (less_at q p)) ≡ true) × (outcome_fits u (untruth_of (less_at q p)) ≡ true))
+
+comparison : (v w : Value) (p q : Value-F Value) (o : Option CelType) (a b : Bool) → less_at p q ≡ Some a → less_at q p ≡ Some b → LessFits v w p q o
+comparison v w p q None a b e f = tt
+comparison v w p q (Some t) a b e f = rw (e, f) (bool_fits a, bool_fits (not a), bool_fits b, bool_fits (not b))
+
+less_levels : (v w : Value) (p q : Value-F Value) (s t : CelType) (o r : CelType-F CelType) → out-CelType s ≡ o → out-CelType t ≡ r → fits_at (opened o) p ≡ true → fits_at (opened r) q ≡ true → IsOrderedLevel o → IsOrderedLevel r → LessFits v w p q (type_join s t)
+less_levels v w p q s t CelType-F.Never r e f h k i j = absurd (true≢false (sym h))
+less_levels v w p q s t o CelType-F.Never e f h k i j = absurd (true≢false (sym k))
+less_levels v w (Value-F.Bool a) (Value-F.Bool b) s t CelType-F.Bool CelType-F.Bool e f h k i j = comparison v w (Value-F.Bool a) (Value-F.Bool b) (type_join s t) (bool_lt a b) (bool_lt b a) refl refl
+less_levels v w (Value-F.Int a) (Value-F.Int b) s t CelType-F.Int CelType-F.Int e f h k i j = comparison v w (Value-F.Int a) (Value-F.Int b) (type_join s t) (int_lt a b) (int_lt b a) refl refl
+less_levels v w p q s t CelType-F.Bool CelType-F.Int e f h k i j = rw (join-Bool-Int s t e f) tt
+less_levels v w p q s t CelType-F.Int CelType-F.Bool e f h k i j = rw (join-Int-Bool s t e f) tt
+less_levels v w (Value-F.Bool a) _ s t CelType-F.Bool CelType-F.Bool e f h k i j = absurd (true≢false (sym k))
+less_levels v w (Value-F.Int a) _ s t CelType-F.Int CelType-F.Int e f h k i j = absurd (true≢false (sym k))
+less_levels v w _ q s t CelType-F.Bool CelType-F.Bool e f h k i j = absurd (true≢false (sym h))
+less_levels v w _ q s t CelType-F.Int CelType-F.Int e f h k i j = absurd (true≢false (sym h))
+less_levels v w p q s t CelType-F.Bool _ e f h k i j = absurd j
+less_levels v w p q s t CelType-F.Int _ e f h k i j = absurd j
+less_levels v w p q s t _ r e f h k i j = absurd i
+
+less_fits : (v w : Value) (s t : CelType) → Within Ordered s v → Within Ordered t w → LessFits v w (out-Value v) (out-Value w) (type_join s t)
+less_fits v w s t p q = less_levels v w (out-Value v) (out-Value w) s t (out-CelType s) (out-CelType t) refl refl (sym (fits-out v s) ∙ p.0) (sym (fits-out w t) ∙ q.0) p.1 q.1
 
 -- what holds of the type that is given, for one type after another
 gives_map : (r : Result CelType TypeRule) (P Q : CelType → Type 0) → ((t : CelType) → P t → Q t) → Gives r P → Gives r Q
 gives_map (Err e) P Q f h = tt
 gives_map (Ok t) P Q f h = f t h
 
-order_gives : (f : Value → Value → Option Outcome) (s t : CelType) (o : Option CelType) → ((v w : Value) → fits v s ≡ true → fits w t ≡ true → Gives (bool_where o) (λ u. outcome_fits u (f v w) ≡ true)) → Gives (bool_where o) (TwoGood Ordered Ordered (order_row f) s t)
+order_gives : (f : Value → Value → Option Outcome) (s t : CelType) (o : Option CelType) → ((v w : Value) → Within Ordered s v → Within Ordered t w → Gives (bool_where o) (λ u. outcome_fits u (f v w) ≡ true)) → Gives (bool_where o) (TwoGood Ordered Ordered (order_row f) s t)
 order_gives f s t None h = tt
-order_gives f s t (Some u) h = (omega (arith, one_greatest s t), λ v w p q. (h v w p q, weight_within v w s t))
+order_gives f s t (Some u) h = (one_greatest s t, λ v w p q. (h v w p q, weight_within v w s t p.0 q.0))
 
 pub row_right : (op : Operator) → RowRight (row op)
-row_right Not = λ l. (omega arith, λ b p. (refl, omega arith))
-row_right Negate = λ l. (omega arith, λ n p. (int_fits (neg_ℤ n), omega arith))
-row_right Add = arithmetic_right _ (λ a b. int_fits (a +ℤ b))
-row_right Subtract = arithmetic_right _ (λ a b. int_fits (a -ℤ b))
-row_right Multiply = arithmetic_right _ (λ a b. int_fits (a *ℤ b))
+row_right Not = λ l. (omega arith, λ b p. (bool_fits (not b), omega arith))
+row_right Negate = λ l. (omega arith, λ n p. (checked_fits (neg_ℤ n), omega arith))
+row_right Add = arithmetic_right _ (λ a b. checked_fits (a +ℤ b))
+row_right Subtract = arithmetic_right _ (λ a b. checked_fits (a -ℤ b))
+row_right Multiply = arithmetic_right _ (λ a b. checked_fits (a *ℤ b))
 row_right Divide = arithmetic_right _ (divided_fits int_div)
 row_right Remainder = arithmetic_right _ (divided_fits int_rem)
 row_right Equal = equality_right (λ b. b)
@@ -145,13 +163,7 @@ row_right AtLeast = λ s t. order_gives _ s t (type_join s t) (λ v w p q. gives
 pub wider : (s t : CelType) (x : Option Outcome) → assignable s t ≡ true → outcome_fits s x ≡ true → outcome_fits t x ≡ true
 wider s t None a h = absurd (true≢false (sym h))
 wider s t (Some (Err e)) a h = refl
-wider type.Never t (Some (Ok v)) a h = absurd (never_fits v h)
-wider type.Bool type.Bool (Some (Ok v)) a h = h
-wider type.Int type.Int (Some (Ok v)) a h = h
-wider type.Bool type.Never (Some (Ok v)) a h = absurd (true≢false (sym a))
-wider type.Bool type.Int (Some (Ok v)) a h = absurd (true≢false (sym a))
-wider type.Int type.Never (Some (Ok v)) a h = absurd (true≢false (sym a))
-wider type.Int type.Bool (Some (Ok v)) a h = absurd (true≢false (sym a))
+wider s t (Some (Ok v)) a h = (IsWithin-from_assignable t s a).1 v h
 
 -- what was made is of the type, for at most n
 abbrev pub MadeRight : CelType → Option Made → ℕ → Type 0

@@ -1,7 +1,7 @@
 -- The value of a typed expression, and what its evaluation charges (cel-spec, "Evaluation").
 use Rattle.std.specs.Prelude.{ℕ, ◌+◌, Bool, true, false, ◌&&◌, Option, Some, None, Result, Ok, Err}
 use Rattle.cel_value.specs.declared.cel_type.CelType.{CelType}
-use Rattle.cel_value.specs.declared.cel_type.CelType.TheVariants as type
+use Rattle.cel_value.specs.declared.cel_type.CelType as type
 use Rattle.cel_value.specs.CelType.{fits, assignable}
 use Rattle.cel_code.specs.declared.cel_check.fault.TypeRule.{TypeRule}
 use Rattle.cel_code.specs.declared.cel_check.tree.TypedTree.{TypedTree, fold-TypedTree, out-TypedTree}

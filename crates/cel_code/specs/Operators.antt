@@ -1,10 +1,11 @@
 -- The operators: for each the kinds of its operands, its answer and errors, its charge, its type and its greatest
 -- charge. The value, the cost, the machine and the verifier take an operator from here alone.
 use Rattle.std.specs.Prelude.{ℕ, zero, ◌^◌, min, ℤ, pos, negsuc, ◌+ℤ◌, ◌-ℤ◌, ◌*ℤ◌, neg_ℤ, int_div, int_rem, int_lt, Bool, not, nat_lt, List, [], ◌∷◌, if◌then◌else◌, slice_get, Option, Some, None, Result, Ok, Err}
-use Rattle.cel_value.specs.declared.value.Value.{Value}
-use Rattle.cel_value.specs.declared.value.Value.TheVariants as value
+use Rattle.cel_value.specs.declared.value.Value.{Value, out-Value}
+use Rattle.cel_value.specs.declared.value.Value as value
+use Rattle.cel_value.specs.declared.value.Value.TheOpen.{Value-F}
 use Rattle.cel_value.specs.declared.cel_type.CelType.{CelType}
-use Rattle.cel_value.specs.declared.cel_type.CelType.TheVariants as type
+use Rattle.cel_value.specs.declared.cel_type.CelType as type
 use Rattle.cel_value.specs.declared.cel_error.CelError.{CelError}
 use Rattle.cel_value.specs.declared.cel_error.CelError.TheVariants.{Overflow, DivideByZero}
 use Rattle.cel_value.specs.Value.{weight_of, same, bool_lt}
@@ -50,12 +51,15 @@ abbrev pub divided : (ℤ → ℤ → ℤ) → ℤ → ℤ → Outcome
 divided f a (pos zero) = Err DivideByZero
 divided f a b = if in_range (int_div a b) then Ok (value.Int (f a b)) else Err Overflow
 
--- the order of two values of one kind: false before true, and the integers
+-- the order of two levels of one kind: false before true, and the integers
+abbrev pub less_at : Value-F Value → Value-F Value → Option Bool
+less_at (Value-F.Bool a) (Value-F.Bool b) = Some (bool_lt a b)
+less_at (Value-F.Int m) (Value-F.Int n) = Some (int_lt m n)
+less_at _ _ = None
+
+-- the order of two values of one kind
 abbrev pub less : Value → Value → Option Bool
-less (value.Bool a) (value.Bool b) = Some (bool_lt a b)
-less (value.Bool a) (value.Int n) = None
-less (value.Int m) (value.Bool b) = None
-less (value.Int m) (value.Int n) = Some (int_lt m n)
+less v w = less_at (out-Value v) (out-Value w)
 
 -- a comparison's truth value, where it has one
 abbrev pub truth_of : Option Bool → Option Outcome

@@ -1,9 +1,9 @@
 -- The typed tree of an expression in a scope of names, or its first fault in post-order.
 use Rattle.std.specs.Prelude.{ℕ, ◌+◌, max, Bool, ◌&&◌, ◌||◌, nat_lt, List, [], ◌∷◌, map, Option, Some, None, Result, Ok, Err, if◌then◌else◌, ◌≡◌}
 use Rattle.plain.specs.declared.text.Keyed.{Keyed}
-use Rattle.cel_value.specs.declared.value.Value.TheVariants as value
+use Rattle.cel_value.specs.declared.value.Value as value
 use Rattle.cel_value.specs.declared.cel_type.CelType.{CelType}
-use Rattle.cel_value.specs.declared.cel_type.CelType.TheVariants as type
+use Rattle.cel_value.specs.declared.cel_type.CelType as type
 use Rattle.cel_value.specs.CelType.{join}
 use Rattle.cel_parse.specs.declared.expr.UnaryOperator.{UnaryOperator}
 use Rattle.cel_parse.specs.declared.expr.UnaryOperator.TheVariants as unary_operator
@@ -20,6 +20,8 @@ use Rattle.cel_code.specs.declared.cel_check.fault.CheckError.TheVariants as err
 use Rattle.cel_code.specs.declared.cel_check.operator.Operator.{Operator}
 use Rattle.cel_code.specs.declared.cel_check.operator.Operator.TheVariants as operator
 use Rattle.cel_code.specs.declared.cel_check.operator.Overload.{Overload}
+use Rattle.cel_code.specs.declared.cel_check.fault.Untyped.{Untyped}
+use Rattle.cel_code.specs.declared.cel_check.fault.Untyped.TheVariants as untyped
 use Rattle.cel_code.specs.declared.cel_check.scope.Scope.{Scope}
 use Rattle.cel_code.specs.declared.cel_check.tree.TypedTree.{TypedTree, roll-TypedTree}
 use Rattle.cel_code.specs.declared.cel_check.tree.Form.{Form}
@@ -176,3 +178,9 @@ abbrev pub Answers : {X Y : Type 0} → Result X CheckError → (X → Y) → Re
 Answers (Ok x) view c = c ≡ Ok (view x)
 Answers (Err error.OutOfMemory) view c = Unit {0}
 Answers (Err (error.Fault f)) view c = c ≡ Err f
+
+-- what a row is found to give is what it gives, unless memory ran out
+abbrev pub Tells : {X : Type 0} → Result X Untyped → Result X TypeRule → Type 0
+Tells (Ok x) r = r ≡ Ok x
+Tells (Err untyped.OutOfMemory) r = Unit {0}
+Tells (Err (untyped.Rule e)) r = r ≡ Err e

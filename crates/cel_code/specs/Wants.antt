@@ -1,9 +1,9 @@
 -- The kinds of operands: what each is taken as, and what its type says of it.
 use Rattle.std.specs.Prelude.{◌≡◌, Bool, true, Option, Some, None, Result, Ok, Err, ℤ}
-use Rattle.cel_value.specs.declared.value.Value.{Value}
-use Rattle.cel_value.specs.declared.value.Value.TheVariants as value
-use Rattle.cel_value.specs.declared.cel_type.CelType.{CelType}
-use Rattle.cel_value.specs.declared.cel_type.CelType.TheVariants as type
+use Rattle.cel_value.specs.declared.value.Value.{Value, out-Value}
+use Rattle.cel_value.specs.declared.value.Value.TheOpen.{Value-F}
+use Rattle.cel_value.specs.declared.cel_type.CelType.{CelType, out-CelType}
+use Rattle.cel_value.specs.declared.cel_type.CelType.TheOpen.{CelType-F}
 use Rattle.cel_value.specs.declared.cel_error.CelError.{CelError}
 use Rattle.cel_value.specs.CelType.{fits}
 use Rattle.cel_code.specs.Outcomes.{Outcome, Side}
@@ -22,15 +22,18 @@ Of Truth = Bool
 Of Whole = ℤ
 Of Ordered = Value
 
--- a value as one of the kind; None where it is of another
+-- a value, and its level, as one of the kind; None where it is of another
+abbrev pub taken_at : (w : Want) → Value → Value-F Value → Option (Result (Of w) CelError)
+taken_at Any v _ = Some (Ok v)
+taken_at Truth v (Value-F.Bool b) = Some (Ok b)
+taken_at Whole v (Value-F.Int n) = Some (Ok n)
+taken_at Ordered v (Value-F.Bool b) = Some (Ok v)
+taken_at Ordered v (Value-F.Int n) = Some (Ok v)
+taken_at _ v _ = None
+
+-- a value as one of the kind
 abbrev pub taken_value : (w : Want) → Value → Option (Result (Of w) CelError)
-taken_value Any v = Some (Ok v)
-taken_value Truth (value.Bool b) = Some (Ok b)
-taken_value Truth (value.Int n) = None
-taken_value Whole (value.Bool b) = None
-taken_value Whole (value.Int n) = Some (Ok n)
-taken_value Ordered (value.Bool b) = Some (Ok (value.Bool b))
-taken_value Ordered (value.Int n) = Some (Ok (value.Int n))
+taken_value w v = taken_at w v (out-Value v)
 
 -- an operand as one of the kind, or its error
 abbrev pub taken : (w : Want) → Option Outcome → Option (Result (Of w) CelError)
@@ -49,20 +52,36 @@ Limit Truth = Unit {0}
 Limit Whole = Unit {0}
 Limit Ordered = CelType
 
--- what a type says where it is one of the kind; Never is one of each
+-- what a type, whose level is given, says where it is one of the kind; Never is one of each
+abbrev pub limit_at : (w : Want) → CelType → CelType-F CelType → Option (Limit w)
+limit_at Any t _ = Some t
+limit_at Truth t CelType-F.Never = Some tt
+limit_at Truth t CelType-F.Bool = Some tt
+limit_at Whole t CelType-F.Never = Some tt
+limit_at Whole t CelType-F.Int = Some tt
+limit_at Ordered t CelType-F.Never = Some t
+limit_at Ordered t CelType-F.Bool = Some t
+limit_at Ordered t CelType-F.Int = Some t
+limit_at _ t _ = None
+
+-- what a type says where it is one of the kind
 abbrev pub limit_of : (w : Want) → CelType → Option (Limit w)
-limit_of Any t = Some t
-limit_of Truth type.Never = Some tt
-limit_of Truth type.Bool = Some tt
-limit_of Truth type.Int = None
-limit_of Whole type.Never = Some tt
-limit_of Whole type.Bool = None
-limit_of Whole type.Int = Some tt
-limit_of Ordered t = Some t
+limit_of w t = limit_at w t (out-CelType t)
+
+-- a level of the types whose values have an order
+abbrev pub IsOrderedLevel : CelType-F CelType → Type 0
+IsOrderedLevel CelType-F.Never = Unit {0}
+IsOrderedLevel CelType-F.Bool = Unit {0}
+IsOrderedLevel CelType-F.Int = Unit {0}
+IsOrderedLevel _ = ⊥
+
+-- a type whose values have an order
+abbrev pub IsOrdered : CelType → Type 0
+IsOrdered t = IsOrderedLevel (out-CelType t)
 
 -- a value of the kind within what its type says
 abbrev pub Within : (w : Want) → Limit w → Of w → Type 0
 Within Any t v = fits v t ≡ true
 Within Truth l b = Unit {0}
 Within Whole l n = Unit {0}
-Within Ordered t v = fits v t ≡ true
+Within Ordered t v = (fits v t ≡ true) × IsOrdered t

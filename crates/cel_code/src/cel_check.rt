@@ -12,8 +12,8 @@ mod tree;
 mod typed;
 
 pub use checker::check;
-pub use fault::{CheckError, TypeFault, TypeRule};
-pub use operator::{Made, Operator, Overload, is_truth};
+pub use fault::{CheckError, TypeFault, TypeRule, Untyped};
+pub use operator::{Made, Operator, Overload, is_ordered, is_truth, is_whole};
 pub use scope::Scope;
 pub use tree::{Form, TypedTree};
 pub use typed::Typed;

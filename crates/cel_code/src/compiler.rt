@@ -9,7 +9,7 @@ ghost use Rattle.cel_code.specs.Correct.{Computes};
 use crate::cel_check::{Form, Typed, TypedTree};
 use crate::image::{Image, Target};
 use crate::instr::Instr;
-use cel_value::{CelType, Value};
+use cel_value::{CelType, Value, copy_types, equal};
 use plain::Items;
 use std::alloc::{AllocError, Global};
 
@@ -22,7 +22,7 @@ pub fn compile(alloc: Global, typed: &Typed) -> Result<Image, AllocError>
     // In every fitting environment the expression has an error or a value of its type.
     ensures preserves { (slots : List Outcome) → IsTrue (slots_fit typed.now.slots slots) → IsTrue (outcome_fits (type_of typed.now.tree) (value_of typed.now.tree (outside slots))) }
 {
-    let slots = Items::from_slice(alloc, typed.slots.as_slice())?;
+    let slots = Items::from_vec(copy_types(alloc, typed.slots.as_slice())?);
     let mut draft = Draft::new(alloc);
     draft.emit(&typed.tree)?;
     draft.put(Instr::End)?;
@@ -37,7 +37,7 @@ pub fn compile(alloc: Global, typed: &Typed) -> Result<Image, AllocError>
         slots,
         constants,
         targets,
-        result: typed.tree.cel_type,
+        result: typed.tree.cel_type.copy(alloc)?,
         code,
     })
 }
@@ -88,28 +88,28 @@ impl Draft {
     }
 
     /// The number of a constant, which is added where it is not there.
-    fn intern(&mut self, value: Value) -> Result<usize, AllocError>
-        ensures { IfOk result (λ k. Interns (drafted self.old) (drafted self.new) value k) }
+    fn intern(&mut self, value: &Value) -> Result<usize, AllocError>
+        ensures { IfOk result (λ k. Interns (drafted self.old) (drafted self.new) value.now k) }
     {
         for (number, constant) in self.constants.as_slice().iter().enumerate() {
-            if *constant == value {
+            if equal(constant, value) {
                 return Ok(number);
             }
         }
         let number = self.constants.len();
-        self.constants.push(value)?;
+        self.constants.push(value.copy(self.alloc)?)?;
         Ok(number)
     }
 
     /// Jumps arrive at the next instruction, with a value of this type on the stack, or with nothing more. Where they
     /// do already, the wider type counts, which is that of the expression outside.
-    fn arrive(&mut self, top: Option<CelType>) -> Result<(), AllocError>
+    fn arrive(&mut self, top: Option<&CelType>) -> Result<(), AllocError>
         ensures { OnOk result (drafted self.new ≡ drafted self.old) }
     {
         let at = self.len();
-        let mut types = Items::from_slice(self.alloc, self.below.as_slice())?;
+        let mut types = Items::from_vec(copy_types(self.alloc, self.below.as_slice())?);
         if let Some(cel_type) = top {
-            types.push(cel_type)?;
+            types.push(cel_type.copy(self.alloc)?)?;
         }
         if let Some(last) = self.targets.pop() {
             if last.at != at {
@@ -126,7 +126,7 @@ impl Draft {
     {
         match &tree.form {
             Form::Literal(value) => {
-                let number = self.intern(*value)?;
+                let number = self.intern(value)?;
                 self.put(Instr::Const(number))
             }
             Form::Unary(operator, operand) => {
@@ -135,26 +135,26 @@ impl Draft {
             }
             Form::Binary(operator, left, right) => {
                 self.emit(left.get())?;
-                self.emit_over(left.get().cel_type, right.get())?;
+                self.emit_over(right.get(), &left.get().cel_type)?;
                 self.put(Instr::Op(operator.code()))
             }
             Form::And(left, right) => {
                 self.emit(left.get())?;
                 let test = self.len();
                 self.put(Instr::AndTest(0))?;
-                self.emit_over(left.get().cel_type, right.get())?;
+                self.emit_over(right.get(), &left.get().cel_type)?;
                 self.put(Instr::And)?;
                 self.patch(test, Instr::AndTest(self.len()));
-                self.arrive(Some(tree.cel_type))
+                self.arrive(Some(&tree.cel_type))
             }
             Form::Or(left, right) => {
                 self.emit(left.get())?;
                 let test = self.len();
                 self.put(Instr::OrTest(0))?;
-                self.emit_over(left.get().cel_type, right.get())?;
+                self.emit_over(right.get(), &left.get().cel_type)?;
                 self.put(Instr::Or)?;
                 self.patch(test, Instr::OrTest(self.len()));
-                self.arrive(Some(tree.cel_type))
+                self.arrive(Some(&tree.cel_type))
             }
             Form::Conditional(condition, yes, no) => {
                 self.emit_conditional(tree, condition.get(), yes.get(), no.get())
@@ -185,15 +185,15 @@ impl Draft {
         let end = self.len();
         self.patch(test, Instr::Cond(jump + 1, end));
         self.patch(jump, Instr::Jump(end));
-        self.arrive(Some(tree.cel_type))
+        self.arrive(Some(&tree.cel_type))
     }
 
     /// The instructions of an expression that is evaluated over an operand of a type.
     #[cycle(emit)]
-    fn emit_over(&mut self, left: CelType, tree: &TypedTree) -> Result<(), AllocError>
+    fn emit_over(&mut self, tree: &TypedTree, left: &CelType) -> Result<(), AllocError>
         ensures { OnOk result (Emits (drafted self.old) (drafted self.new) tree.now) }
     {
-        self.below.push(left)?;
+        self.below.push(left.copy(self.alloc)?)?;
         self.emit(tree)?;
         self.below.pop();
         Ok(())

@@ -9,3 +9,4 @@ pub mod Steps
 pub mod Turns
 pub mod Walking
 mod WorkedRows
+pub mod Meters

@@ -1,17 +1,18 @@
 -- The run of an accepted image.
-use Rattle.std.proofs.Common.{◌≡◌, ℕ, ◌+◌, ◌<◌, ◌≤◌, List, [], length, Some, refl, sym, ap, ◌∙◌, subst, arith}
+use Rattle.std.proofs.Common.{◌≡◌, ℕ, ◌+◌, ◌-◌, ◌^◌, ◌<◌, ◌≤◌, min, List, [], length, Some, refl, sym, ap, ◌∙◌, subst, arith}
 use Rattle.std.specs.Prelude.{slice_get}
 use Rattle.cel_code.specs.declared.instr.Instr.{Instr}
 use Rattle.cel_code.specs.declared.image.Image.{Image}
 use Rattle.cel_code.specs.Outcomes.{Outcome}
-use Rattle.cel_code.specs.Machine.{State, on, Ends, Stuck, act, step, inputs_of, Gets, Run}
+use Rattle.cel_code.specs.Machine.{State, on, Next, Goes, Ends, Stuck, act, step, inputs_of, Gets, Run}
 use Rattle.cel_machine.specs.declared.step.Move.{Move}
 use Rattle.cel_machine.specs.declared.step.Move.TheVariants.{GoesTo, EndsWith, IsStuckHere}
 use Rattle.cel_machine.specs.StackTypes.{Fits}
-use Rattle.cel_machine.specs.Paths.{path_cost, path_steps}
+use Rattle.cel_machine.specs.Paths.{charge_at, path_cost, path_steps}
+use Rattle.cel_machine.specs.Typed.{total, GoesOn}
 use Rattle.cel_machine.specs.Accepted.{IsAccepted, budget, max_count}
-use Rattle.cel_machine.specs.Follow.{next_of}
-use Rattle.cel_machine.proofs.Steps.{begins, gets_typed, one_left, runs_within}
+use Rattle.cel_machine.specs.Follow.{metered, next_of}
+use Rattle.cel_machine.proofs.Steps.{begins, gets_typed, one_left, runs_within, step_goes}
 use Rattle.cel_machine.proofs.Turns.{one_more, stepped}
 
 -- where the run is
@@ -41,6 +42,20 @@ module _ (p image : Image) (slots : List Outcome) (accepted : IsAccepted p) (is 
         cheap = omega (arith, w.charge s charged steps g, accepted.cheap);
       }
 
+  metered_next : (s : State) (n : Next) → total p (charge_at p) s ≤ budget → GoesOn p s n → metered n ≡ n
+  metered_next s (Goes charge to) le h =
+      let pays = h.2 (charge_at p) in
+      let c : min charge (2 ^ 64 - 1) ≡ charge = omega (arith, h.1) in
+      ap (λ k. Goes k to) c
+  metered_next s (Ends x) le h = refl
+  metered_next s Stuck le h = refl
+
+  metered_at : (s : State) (charged steps : ℕ) → Gets p slots (on 0 [] []) s charged steps → metered (step p slots s) ≡ step p slots s
+  metered_at s charged steps g =
+      let r = gets_typed p slots accepted.sound (on 0 [] []) s charged steps g (begins p slots accepted.sound) in
+      let a = r.1 in
+      metered_next s (step p slots s) (omega (arith, accepted.cheap)) (step_goes p slots accepted.sound s r.0)
+
   module _ (at : ℕ) (stack : List Outcome) (charged steps : ℕ) (g : Gets image slots (on 0 [] []) (on at stack []) charged steps) where
     gets : Gets p slots (on 0 [] []) (on at stack []) charged steps
     gets = subst (λ i. Gets i slots (on 0 [] []) (on at stack []) charged steps) is g
@@ -48,9 +63,13 @@ module _ (p image : Image) (slots : List Outcome) (accepted : IsAccepted p) (is 
     pub here : IsAt image at charged steps
     here = subst (λ i. IsAt i at charged steps) (sym is) (state_at (on at stack []) charged steps gets)
 
-    module _ (i : Instr) (m : Move) (stack' : List Outcome) (hi : slice_get image.code at ≡ Some i) (e : act (inputs_of image slots) i at stack [] ≡ next_of m stack' []) where
+    -- a step charges no more than the budget, so that its charge is counted whole
+    metered_is : metered (step image slots (on at stack [])) ≡ step image slots (on at stack [])
+    metered_is = subst (λ j. metered (step j slots (on at stack [])) ≡ step j slots (on at stack [])) (sym is) (metered_at (on at stack []) charged steps gets)
+
+    module _ (i : Instr) (m : Move) (stack' : List Outcome) (hi : slice_get image.code at ≡ Some i) (e : metered (act (inputs_of image slots) i at stack []) ≡ next_of m stack' []) where
       steps_to : step image slots (on at stack []) ≡ next_of m stack' []
-      steps_to = stepped image slots at i stack stack' m hi e
+      steps_to = sym metered_is ∙ stepped image slots at i stack stack' m hi e
 
       pub goes : (charge to : ℕ) → m ≡ GoesTo charge to → Gets image slots (on 0 [] []) (on to stack' []) (charged + charge) (steps + 1)
       goes charge to q = one_more image slots (on at stack []) (on to stack' []) charge charged steps (steps_to ∙ ap (λ n. next_of n stack' []) q) g

@@ -4,7 +4,7 @@ use Rattle.std.specs.Prelude.{Result, Ok, Err, slice_get}
 use Rattle.std.proofs.lemmas.Bool.{and_parts}
 use Rattle.cel_value.specs.declared.value.Value.{Value}
 use Rattle.cel_value.specs.declared.cel_type.CelType.{CelType}
-use Rattle.cel_value.specs.declared.cel_type.CelType.TheVariants as type
+use Rattle.cel_value.specs.declared.cel_type.CelType as type
 use Rattle.cel_value.specs.CelType.{assignable}
 use Rattle.cel_code.specs.declared.cel_check.fault.TypeRule.{TypeRule}
 use Rattle.cel_code.specs.declared.cel_check.operator.Operator.{Operator}
@@ -18,7 +18,7 @@ use Rattle.cel_code.specs.Meaning.{is_truth}
 use Rattle.cel_code.specs.Operators.{Row, One, Two, row, operator_of, type_of_one, type_of_two, greatest_of_one, greatest_of_two, at_one, at_two}
 use Rattle.cel_code.specs.Machine.{Inputs, Frame, State, on, Next, Goes, Ends, Stuck, push, constant, made, operate, operate_by, and_test, or_test, joined, join, branch, act, act_at, inputs_of, step, Gets, Stays, Moves}
 use Rattle.cel_machine.specs.declared.cel_verify.fault.VerifyRule.TheVariants.{WrongKind}
-use Rattle.cel_machine.specs.StackTypes.{StackTypes, all_assignable, Fits, AllFit, type_of_value}
+use Rattle.cel_machine.specs.StackTypes.{StackTypes, all_assignable, Fits, AllFit, constant_type}
 use Rattle.cel_machine.specs.Sound.{Falls, needs, every, jumps_of, is_target, given, row_rule, op_rule, constant_rule, enters, join_rule, end_rule, typed_rule, entered, rule_at, entry_in, entry_or, fallen, label_at, IsSound}
 use Rattle.cel_machine.specs.Paths.{row_charge, op_charge, charge_of, charge_in, goes_to, charge_at, IsIn}
 use Rattle.cel_machine.specs.Typed.{below_all, types_at, opens_at, FramesFit, Typed, total, GoesOn, HasRun, RunsWithin}
@@ -167,9 +167,10 @@ module _ (image : Image) (slots : List Outcome) (sound : IsSound image) where
   op_on None at i ts stack frames h ne goes le e m k = cc
   op_on (Some op) at i ts stack frames h ne goes le e m k = row_on (row op) (row_right op) at i ts stack frames h ne goes le e m k
 
-  const_on : (o : Option Value) (k at : ℕ) (ts : StackTypes) (stack : List Outcome) (frames : List Frame) → Here at (Const k) ts stack frames → typed_rule image (Const k) (opens_at image at) ts ≡ constant_rule o ts → (m : Option StackTypes) → constant_rule o ts ≡ Ok m → GoesOn image (on at stack frames) (push (constant o) at stack frames)
-  const_on None k at ts stack frames h e m q = cc
-  const_on (Some v) k at ts stack frames h e m q = falls at (Const k) ts stack frames h 0 (type_of_value v ∷ ts) (Ok v ∷ stack) (omega arith) e (λ q. cc) (inl refl) (constant_fits v, h.fits)
+  const_on : (o : Option Value) (t : Option CelType) (k at : ℕ) (ts : StackTypes) (stack : List Outcome) (frames : List Frame) → constant_type o ≡ t → Here at (Const k) ts stack frames → typed_rule image (Const k) (opens_at image at) ts ≡ constant_rule t ts → (m : Option StackTypes) → constant_rule t ts ≡ Ok m → GoesOn image (on at stack frames) (push (constant o) at stack frames)
+  const_on o None k at ts stack frames z h e m q = cc
+  const_on None (Some t) k at ts stack frames z h e m q = cc
+  const_on (Some v) (Some t) k at ts stack frames z h e m q = falls at (Const k) ts stack frames h 0 (t ∷ ts) (Ok v ∷ stack) (omega arith) e (λ q. cc) (inl refl) (constant_fits v t z, h.fits)
 
   and_test_on : (to at : ℕ) (t : CelType) (ts : StackTypes) (x : Outcome) (stack : List Outcome) (frames : List Frame) (s : Side) (es : StackTypes) → Here at (AndTest to) (t ∷ ts) (x ∷ stack) frames → side_of (Some x) ≡ Some s → entry_in image.targets to ≡ Some es → all_assignable (type.Bool ∷ ts) es ≡ true → typed_rule image (AndTest to) (opens_at image at) (t ∷ ts) ≡ Ok (Some (t ∷ ts)) → GoesOn image (on at (x ∷ stack) frames) (and_test (Some s) to at (x ∷ stack) frames)
   and_test_on to at t ts x stack frames (Ok true) es h b ee a e = falls at (AndTest to) (t ∷ ts) (x ∷ stack) frames h 1 (t ∷ ts) (x ∷ stack) (omega arith) e (λ q. cc) (inr (inl refl)) h.fits
@@ -213,7 +214,7 @@ module _ (image : Image) (slots : List Outcome) (sound : IsSound image) where
   end_on at (t ∷ []) (x ∷ stack) frames m h e = wider t image.result (Some x) (one_needs (assignable t image.result) (Ok None) m e).0 h.fits.0
 
   instr_goes : (i : Instr) (at : ℕ) (ts : StackTypes) (stack : List Outcome) (frames : List Frame) → Here at i ts stack frames → (m : Option StackTypes) → typed_rule image i (opens_at image at) ts ≡ Ok m → GoesOn image (on at stack frames) (act inputs i at stack frames)
-  instr_goes (Const k) at ts stack frames h m e = const_on (slice_get image.constants k) k at ts stack frames h refl m e
+  instr_goes (Const k) at ts stack frames h m e = const_on (slice_get image.constants k) (constant_type (slice_get image.constants k)) k at ts stack frames refl h refl m e
   instr_goes (Op o) at ts stack frames h m e = op_on (operator_of o) at (Op o) ts stack frames h (λ q. cc) (inl refl) (omega arith) refl m e
   instr_goes (AndTest to) at [] stack frames h m e = cc
   instr_goes (AndTest to) at (t ∷ ts) [] frames h m e = absurd h.fits

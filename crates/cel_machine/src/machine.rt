@@ -28,7 +28,7 @@ pub fn run(alloc: Global, program: &Program, slots: &Slots) -> Result<Run, Alloc
     let mut charged: u64 = 0;
     let mut steps: u64 = 0;
     while let Some(instr) = image.code.get(at) {
-        match step(image, *instr, at, &mut stack)? {
+        match step(alloc, image, *instr, at, &mut stack)? {
             Move::GoesTo(charge, to) => {
                 charged += charge;
                 steps += 1;

@@ -1,25 +1,32 @@
-ghost use Rattle.std.specs.Prelude.{◌≡◌, Some, neg_ℤ, ◌+ℤ◌, ◌-ℤ◌, ◌*ℤ◌, int_div, int_rem};
+ghost use Rattle.std.specs.Prelude.{◌≡◌, ◌-◌, ◌^◌, min, Some, neg_ℤ, ◌+ℤ◌, ◌-ℤ◌, ◌*ℤ◌, int_div, int_rem};
 ghost use Rattle.cel_code.specs.Operators.{row, at_one, at_two, int_or_overflow, divided, less as order_of, lesser_weight as weight_of_lesser, makes};
-ghost use Rattle.cel_machine.specs.Families.{IsArithmetic, IsOrder, equality_of, truth_where};
+ghost use Rattle.cel_code.specs.Meaning.{is_there};
+ghost use Rattle.cel_code.specs.Wants.{Ordered, taken};
+ghost use Rattle.cel_machine.specs.Families.{IsArithmetic, IsOrder, computed, equality_of, truth_where};
+ghost use Rattle.cel_machine.specs.Follow.{counted};
 
 use cel_code::cel_check::{Made, Operator};
 use cel_value::{CelError, Value, equal, weight};
 
 /// What an operator makes of one operand; nothing where it takes another count or another kind.
-pub fn on_one(op: Operator, x: Result<Value, CelError>) -> Option<Made>
-    ensures { result ≡ at_one (row op) (Some x) }
+pub fn on_one(op: Operator, x: &Result<Value, CelError>) -> Option<Made>
+    ensures { result ≡ at_one (row op) (Some x.now) }
 {
     match (op, x) {
-        (Operator::Not, Ok(Value::Bool(b))) => made(Ok(Value::Bool(!b)), 1),
-        (Operator::Negate, Ok(Value::Int(n))) => made(negated(n), 1),
-        (Operator::Not | Operator::Negate, Err(e)) => made(Err(e), 1),
+        (Operator::Not, Ok(Value::Bool(b))) => made(Ok(Value::Bool(!*b)), 1),
+        (Operator::Negate, Ok(Value::Int(n))) => made(negated(*n), 1),
+        (Operator::Not | Operator::Negate, Err(e)) => made(Err(*e), 1),
         _ => None,
     }
 }
 
 /// What an operator makes of two operands; nothing where it takes another count or other kinds.
-pub fn on_two(op: Operator, x: Result<Value, CelError>, y: Result<Value, CelError>) -> Option<Made>
-    ensures { result ≡ at_two (row op) (Some x) (Some y) }
+pub fn on_two(
+    op: Operator,
+    x: &Result<Value, CelError>,
+    y: &Result<Value, CelError>,
+) -> Option<Made>
+    ensures { result ≡ counted (at_two (row op) (Some x.now) (Some y.now)) }
 {
     match op {
         Operator::Not | Operator::Negate => None,
@@ -42,21 +49,33 @@ fn made(outcome: Result<Value, CelError>, charge: u64) -> Option<Made>
     Some(Made { outcome, charge })
 }
 
-fn arithmetic(op: Operator, x: Result<Value, CelError>, y: Result<Value, CelError>) -> Option<Made>
+fn arithmetic(
+    op: Operator,
+    x: &Result<Value, CelError>,
+    y: &Result<Value, CelError>,
+) -> Option<Made>
     requires { IsArithmetic op }
-    ensures { result ≡ at_two (row op) (Some x) (Some y) }
+    ensures { result ≡ counted (at_two (row op) (Some x.now) (Some y.now)) }
 {
     match (x, y) {
-        (Ok(Value::Bool(_)), _) | (_, Ok(Value::Bool(_))) => None,
-        (Err(e), _) | (Ok(_), Err(e)) => made(Err(e), 1),
-        (Ok(Value::Int(m)), Ok(Value::Int(n))) => match op {
-            Operator::Add => made(sum(m, n), 1),
-            Operator::Subtract => made(difference(m, n), 1),
-            Operator::Multiply => made(product(m, n), 1),
-            Operator::Divide => made(quotient(m, n), 1),
-            Operator::Remainder => made(remainder(m, n), 1),
-            _ => unreachable!(),
-        },
+        (Ok(Value::Int(m)), Ok(Value::Int(n))) => made(computed(op, *m, *n), 1),
+        (Ok(Value::Int(_)), Err(e)) => made(Err(*e), 1),
+        (Err(e), Ok(Value::Int(_)) | Err(_)) => made(Err(*e), 1),
+        _ => None,
+    }
+}
+
+fn computed(op: Operator, m: i64, n: i64) -> Result<Value, CelError>
+    requires { IsArithmetic op }
+    ensures { result ≡ computed op m n }
+{
+    match op {
+        Operator::Add => sum(m, n),
+        Operator::Subtract => difference(m, n),
+        Operator::Multiply => product(m, n),
+        Operator::Divide => quotient(m, n),
+        Operator::Remainder => remainder(m, n),
+        _ => unreachable!(),
     }
 }
 
@@ -120,27 +139,37 @@ fn remainder(m: i64, n: i64) -> Result<Value, CelError>
     }
 }
 
-fn equality(is: bool, x: Result<Value, CelError>, y: Result<Value, CelError>) -> Option<Made>
-    ensures { result ≡ at_two (equality_of is) (Some x) (Some y) }
+fn equality(is: bool, x: &Result<Value, CelError>, y: &Result<Value, CelError>) -> Option<Made>
+    ensures { result ≡ counted (at_two (equality_of is) (Some x.now) (Some y.now)) }
 {
     match (x, y) {
-        (Err(e), _) | (Ok(_), Err(e)) => made(Err(e), 1),
-        (Ok(v), Ok(w)) => made(Ok(Value::Bool(equal(&v, &w) == is)), lesser_weight(v, w)),
+        (Err(e), _) | (Ok(_), Err(e)) => made(Err(*e), 1),
+        (Ok(v), Ok(w)) => made(Ok(Value::Bool(equal(v, w) == is)), lesser_weight(v, w)),
     }
 }
 
-fn lesser_weight(v: Value, w: Value) -> u64
-    ensures { result ≡ weight_of_lesser v w }
+fn lesser_weight(v: &Value, w: &Value) -> u64
+    ensures { result ≡ min (weight_of_lesser v.now w.now) (2 ^ 64 - 1) }
 {
-    weight(&v).min(weight(&w))
+    weight(v).min(weight(w))
 }
 
-fn order(op: Operator, x: Result<Value, CelError>, y: Result<Value, CelError>) -> Option<Made>
-    requires { IsOrder op }
-    ensures { result ≡ at_two (row op) (Some x) (Some y) }
+/// Whether an outcome may be an operand of a comparison by order.
+fn has_order(x: &Result<Value, CelError>) -> bool
+    ensures { result ≡ is_there (taken Ordered (Some x.now)) }
 {
+    matches!(x, Ok(Value::Bool(_) | Value::Int(_)) | Err(_))
+}
+
+fn order(op: Operator, x: &Result<Value, CelError>, y: &Result<Value, CelError>) -> Option<Made>
+    requires { IsOrder op }
+    ensures { result ≡ counted (at_two (row op) (Some x.now) (Some y.now)) }
+{
+    if !(has_order(x) && has_order(y)) {
+        return None;
+    }
     match (x, y) {
-        (Err(e), _) | (Ok(_), Err(e)) => made(Err(e), 1),
+        (Err(e), _) | (Ok(_), Err(e)) => made(Err(*e), 1),
         (Ok(v), Ok(w)) => match op {
             Operator::Less => truth(less(v, w), true, lesser_weight(v, w)),
             Operator::AtMost => truth(less(w, v), false, lesser_weight(v, w)),
@@ -151,11 +180,11 @@ fn order(op: Operator, x: Result<Value, CelError>, y: Result<Value, CelError>) -
     }
 }
 
-fn less(v: Value, w: Value) -> Option<bool>
-    ensures { result ≡ order_of v w }
+fn less(v: &Value, w: &Value) -> Option<bool>
+    ensures { result ≡ order_of v.now w.now }
 {
     match (v, w) {
-        (Value::Bool(a), Value::Bool(b)) => Some(!a && b),
+        (Value::Bool(a), Value::Bool(b)) => Some(!*a && *b),
         (Value::Int(m), Value::Int(n)) => Some(m < n),
         _ => None,
     }

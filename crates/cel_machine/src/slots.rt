@@ -13,9 +13,13 @@ pub struct Slots {
 
 impl Model for Slots {
     ghost use Rattle.std.specs.Prelude.{List};
+    ghost use Rattle.std.specs.Coded.{codes};
+    ghost use Rattle.cel_value.specs.contracts.value.Value as cel_value;
     ghost use Rattle.cel_code.specs.Outcomes.{Outcome};
 
     ghost Value = { List Outcome };
+
+    ghost coded = { Prim.hlevel (codes, cel_value.the_row.coded) };
 
     ghost view = { λ s. s.values.items };
 }
@@ -41,15 +45,19 @@ pub fn slots_fit(program: &Program, values: &[Result<Value, CelError>]) -> bool
 fn each_fits(types: &[CelType], values: &[Result<Value, CelError>]) -> bool
     ensures { result ≡ fits_slots types.now values.now }
 {
-    if types.len() != values.len() {
-        return false;
-    }
-    for at in 0..types.len() {
-        if !is_of(&values[at], &types[at]) {
-            return false;
+    let mut rest = values;
+    for cel_type in types {
+        match rest {
+            [value, more @ ..] => {
+                if !is_of(value, cel_type) {
+                    return false;
+                }
+                rest = more;
+            }
+            [] => return false,
         }
     }
-    true
+    rest.is_empty()
 }
 
 fn is_of(outcome: &Result<Value, CelError>, cel_type: &CelType) -> bool

@@ -1,4 +1,4 @@
-ghost use Rattle.std.specs.Prelude.{◌≡◌, ◌∷◌, [], OnOk, MatchOption};
+ghost use Rattle.std.specs.Prelude.{◌≡◌, ◌∷◌, [], OnOk, MatchOption, option_copied};
 ghost use Rattle.cel_machine.specs.Follow.{top_of};
 
 use cel_value::{CelError, Value};
@@ -13,9 +13,13 @@ pub struct Stack {
 
 impl Model for Stack {
     ghost use Rattle.std.specs.Prelude.{List, reverse};
+    ghost use Rattle.std.specs.Coded.{codes};
+    ghost use Rattle.cel_value.specs.contracts.value.Value as cel_value;
     ghost use Rattle.cel_code.specs.Outcomes.{Outcome};
 
     ghost Value = { List Outcome };
+
+    ghost coded = { Prim.hlevel (codes, cel_value.the_row.coded) };
 
     ghost view = { λ s. reverse s.items.items };
 }
@@ -42,9 +46,9 @@ impl Stack {
         self.items.pop()
     }
 
-    pub fn top(&self) -> Option<Result<Value, CelError>>
-        ensures { result ≡ top_of self.now }
+    pub fn top(&self) -> Option<&Result<Value, CelError>>
+        ensures { option_copied result ≡ top_of self.now }
     {
-        self.items.last().copied()
+        self.items.last()
     }
 }

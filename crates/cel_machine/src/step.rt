@@ -1,18 +1,20 @@
-ghost use Rattle.std.specs.Prelude.{◌≡◌, ◌+◌, ◌<◌, ◌^◌, List, IfOk, Some, is_none, slice_get};
+ghost use Rattle.std.specs.Prelude.{◌≡◌, ◌+◌, ◌<◌, ◌^◌, List, IfOk, IsTrue, ◌↔◌, Some, Ok, slice_get};
+ghost use Rattle.cel_value.specs.declared.value.Value as value;
+ghost use Rattle.cel_code.specs.Meaning.{is_there};
 ghost use Rattle.cel_code.specs.Outcomes.{Outcome, Side};
 ghost use Rattle.cel_code.specs.Wants.{side_of};
 ghost use Rattle.cel_code.specs.Machine.{Frame, act, inputs_of, push, constant as constant_of, operate_by, made as made_next, join as sides_joined};
-ghost use Rattle.cel_machine.specs.Follow.{next_of, test_of, join_of, sides_of, branch_of};
+ghost use Rattle.cel_machine.specs.Follow.{metered, metered_one, metered_two, next_of, test_of, join_of, sides_of, branch_of};
 
 use crate::operate::{on_one, on_two};
 use crate::stack::Stack;
 use cel_code::cel_check::{Made, Operator};
 use cel_code::{Image, Instr};
 use cel_value::{CelError, Value};
-use std::alloc::AllocError;
+use std::alloc::{AllocError, Global};
 
 /// Where one instruction leads.
-#[derive(Clone, Copy, Debug)]
+#[derive(Debug, Drop)]
 pub enum Move {
     /// To an instruction, for a charge.
     GoesTo(u64, usize),
@@ -21,12 +23,18 @@ pub enum Move {
 }
 
 /// One instruction.
-pub fn step(image: &Image, instr: Instr, at: usize, stack: &mut Stack) -> Result<Move, AllocError>
+pub fn step(
+    alloc: Global,
+    image: &Image,
+    instr: Instr,
+    at: usize,
+    stack: &mut Stack,
+) -> Result<Move, AllocError>
     requires { at + 1 < 2 ^ 64 }
-    ensures { IfOk result (λ m. (slots : List Outcome) (frames : List Frame) → act (inputs_of image.now slots) instr at stack.old frames ≡ next_of m stack.new frames) }
+    ensures { IfOk result (λ m. (slots : List Outcome) (frames : List Frame) → metered (act (inputs_of image.now slots) instr at stack.old frames) ≡ next_of m stack.new frames) }
 {
     match instr {
-        Instr::Const(number) => constant(image, number, at, stack),
+        Instr::Const(number) => constant(alloc, image, number, at, stack),
         Instr::Op(code) => match Operator::from_code(code) {
             Some(op) => operate(op, at, stack),
             None => Ok(Move::IsStuckHere),
@@ -37,38 +45,62 @@ pub fn step(image: &Image, instr: Instr, at: usize, stack: &mut Stack) -> Result
         Instr::Or => join(stack, false, at),
         Instr::Cond(if_false, if_error) => branch(stack, if_false, if_error, at),
         Instr::Jump(to) => Ok(Move::GoesTo(0, to)),
-        Instr::End => Ok(match stack.top() {
+        Instr::End => Ok(match stack.pop() {
             Some(x) => Move::EndsWith(x),
             None => Move::IsStuckHere,
         }),
     }
 }
 
-fn constant(image: &Image, number: usize, at: usize, stack: &mut Stack) -> Result<Move, AllocError>
+fn constant(
+    alloc: Global,
+    image: &Image,
+    number: usize,
+    at: usize,
+    stack: &mut Stack,
+) -> Result<Move, AllocError>
     requires { at + 1 < 2 ^ 64 }
-    ensures { IfOk result (λ m. (frames : List Frame) → push (constant_of (slice_get image.now.constants number)) at stack.old frames ≡ next_of m stack.new frames) }
+    ensures { IfOk result (λ m. (frames : List Frame) → metered (push (constant_of (slice_get image.now.constants number)) at stack.old frames) ≡ next_of m stack.new frames) }
 {
     let Some(value) = image.constants.get(number) else {
         return Ok(Move::IsStuckHere);
     };
-    stack.push(Ok(*value))?;
+    stack.push(Ok(value.copy(alloc)?))?;
     Ok(Move::GoesTo(0, at + 1))
 }
 
 fn operate(op: Operator, at: usize, stack: &mut Stack) -> Result<Move, AllocError>
     requires { at + 1 < 2 ^ 64 }
-    ensures { IfOk result (λ m. (frames : List Frame) → operate_by (Some op) at stack.old frames ≡ next_of m stack.new frames) }
+    ensures { IfOk result (λ m. (frames : List Frame) → metered (operate_by (Some op) at stack.old frames) ≡ next_of m stack.new frames) }
+{
+    match op {
+        Operator::Not => operate_one(op, at, stack),
+        Operator::Negate => operate_one(op, at, stack),
+        _ => operate_two(op, at, stack),
+    }
+}
+
+fn operate_one(op: Operator, at: usize, stack: &mut Stack) -> Result<Move, AllocError>
+    requires { at + 1 < 2 ^ 64 }
+    ensures { IfOk result (λ m. (frames : List Frame) → metered_one op at stack.old frames ≡ next_of m stack.new frames) }
+{
+    let Some(x) = stack.pop() else {
+        return Ok(Move::IsStuckHere);
+    };
+    finish(on_one(op, &x), at, stack)
+}
+
+fn operate_two(op: Operator, at: usize, stack: &mut Stack) -> Result<Move, AllocError>
+    requires { at + 1 < 2 ^ 64 }
+    ensures { IfOk result (λ m. (frames : List Frame) → metered_two op at stack.old frames ≡ next_of m stack.new frames) }
 {
     let Some(y) = stack.pop() else {
         return Ok(Move::IsStuckHere);
     };
-    if matches!(op, Operator::Not | Operator::Negate) {
-        return finish(on_one(op, y), at, stack);
-    }
     let Some(x) = stack.pop() else {
         return Ok(Move::IsStuckHere);
     };
-    finish(on_two(op, x, y), at, stack)
+    finish(on_two(op, &x, &y), at, stack)
 }
 
 fn finish(made: Option<Made>, at: usize, stack: &mut Stack) -> Result<Move, AllocError>
@@ -85,10 +117,10 @@ fn finish(made: Option<Made>, at: usize, stack: &mut Stack) -> Result<Move, Allo
 // The jump of a test, which is taken where the top is this truth value.
 fn test(stack: &Stack, ends: bool, to: usize, at: usize) -> Move
     requires { at + 1 < 2 ^ 64 }
-    ensures { (frames : List Frame) → test_of ends stack.now to at frames ≡ next_of result stack.now frames }
+    ensures { (frames : List Frame) → metered (test_of ends stack.now to at frames) ≡ next_of result stack.now frames }
 {
     match stack.top() {
-        Some(Ok(Value::Bool(b))) if b == ends => Move::GoesTo(1, to),
+        Some(Ok(Value::Bool(b))) if *b == ends => Move::GoesTo(1, to),
         Some(Ok(Value::Bool(_)) | Err(_)) => Move::GoesTo(1, at + 1),
         _ => Move::IsStuckHere,
     }
@@ -97,7 +129,7 @@ fn test(stack: &Stack, ends: bool, to: usize, at: usize) -> Move
 // Both sides of `&&`, where `all` is true, or of `||`.
 fn join(stack: &mut Stack, all: bool, at: usize) -> Result<Move, AllocError>
     requires { at + 1 < 2 ^ 64 }
-    ensures { IfOk result (λ m. (frames : List Frame) → join_of all stack.old at frames ≡ next_of m stack.new frames) }
+    ensures { IfOk result (λ m. (frames : List Frame) → metered (join_of all stack.old at frames) ≡ next_of m stack.new frames) }
 {
     let Some(y) = stack.pop() else {
         return Ok(Move::IsStuckHere);
@@ -105,17 +137,23 @@ fn join(stack: &mut Stack, all: bool, at: usize) -> Result<Move, AllocError>
     let Some(x) = stack.pop() else {
         return Ok(Move::IsStuckHere);
     };
-    if is_int(x) || is_int(y) {
+    if !(is_side(&x) && is_side(&y)) {
         return Ok(Move::IsStuckHere);
     }
     stack.push(joined(all, x, y))?;
     Ok(Move::GoesTo(0, at + 1))
 }
 
-fn is_int(x: Result<Value, CelError>) -> bool
-    ensures { result ≡ is_none (side_of (Some x)) }
+fn is_side(x: &Result<Value, CelError>) -> bool
+    ensures { result ≡ is_there (side_of (Some x.now)) }
 {
-    matches!(x, Ok(Value::Int(_)))
+    matches!(x, Ok(Value::Bool(_)) | Err(_))
+}
+
+fn is_bool(x: &Result<Value, CelError>, truth: bool) -> bool
+    ensures { IsTrue result ↔ (x.now ≡ Ok (value.Bool truth)) }
+{
+    matches!(x, Ok(Value::Bool(b)) if *b == truth)
 }
 
 fn joined(
@@ -126,9 +164,8 @@ fn joined(
     requires { (s t : Side) × (side_of (Some x) ≡ Some s) × (side_of (Some y) ≡ Some t) }
     ensures { sides_joined (sides_of all) (side_of (Some x)) (side_of (Some y)) ≡ Some result }
 {
-    let ends = Ok(Value::Bool(!all));
-    if x == ends || y == ends {
-        return ends;
+    if is_bool(&x, !all) || is_bool(&y, !all) {
+        return Ok(Value::Bool(!all));
     }
     if x.is_err() { x } else { y }
 }
@@ -140,7 +177,7 @@ fn branch(
     at: usize,
 ) -> Result<Move, AllocError>
     requires { at + 1 < 2 ^ 64 }
-    ensures { IfOk result (λ m. (frames : List Frame) → branch_of if_false if_error stack.old at frames ≡ next_of m stack.new frames) }
+    ensures { IfOk result (λ m. (frames : List Frame) → metered (branch_of if_false if_error stack.old at frames) ≡ next_of m stack.new frames) }
 {
     match stack.pop() {
         Some(Ok(Value::Bool(true))) => Ok(Move::GoesTo(1, at + 1)),

@@ -1,7 +1,7 @@
 use crate::cel_verify::{Program, VerifyError, VerifyFault, VerifyRule, verify};
 use crate::{Run, Slots, run, slots_fit};
 use cel_code::{Image, Instr, Target};
-use cel_value::{CelError, CelType, Value};
+use cel_value::{CelError, CelType, Value, copy_types};
 use plain::Items;
 use std::alloc::{AllocError, Global};
 use std::process::Abort;
@@ -14,9 +14,13 @@ fn image(
     targets: Items<Target>,
     code: &[Instr],
 ) -> Result<Image, AllocError> {
+    let mut held = Items::new(alloc);
+    for constant in constants {
+        held.push(constant.copy(alloc)?)?;
+    }
     Ok(Image {
         slots: Items::new(alloc),
-        constants: Items::from_slice(alloc, constants)?,
+        constants: held,
         targets,
         result: outcome,
         code: Items::from_slice(alloc, code)?,
@@ -26,7 +30,7 @@ fn image(
 fn target(alloc: Global, at: usize, types: &[CelType]) -> Result<Target, AllocError> {
     Ok(Target {
         at,
-        types: Items::from_slice(alloc, types)?,
+        types: Items::from_vec(copy_types(alloc, types)?),
     })
 }
 
@@ -74,7 +78,7 @@ fn a_sum_charges_one(rt: HostRuntime) -> Result<(), Fail> {
         &code,
     )?;
     let ended = run_of(&rt, rt.alloc(), sum)?;
-    assert_eq!(rt; ended.outcome, Ok(Value::Int(42)));
+    assert!(rt; matches!(&ended.outcome, Ok(Value::Int(42))));
     assert_eq!(rt; ended.charged, 1);
     assert_eq!(rt; ended.steps, 4);
     Ok(())
@@ -109,7 +113,7 @@ fn each_node_is_charged(rt: HostRuntime) -> Result<(), Fail> {
     let targets = one_target(rt.alloc(), 13, &[CelType::Bool])?;
     let both = image(rt.alloc(), CelType::Bool, &constants, targets, &code)?;
     let ended = run_of(&rt, rt.alloc(), both)?;
-    assert_eq!(rt; ended.outcome, Ok(Value::Bool(true)));
+    assert!(rt; matches!(&ended.outcome, Ok(Value::Bool(true))));
     assert_eq!(rt; ended.charged, 6);
     Ok(())
 }
@@ -132,7 +136,7 @@ fn an_absorbed_error_is_charged(rt: HostRuntime) -> Result<(), Fail> {
     let targets = one_target(rt.alloc(), 8, &[CelType::Bool])?;
     let either = image(rt.alloc(), CelType::Bool, &constants, targets, &code)?;
     let ended = run_of(&rt, rt.alloc(), either)?;
-    assert_eq!(rt; ended.outcome, Ok(Value::Bool(true)));
+    assert!(rt; matches!(&ended.outcome, Ok(Value::Bool(true))));
     assert_eq!(rt; ended.charged, 3);
     assert_eq!(rt; ended.steps, 9);
     Ok(())
@@ -156,7 +160,7 @@ fn a_false_left_ends_a_conjunction(rt: HostRuntime) -> Result<(), Fail> {
     let targets = one_target(rt.alloc(), 8, &[CelType::Bool])?;
     let both = image(rt.alloc(), CelType::Bool, &constants, targets, &code)?;
     let ended = run_of(&rt, rt.alloc(), both)?;
-    assert_eq!(rt; ended.outcome, Ok(Value::Bool(false)));
+    assert!(rt; matches!(&ended.outcome, Ok(Value::Bool(false))));
     assert_eq!(rt; ended.charged, 1);
     assert_eq!(rt; ended.steps, 3);
     Ok(())
@@ -182,7 +186,7 @@ fn an_error_of_a_condition_goes_behind_both_branches(rt: HostRuntime) -> Result<
     targets.push(target(rt.alloc(), 9, &[CelType::Int])?)?;
     let choice = image(rt.alloc(), CelType::Int, &constants, targets, &code)?;
     let ended = run_of(&rt, rt.alloc(), choice)?;
-    assert_eq!(rt; ended.outcome, Err(CelError::DivideByZero));
+    assert!(rt; matches!(&ended.outcome, Err(CelError::DivideByZero)));
     assert_eq!(rt; ended.charged, 3);
     Ok(())
 }
@@ -297,13 +301,15 @@ fn slots_hold_values_of_their_types_and_errors(rt: HostRuntime) -> Result<(), Fa
     let a = rt.alloc();
     let code = [Instr::Const(0), Instr::End];
     let mut taking = image(a, CelType::Int, &[Value::Int(1)], Items::new(a), &code)?;
-    taking.slots = Items::from_slice(a, &[CelType::Int, CelType::Bool])?;
+    taking.slots = Items::from_vec(copy_types(a, &[CelType::Int, CelType::Bool])?);
     let program = program_of(&rt, a, taking);
-    let fitting = [Ok(Value::Int(1)), Err(CelError::Overflow)];
+    let mut fitting = Vec::new(a);
+    fitting.push(Ok(Value::Int(1)))?;
+    fitting.push(Err(CelError::Overflow))?;
     assert!(rt; slots_fit(&program, &fitting));
     assert!(rt; !slots_fit(&program, &[Ok(Value::Int(1)), Ok(Value::Int(1))]));
     assert!(rt; !slots_fit(&program, &[Ok(Value::Int(1))]));
-    let slots = Slots::new(&program, fitting.to_vec(a)?);
+    let slots = Slots::new(&program, fitting);
     assert_eq!(rt; run(a, &program, &slots)?.steps, 2);
     assert_eq!(rt; program.image().constants.len(), 1);
     Ok(())

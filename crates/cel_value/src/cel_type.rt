@@ -1,62 +1,148 @@
-ghost use Rattle.std.specs.Prelude.{◌≡◌, ◌≤◌, IsTrue, IfSome};
-ghost use Rattle.cel_value.specs.declared.value.Value.{Value};
-ghost use Rattle.cel_value.specs.Value.{weight_of};
-ghost use Rattle.cel_value.specs.CelType.{fits, greatest_of, assignable, join};
+ghost use Rattle.std.specs.Prelude.{◌≡◌, min, IfOk};
+ghost use Rattle.cel_value.specs.Greatest.{greatest_of, fields_greatest_of};
 
-use crate::value::Value;
+use crate::text_length::{tenths, text_weight};
+use plain::{Boxed, Keyed, TextMap};
+use std::alloc::{AllocError, Global};
 
-/// The type of an expression (cel-spec, "Types").
-#[derive(Clone, Copy, Debug, PartialEq, Eq)]
+/// A field of an object type.
+#[derive(Debug, Drop)]
+pub struct Field<T> {
+    /// Whether each object has it.
+    pub required: bool,
+    pub cel_type: T,
+}
+
+/// The type of an expression, with the limits of its values (cel-spec, "Types").
+#[derive(Debug, Drop)]
 pub enum CelType {
-    /// No value has this type: it is the type of what is known to be an error.
+    /// No value has this type: it is the type of what is known to be an error, and of the items of `[]`.
     Never,
+    Null,
     Bool,
     Int,
+    Uint,
+    /// Texts of at most `max` code points.
+    Text {
+        max: u32,
+    },
+    /// Lists of at most `max` items. A list that is not plain stands for a set or an associative list.
+    List {
+        max: u32,
+        plain: bool,
+        item: Boxed<CelType>,
+    },
+    /// Maps of at most `max` entries, with keys of at most `key_max` code points.
+    Map {
+        max: u32,
+        key_max: u32,
+        item: Boxed<CelType>,
+    },
+    /// Objects with no other field than these, which stand by name, each name once.
+    Object {
+        fields: TextMap<Field<CelType>>,
+    },
+    /// Null, and what has the type inside.
+    Nullable(Boxed<CelType>),
+    /// A value that no operator reads.
+    Opaque,
 }
 
-/// Whether a value is of a type; what fits weighs at most what the type allows.
-pub fn fits(value: &Value, cel_type: &CelType) -> bool
-    ensures exact { result ≡ fits value.now cel_type.now }
-    ensures bounded { IsTrue result → weight_of value.now ≤ greatest_of cel_type.now }
-{
-    matches!(
-        (value, cel_type),
-        (Value::Bool(_), CelType::Bool) | (Value::Int(_), CelType::Int)
-    )
-}
-
-/// The most that a value of a type weighs.
+/// The greatest weight of a type's values, or the greatest u64 where that is less.
+#[cycle(max_weight)]
 pub fn max_weight(cel_type: &CelType) -> u64
-    ensures { result ≡ greatest_of cel_type.now }
+    ensures { result ≡ min (greatest_of cel_type.now) u64.MAX }
 {
     match cel_type {
-        CelType::Never | CelType::Bool | CelType::Int => 1,
+        CelType::Text { max } => 1 + tenths(u64::from(*max)),
+        CelType::List { max, item, .. } => max_weight(item.get())
+            .saturating_mul(u64::from(*max))
+            .saturating_add(1),
+        CelType::Map { max, key_max, item } => max_weight(item.get())
+            .saturating_add(1 + tenths(u64::from(*key_max)))
+            .saturating_mul(u64::from(*max))
+            .saturating_add(1),
+        CelType::Object { fields } => fields_max_weight(fields).saturating_add(1),
+        CelType::Nullable(item) => max_weight(item.get()),
+        _ => 1,
     }
 }
 
-/// Whether what has the first type may stand where the second is asked.
-pub fn assignable(from: &CelType, to: &CelType) -> bool
-    ensures exact { result ≡ assignable from.now to.now }
-    ensures sound { IsTrue result → (value : Value) → IsTrue (fits value from.now) → IsTrue (fits value to.now) }
-    ensures limits { IsTrue result → greatest_of from.now ≤ greatest_of to.now }
+#[cycle(max_weight)]
+fn fields_max_weight(fields: &TextMap<Field<CelType>>) -> u64
+    ensures { result ≡ min (fields_greatest_of fields.now) u64.MAX }
 {
-    matches!(
-        (from, to),
-        (CelType::Never, _) | (CelType::Bool, CelType::Bool) | (CelType::Int, CelType::Int)
-    )
+    let mut total: u64 = 0;
+    for field in fields.as_slice() {
+        total = total
+            .saturating_add(text_weight(field.key.as_str()))
+            .saturating_add(max_weight(&field.value.cel_type));
+    }
+    total
 }
 
-/// The type of what has one of two types, if there is one.
-pub fn join(left: &CelType, right: &CelType) -> Option<CelType>
-    ensures exact { result ≡ join left.now right.now }
-    ensures takes_left { IfSome result (λ t. IsTrue (assignable left.now t)) }
-    ensures takes_right { IfSome result (λ t. IsTrue (assignable right.now t)) }
+impl CelType {
+    /// An equal type, in memory of its own.
+    #[cycle(copy_type)]
+    pub fn copy(&self, alloc: Global) -> Result<CelType, AllocError>
+        ensures { IfOk result (λ cel_type. cel_type ≡ self.now) }
+    {
+        match self {
+            CelType::Never => Ok(CelType::Never),
+            CelType::Null => Ok(CelType::Null),
+            CelType::Bool => Ok(CelType::Bool),
+            CelType::Int => Ok(CelType::Int),
+            CelType::Uint => Ok(CelType::Uint),
+            CelType::Text { max } => Ok(CelType::Text { max: *max }),
+            CelType::List { max, plain, item } => Ok(CelType::List {
+                max: *max,
+                plain: *plain,
+                item: Boxed::new(alloc, item.get().copy(alloc)?)?,
+            }),
+            CelType::Map { max, key_max, item } => Ok(CelType::Map {
+                max: *max,
+                key_max: *key_max,
+                item: Boxed::new(alloc, item.get().copy(alloc)?)?,
+            }),
+            CelType::Object { fields } => Ok(CelType::Object {
+                fields: copy_fields(alloc, fields)?,
+            }),
+            CelType::Nullable(item) => {
+                Ok(CelType::Nullable(Boxed::new(alloc, item.get().copy(alloc)?)?))
+            }
+            CelType::Opaque => Ok(CelType::Opaque),
+        }
+    }
+}
+
+#[cycle(copy_type)]
+fn copy_fields(
+    alloc: Global,
+    fields: &TextMap<Field<CelType>>,
+) -> Result<TextMap<Field<CelType>>, AllocError>
+    ensures { IfOk result (λ copies. copies ≡ fields.now) }
 {
-    if assignable(left, right) {
-        return Some(*right);
+    let entries = fields.as_slice();
+    let mut copies = Vec::with_capacity(alloc, entries.len())?;
+    for field in entries {
+        copies.push(Keyed {
+            key: field.key.copy()?,
+            value: Field {
+                required: field.value.required,
+                cel_type: field.value.cel_type.copy(alloc)?,
+            },
+        })?;
     }
-    if assignable(right, left) {
-        return Some(*left);
+    Ok(TextMap::from_vec(copies))
+}
+
+/// Equal types in their order, in memory of their own.
+pub fn copy_types(alloc: Global, types: &[CelType]) -> Result<Vec<CelType>, AllocError>
+    ensures { IfOk result (λ copies. copies.items ≡ types.now) }
+{
+    let mut copies = Vec::with_capacity(alloc, types.len())?;
+    for cel_type in types {
+        copies.push(cel_type.copy(alloc)?)?;
     }
-    None
+    Ok(copies)
 }

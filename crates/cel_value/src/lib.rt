@@ -1,16 +1,29 @@
-//! Types, values and errors of CEL, as far as truth values and signed integers go.
+//! Types, values and errors of CEL, with the limits that make a rule's cost known before it runs.
 //!
-//! [`fits`] tells whether a value is of a type, [`assignable`] whether each value of one type is of another, and
-//! [`join`] is the least type above two. [`weight`] counts what a value weighs in a charge, and no value that fits a
-//! type weighs more than the type's [`max_weight`]. [`equal`] is CEL's `==`.
+//! [`fits`] tells whether a value is of a type, and no value that fits a type weighs more than the type's greatest
+//! weight: [`weight`] counts the one and [`max_weight`] the other, up to the greatest u64. [`assignable`] tells
+//! whether what has one type may stand where another is asked, and what fits the first then fits the second.
+//! [`join`] is the type of what has one of two types: each may stand where it is asked. [`equal`] is CEL's `==`, and
+//! [`Value::copy`] and [`CelType::copy`] answer what they were given, in memory of its own. A length of a text is
+//! [`code_points`], and [`tenths`] what is charged for it.
 #![tactic(auto)]
 
+mod assigning;
 mod cel_error;
 mod cel_type;
+mod equality;
+mod fitting;
+mod joining;
 #[cfg(test)]
 mod tests;
+mod text_length;
 mod value;
 
+pub use assigning::assignable;
 pub use cel_error::CelError;
-pub use cel_type::{CelType, assignable, fits, join, max_weight};
-pub use value::{Value, equal, weight};
+pub use cel_type::{CelType, Field, copy_types, max_weight};
+pub use equality::equal;
+pub use fitting::fits;
+pub use joining::join;
+pub use text_length::{code_points, tenths};
+pub use value::{Value, weight};

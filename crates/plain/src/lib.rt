@@ -12,4 +12,4 @@ mod text_map;
 
 pub use sqlite_items::{Boxed, Items};
 pub use text::{Keyed, Text};
-pub use text_map::TextMap;
+pub use text_map::{TextMap, is_in_key_order};

@@ -1,6 +1,6 @@
 -- Lines that are printed, worked out.
 use Rattle.std.proofs.Common.{◌≡◌, [], ◌∷◌, ◌++◌, codes, decimal, true, negsuc, refl}
-use Rattle.cel_value.specs.declared.value.Value.TheVariants as value
+use Rattle.cel_value.specs.declared.value.Value as value
 use Rattle.cel_value.specs.declared.cel_error.CelError.TheVariants as error
 use Rattle.cel_lex.specs.declared.fault.LexFaultKind.TheVariants as lexing
 use Rattle.cel_parse.specs.declared.fault.ParseFault.TheVariants as parsing
@@ -9,9 +9,11 @@ use Rattle.vap_cli.specs.declared.answer.Answer.TheVariants as answer
 use Rattle.vap_cli.specs.Answer.{answer_line}
 
 true_line : answer_line (answer.Value (value.Bool true)) ≡ codes "true" ++ 10 ∷ []
+unfolding value.out-Value denote.Hole.Carrier.out
 true_line = refl
 
 negative_line : answer_line (answer.Value (value.Int (negsuc 6))) ≡ codes "-" ++ (decimal 7 ++ 10 ∷ [])
+unfolding value.out-Value denote.Hole.Carrier.out
 negative_line = refl
 
 error_line : answer_line (answer.Error error.DivideByZero) ≡ codes "error: DivideByZero" ++ 10 ∷ []

@@ -1,8 +1,8 @@
 -- What `eval` prints.
 use Rattle.std.specs.Prelude.{ℕ, List, [], ◌∷◌, ◌++◌, codes, decimal, if◌then◌else◌}
 use Rattle.std.specs.Fmt.{signed_decimal}
-use Rattle.cel_value.specs.declared.value.Value.{Value}
-use Rattle.cel_value.specs.declared.value.Value.TheVariants.{Bool, Int}
+use Rattle.cel_value.specs.declared.value.Value.{Value, out-Value}
+use Rattle.cel_value.specs.declared.value.Value.TheOpen.{Value-F}
 use Rattle.cel_value.specs.Names.{error_name}
 use Rattle.cel_lex.specs.declared.fault.LexFaultKind.{LexFaultKind}
 use Rattle.cel_lex.specs.declared.fault.LexFaultKind.TheVariants.{BadChar, Unterminated, BadEscape, IntRange, TooLong}
@@ -17,10 +17,18 @@ use Rattle.vap_cli.specs.declared.answer.Answer.TheVariants as answer
 use Rattle.vap_cli.specs.declared.status.Status.{Status}
 use Rattle.vap_cli.specs.declared.status.Status.TheVariants.{Done, Fault}
 
+-- a level as compact JSON; no expression comes to a text, a list, a map or an object yet, and these have none
+abbrev pub value_text_at : Value-F Value → List ℕ
+value_text_at Value-F.Null = codes "null"
+value_text_at (Value-F.Bool truth) = if truth then codes "true" else codes "false"
+value_text_at (Value-F.Int number) = signed_decimal number
+value_text_at (Value-F.Uint number) = decimal number
+value_text_at Value-F.Opaque = codes "null"
+value_text_at _ = []
+
 -- a value as compact JSON
 abbrev pub value_text : Value → List ℕ
-value_text (Bool truth) = if truth then codes "true" else codes "false"
-value_text (Int number) = signed_decimal number
+value_text value = value_text_at (out-Value value)
 
 -- the name of a fault of the lexer
 abbrev pub lex_fault_name : LexFaultKind → List ℕ

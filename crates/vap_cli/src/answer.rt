@@ -21,7 +21,7 @@ pub enum Refusal {
 }
 
 /// What an expression comes to.
-#[derive(Debug, PartialEq, Eq, Drop)]
+#[derive(Debug, Drop)]
 pub enum Answer {
     Value(Value),
     Error(CelError),
@@ -55,8 +55,14 @@ impl fmt::Display for Answer {
 
     fn fmt<W: fmt::Write>(&self, f: &mut fmt::Formatter<W>) -> fmt::Result {
         match self {
+            Answer::Value(Value::Null | Value::Opaque) => write!(f, "null"),
             Answer::Value(Value::Bool(truth)) => write!(f, "{truth}"),
             Answer::Value(Value::Int(number)) => write!(f, "{number}"),
+            Answer::Value(Value::Uint(number)) => write!(f, "{number}"),
+            // No expression comes to one of these yet.
+            Answer::Value(Value::Text(_) | Value::List(_) | Value::Map(_) | Value::Object(_)) => Ok(
+                (),
+            ),
             Answer::Error(error) => {
                 let name = error.name();
                 write!(f, "error: {name}")

@@ -35,7 +35,7 @@ fn slot_types(alloc: Global, names: &[Keyed<CelType>]) -> Result<Items<CelType>,
 {
     let mut types = Items::new(alloc);
     for name in names {
-        types.push(name.value)?;
+        types.push(name.value.copy(alloc)?)?;
     }
     Ok(types)
 }

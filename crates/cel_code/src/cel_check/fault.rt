@@ -1,5 +1,6 @@
 ghost use Rattle.std.specs.Prelude.{◌≡◌};
 ghost use Rattle.cel_code.specs.declared.cel_check.fault.CheckError.TheVariants.{OutOfMemory};
+ghost use Rattle.cel_code.specs.declared.cel_check.fault.Untyped.TheVariants as untyped;
 
 use std::alloc::{AllocError, AllocFailed};
 use std::fmt;
@@ -14,6 +15,21 @@ pub enum TypeRule {
     Mixed,
     /// The tree is deeper than 100 or has more than 16,384 nodes.
     TooLarge,
+}
+
+/// Why operands have no type: the rule that they break, or want of memory.
+#[derive(Clone, Copy, Debug, PartialEq, Eq)]
+pub enum Untyped {
+    OutOfMemory,
+    Rule(TypeRule),
+}
+
+impl From<AllocError> for Untyped {
+    ghost from_gives = { λ _ e. e ≡ untyped.OutOfMemory };
+
+    fn from(_error: AllocError) -> Untyped {
+        Untyped::OutOfMemory
+    }
 }
 
 /// Where an expression has no type: the byte place of the node, and the rule.

@@ -3,9 +3,9 @@
 ghost use Rattle.std.specs.Prelude.{◌≡◌};
 ghost use Rattle.cel_code.specs.declared.cel_check.tree.Form.TheVariants as form;
 ghost use Rattle.cel_code.specs.Meaning.{type_of};
-ghost use Rattle.cel_code.specs.Typing.{node, chosen, overload_of_one, overload_of_two, logic, conditional, Answers};
+ghost use Rattle.cel_code.specs.Typing.{node, chosen, overload_of_one, overload_of_two, logic, conditional, joined_branches, Answers};
 
-use crate::cel_check::fault::{CheckError, TypeFault, TypeRule};
+use crate::cel_check::fault::{CheckError, TypeFault, TypeRule, Untyped};
 use crate::cel_check::operator::is_truth;
 use crate::cel_check::overload::{overload_of_one, overload_of_two};
 use crate::cel_check::tree::{Form, TypedTree};
@@ -55,7 +55,7 @@ pub fn binary(
 ) -> Result<TypedTree, CheckError>
     ensures { Answers result (λ tree. tree) (chosen place (λ o. form.Binary o left right) (overload_of_two operator (type_of left) (type_of right))) }
 {
-    match overload_of_two(operator, &left.cel_type, &right.cel_type) {
+    match overload_of_two(alloc, operator, &left.cel_type, &right.cel_type) {
         Ok(overload) => {
             let left = Boxed::new(alloc, left)?;
             let right = Boxed::new(alloc, right)?;
@@ -64,7 +64,8 @@ pub fn binary(
                 form: Form::Binary(overload.operator, left, right),
             })
         }
-        Err(rule) => Err(refused(rule, place)),
+        Err(Untyped::Rule(rule)) => Err(refused(rule, place)),
+        Err(Untyped::OutOfMemory) => Err(CheckError::OutOfMemory),
     }
 }
 
@@ -106,6 +107,30 @@ pub fn disjunction(
     })
 }
 
+fn joined_branches(
+    alloc: Global,
+    place: usize,
+    joined: Option<CelType>,
+    condition: TypedTree,
+    yes: TypedTree,
+    no: TypedTree,
+) -> Result<TypedTree, CheckError>
+    ensures { Answers result (λ tree. tree) (joined_branches place (form.Conditional condition yes no) joined) }
+{
+    match joined {
+        None => Err(refused(TypeRule::Mixed, place)),
+        Some(cel_type) => {
+            let condition = Boxed::new(alloc, condition)?;
+            let yes = Boxed::new(alloc, yes)?;
+            let no = Boxed::new(alloc, no)?;
+            Ok(TypedTree {
+                cel_type,
+                form: Form::Conditional(condition, yes, no),
+            })
+        }
+    }
+}
+
 pub fn conditional(
     alloc: Global,
     place: usize,
@@ -118,14 +143,6 @@ pub fn conditional(
     if !is_truth(&condition.cel_type) {
         return Err(refused(TypeRule::NoOverload, place));
     }
-    let Some(cel_type) = join(&yes.cel_type, &no.cel_type) else {
-        return Err(refused(TypeRule::Mixed, place));
-    };
-    let condition = Boxed::new(alloc, condition)?;
-    let yes = Boxed::new(alloc, yes)?;
-    let no = Boxed::new(alloc, no)?;
-    Ok(TypedTree {
-        cel_type,
-        form: Form::Conditional(condition, yes, no),
-    })
+    let joined = join(alloc, &yes.cel_type, &no.cel_type)?;
+    joined_branches(alloc, place, joined, condition, yes, no)
 }

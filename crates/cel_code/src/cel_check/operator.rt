@@ -1,10 +1,13 @@
 ghost use Rattle.std.specs.Prelude.{◌≡◌};
-ghost use Rattle.cel_code.specs.Operators.{row, code_of, operator_of, type_of_one, type_of_two};
+ghost use Rattle.cel_value.specs.CelType.{join as type_join};
+ghost use Rattle.cel_code.specs.Operators.{row, bool_where, code_of, operator_of, type_of_one, type_of_two};
 ghost use Rattle.cel_code.specs.Meaning.{is_truth, is_there};
-ghost use Rattle.cel_code.specs.Wants.{Whole, limit_of};
+ghost use Rattle.cel_code.specs.Wants.{Whole, Ordered, limit_of};
+ghost use Rattle.cel_code.specs.Typing.{Tells};
 
-use crate::cel_check::fault::TypeRule;
+use crate::cel_check::fault::{TypeRule, Untyped};
 use cel_value::{CelError, CelType, Value, join};
+use std::alloc::Global;
 
 /// An operator at one kind of operands (cel-spec, "List of Standard Definitions").
 #[derive(Clone, Copy, Debug, PartialEq, Eq)]
@@ -25,14 +28,14 @@ pub enum Operator {
 }
 
 /// An operator that takes certain operands, and the type of its answers.
-#[derive(Clone, Copy, Debug, PartialEq, Eq)]
+#[derive(Debug, Drop)]
 pub struct Overload {
     pub operator: Operator,
     pub cel_type: CelType,
 }
 
 /// What an operator answers, and what that charges.
-#[derive(Clone, Copy, Debug, PartialEq, Eq)]
+#[derive(Debug, Drop)]
 pub struct Made {
     pub outcome: Result<Value, CelError>,
     pub charge: u64,
@@ -72,11 +75,16 @@ impl Operator {
     }
 
     /// The type of the operator's answers at two operands of types.
-    pub fn type_of_two(&self, left: &CelType, right: &CelType) -> Result<CelType, TypeRule>
-        ensures { result ≡ type_of_two (row self.now) left.now right.now }
+    pub fn type_of_two(
+        &self,
+        alloc: Global,
+        left: &CelType,
+        right: &CelType,
+    ) -> Result<CelType, Untyped>
+        ensures { Tells result (type_of_two (row self.now) left.now right.now) }
     {
         match self {
-            Operator::Not | Operator::Negate => Err(TypeRule::NoOverload),
+            Operator::Not | Operator::Negate => Err(Untyped::Rule(TypeRule::NoOverload)),
             Operator::Add
             | Operator::Subtract
             | Operator::Multiply
@@ -85,13 +93,17 @@ impl Operator {
                 if is_whole(left) && is_whole(right) {
                     Ok(CelType::Int)
                 } else {
-                    Err(TypeRule::NoOverload)
+                    Err(Untyped::Rule(TypeRule::NoOverload))
                 }
             }
-            _ => match join(left, right) {
-                Some(_) => Ok(CelType::Bool),
-                None => Err(TypeRule::NoOverload),
-            },
+            Operator::Equal | Operator::NotEqual => compared(alloc, left, right),
+            _ => {
+                if is_ordered(left) && is_ordered(right) {
+                    compared(alloc, left, right)
+                } else {
+                    Err(Untyped::Rule(TypeRule::NoOverload))
+                }
+            }
         }
     }
 
@@ -113,10 +125,28 @@ pub fn is_truth(cel_type: &CelType) -> bool
     matches!(cel_type, CelType::Never | CelType::Bool)
 }
 
-fn is_whole(cel_type: &CelType) -> bool
+/// Whether a type may stand where an integer is asked.
+pub fn is_whole(cel_type: &CelType) -> bool
     ensures { result ≡ is_there (limit_of Whole cel_type.now) }
 {
     matches!(cel_type, CelType::Never | CelType::Int)
+}
+
+/// Whether a type may stand where a value that has an order is asked.
+pub fn is_ordered(cel_type: &CelType) -> bool
+    ensures { result ≡ is_there (limit_of Ordered cel_type.now) }
+{
+    matches!(cel_type, CelType::Never | CelType::Bool | CelType::Int)
+}
+
+/// The type of a comparison of two types, which want a join.
+fn compared(alloc: Global, left: &CelType, right: &CelType) -> Result<CelType, Untyped>
+    ensures { Tells result (bool_where (type_join left.now right.now)) }
+{
+    match join(alloc, left, right)? {
+        Some(_) => Ok(CelType::Bool),
+        None => Err(Untyped::Rule(TypeRule::NoOverload)),
+    }
 }
 
 static OPERATORS: [Option<Operator>; 20] = [

@@ -1,10 +1,11 @@
 ghost use Rattle.std.specs.Prelude.{◌≡◌, Ok, Err};
-ghost use Rattle.cel_code.specs.Typing.{overload_of_one, overload_of_two};
+ghost use Rattle.cel_code.specs.Typing.{overload_of_one, overload_of_two, Tells};
 
-use crate::cel_check::fault::TypeRule;
+use crate::cel_check::fault::{TypeRule, Untyped};
 use crate::cel_check::operator::{Operator, Overload};
 use cel_parse::{BinaryOperator, UnaryOperator};
 use cel_value::CelType;
+use std::alloc::Global;
 
 /// The first overload that takes an operand of a type.
 pub fn overload_of_one(operator: UnaryOperator, operand: &CelType) -> Result<Overload, TypeRule>
@@ -20,11 +21,12 @@ pub fn overload_of_one(operator: UnaryOperator, operand: &CelType) -> Result<Ove
 
 /// The first overload that takes operands of two types.
 pub fn overload_of_two(
+    alloc: Global,
     operator: BinaryOperator,
     left: &CelType,
     right: &CelType,
-) -> Result<Overload, TypeRule>
-    ensures { result ≡ overload_of_two operator left.now right.now }
+) -> Result<Overload, Untyped>
+    ensures { Tells result (overload_of_two operator left.now right.now) }
 {
     let operator = match operator {
         BinaryOperator::Less => Operator::Less,
@@ -39,6 +41,6 @@ pub fn overload_of_two(
         BinaryOperator::Divide => Operator::Divide,
         BinaryOperator::Remainder => Operator::Remainder,
     };
-    let cel_type = operator.type_of_two(left, right)?;
+    let cel_type = operator.type_of_two(alloc, left, right)?;
     Ok(Overload { operator, cel_type })
 }

@@ -25,10 +25,15 @@ pub struct Program {
 }
 
 impl Model for Program {
+    ghost use Rattle.std.specs.Coded.{codes};
+    ghost use Rattle.cel_value.specs.contracts.cel_type.CelType as cel_type;
+    ghost use Rattle.cel_value.specs.contracts.value.Value as cel_value;
     ghost use Rattle.cel_code.specs.declared.image.Image.{Image};
     ghost use Rattle.cel_machine.specs.Accepted.{IsAccepted};
 
     ghost Value = { Image };
+
+    ghost coded = { Prim.hlevel (codes, cel_value.the_row.coded, cel_type.the_row.coded) };
 
     ghost view = { λ p. p.image };
 

@@ -54,7 +54,7 @@ fn advance(
     let Some(types) = label else {
         return Err(Refusal::Broken(VerifyRule::BadTarget));
     };
-    let falls = typed(image, instr, types)?;
+    let falls = typed(alloc, image, instr, types)?;
     go_on(alloc, image, at + 1, falls)
 }
 

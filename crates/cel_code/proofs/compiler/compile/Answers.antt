@@ -4,8 +4,11 @@ use Rattle.cel_code.proofs.Runs.{computes}
 use Rattle.cel_code.proofs.Preserved.{preserved_outside}
 use Rattle.cel_code.proofs.compiler.compile.Goals as goal
 
-pub returns-in_err-slots-clause-preserves : goal.returns-in_err-slots-clause-preserves
-returns-in_err-slots-clause-preserves c = preserved_outside c.args.typed.now
+pub returns-in_err-copy_types-clause-preserves : goal.returns-in_err-copy_types-clause-preserves
+returns-in_err-copy_types-clause-preserves c = preserved_outside c.args.typed.now
+
+pub returns-in_err-copy-clause-preserves : goal.returns-in_err-copy-clause-preserves
+returns-in_err-copy-clause-preserves c = preserved_outside c.args.typed.now
 
 pub returns-in_err-emit-clause-preserves : goal.returns-in_err-emit-clause-preserves
 returns-in_err-emit-clause-preserves c = preserved_outside c.args.typed.now

@@ -12,15 +12,15 @@ emit-returns-in_ok-emit-in-Unary t c =
 
 pub emit-returns-in_ok-emit_over-in-Binary : goal.emit-returns-in_ok-emit_over-in-Binary
 emit-returns-in_ok-emit_over-in-Binary t c =
-    on_ok_weaker c.put-in-Binary.result (λ e. emits_binary _ _ _ _ _ _ _ _ _ _ _ c.in-Binary.is c.get-in-Binary.ensures c.get-in-Binary-3.ensures c.in_ok-emit-in-Binary.ensures c.in_ok-emit_over-in-Binary.ensures c.code-in-Binary.ensures e) c.put-in-Binary.ensures
+    on_ok_weaker c.put-in-Binary.result (λ e. emits_binary _ _ _ _ _ _ _ _ _ _ _ c.in-Binary.is c.get-in-Binary.ensures c.get-in-Binary-2.ensures c.in_ok-emit-in-Binary.ensures c.in_ok-emit_over-in-Binary.ensures c.code-in-Binary.ensures e) c.put-in-Binary.ensures
 
 pub emit-returns-in_ok-put-in-And-2 : goal.emit-returns-in_ok-put-in-And-2
 emit-returns-in_ok-put-in-And-2 t c =
-    on_ok_weaker c.arrive.result (λ e. emits_both _ _ _ _ _ _ _ _ _ _ _ _ _ _ c.in-And.is c.get-in-And.ensures c.get-in-And-3.ensures c.in_ok-emit-in-And.ensures c.len-test.ensures c.in_ok-put-in-And.ensures c.in_ok-emit_over-in-And.ensures c.in_ok-put-in-And-2.ensures c.len.ensures c.patch.ensures e) c.arrive.ensures
+    on_ok_weaker c.arrive.result (λ e. emits_both _ _ _ _ _ _ _ _ _ _ _ _ _ _ c.in-And.is c.get-in-And.ensures c.get-in-And-2.ensures c.in_ok-emit-in-And.ensures c.len-test.ensures c.in_ok-put-in-And.ensures c.in_ok-emit_over-in-And.ensures c.in_ok-put-in-And-2.ensures c.len.ensures c.patch.ensures e) c.arrive.ensures
 
 pub emit-returns-in_ok-put-in-Or-2 : goal.emit-returns-in_ok-put-in-Or-2
 emit-returns-in_ok-put-in-Or-2 t c =
-    on_ok_weaker c.arrive-in-Or.result (λ e. emits_either _ _ _ _ _ _ _ _ _ _ _ _ _ _ c.in-Or.is c.get-in-Or.ensures c.get-in-Or-3.ensures c.in_ok-emit-in-Or.ensures c.len-test-in-Or.ensures c.in_ok-put-in-Or.ensures c.in_ok-emit_over-in-Or.ensures c.in_ok-put-in-Or-2.ensures c.len-in-Or.ensures c.patch-in-Or.ensures e) c.arrive-in-Or.ensures
+    on_ok_weaker c.arrive-in-Or.result (λ e. emits_either _ _ _ _ _ _ _ _ _ _ _ _ _ _ c.in-Or.is c.get-in-Or.ensures c.get-in-Or-2.ensures c.in_ok-emit-in-Or.ensures c.len-test-in-Or.ensures c.in_ok-put-in-Or.ensures c.in_ok-emit_over-in-Or.ensures c.in_ok-put-in-Or-2.ensures c.len-in-Or.ensures c.patch-in-Or.ensures e) c.arrive-in-Or.ensures
 
 pub emit_conditional-returns : goal.emit_conditional-returns
 emit_conditional-returns t c =

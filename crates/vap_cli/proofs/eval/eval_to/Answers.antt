@@ -1,0 +1,10 @@
+use Rattle.std.proofs.Common.{rules}
+use Rattle.vap_cli.proofs.eval.eval_to.Goals as goal
+
+pub returns-clause-told : goal.returns-clause-told
+returns-clause-told g c = record {
+  answer = c.in_ok-answer.answer;
+  answers = c.in_ok-answer.ensures;
+  written = search rules;
+  ended = c.status.ensures;
+}

@@ -1,0 +1,67 @@
+-- Schemas inside each other: one level, and the walk over an object's properties.
+use Rattle.std.proofs.Common.{◌≡◌, ℕ, zero, suc, ◌-◌, ◌<◌, Bool, List, [], ◌∷◌, ◌++◌, Result, Ok, Err, ap, sym, ◌∙◌, subst, refl, arith}
+use Rattle.plain.specs.declared.text.Keyed.{Keyed}
+use Rattle.plain.specs.Keys.{IsInKeyOrder, keys_in}
+use Rattle.serde_json.specs.Data.{Data, object, Items, Members, no_members, member}
+use Rattle.cel_value.specs.declared.cel_type.Field.{Field}
+use Rattle.cel_value.specs.declared.cel_type.CelType as type
+use Rattle.cel_value.specs.declared.cel_type.CelType.{CelType}
+use Rattle.vap_schema.specs.Seen.{◌>>=◌}
+use Rattle.vap_schema.specs.Schemas.{Inner, Answers, schema_type, nested_type, field_of, fields_of, is_among, required_names, record_type}
+use Rattle.vap_schema.specs.declared.schema_fault.SchemaFault.{SchemaFault}
+use Rattle.vap_schema.specs.declared.schema_fault.SchemaFault.TheVariants.{TooDeep}
+use Rattle.vap_schema.specs.declared.schema_fault.SchemaError.{SchemaError}
+use Rattle.vap_schema.specs.declared.schema_fault.SchemaError.TheVariants.{Fault, OutOfMemory}
+use Rattle.vap_schema.proofs.Parts.{same_ok, both}
+use Rattle.vap_schema.proofs.Rest.{behind, behind-push}
+use Rattle.vap_schema.proofs.Ordered.{IsInOrder, names_in}
+
+pub too_deep : (levels : ℕ) (d : Data) → levels ≡ 0 → schema_type levels d ≡ Err TooDeep
+unfolding schema_type
+too_deep zero d h = refl
+too_deep (suc n) d h = absurd (omega arith)
+
+pub one_level : (levels : ℕ) (d : Data) → 0 < levels → schema_type levels d ≡ nested_type (schema_type (levels - 1)) d
+unfolding schema_type
+one_level zero d h = absurd (omega arith)
+one_level (suc n) d h = let same : n ≡ suc n - 1 = omega arith in ap (λ m. nested_type (schema_type m) d) same
+
+abbrev Fields : Type 0
+Fields = List (Keyed (Field CelType))
+
+pub fields_stop : (inner : Inner) (required : Items) (k : List ℕ) (d : Data) (ms : Members) (done : Fields) (whole : Result Fields SchemaFault) (e : SchemaError)
+    → whole ≡ behind done (fields_of inner required (member k d ms)) → Answers (field_of inner required k d) (Err e) → Answers whole (Err e)
+unfolding behind
+fields_stop inner required k d ms done whole (Fault f) read a = read ∙ ap (λ r. behind done (r >>= (λ x. fields_of inner required ms >>= (λ more. Ok (x ∷ more))))) a
+fields_stop inner required k d ms done whole OutOfMemory read a = tt
+
+pub fields_go : (inner : Inner) (required : Items) (k : List ℕ) (d : Data) (ms : Members) (f : Keyed (Field CelType)) (done : Fields) (whole : Result Fields SchemaFault)
+    → whole ≡ behind done (fields_of inner required (member k d ms)) → field_of inner required k d ≡ Ok f → whole ≡ behind (done ++ f ∷ []) (fields_of inner required ms)
+fields_go inner required k d ms f done whole read a =
+    read ∙ ap (λ r. behind done (r >>= (λ x. fields_of inner required ms >>= (λ more. Ok (x ∷ more))))) a ∙ behind-push done f (fields_of inner required ms)
+
+field_key : (r : Result CelType SchemaFault) (k : List ℕ) (required : Bool) (f : Keyed (Field CelType)) → (r >>= (λ t. Ok (record { key = k; value = record { required = required; cel_type = t } }))) ≡ Ok f → f.key ≡ k
+field_key (Ok t) k required f h = ap (λ x. x.key) (sym (same_ok (Ok (record { key = k; value = record { required = required; cel_type = t } })) (record { key = k; value = record { required = required; cel_type = t } }) f refl h))
+field_key (Err e) k required f h = absurd (cc)
+
+fields_keys : (inner : Inner) (required : Items) (ms : Members) (fs : Fields) → fields_of inner required ms ≡ Ok fs → keys_in fs ≡ names_in ms
+fields_keys inner required no_members fs h = ap keys_in (sym (same_ok (Ok []) [] fs refl h))
+fields_keys inner required (member k d ms) fs h =
+    let p = both (field_of inner required k d) (fields_of inner required ms) (λ f more. f ∷ more) fs h in
+    ap keys_in p.4 ∙ ap (λ l. l ∷ keys_in p.1) (field_key (inner d) k (is_among k required) p.0 p.2) ∙ ap (λ ks. k ∷ ks) (fields_keys inner required ms p.1 p.3)
+
+pub fields_in_order : (inner : Inner) (required : Items) (ms : Members) (fs : Fields) → IsInOrder (names_in ms) → fields_of inner required ms ≡ Ok fs → IsInKeyOrder fs
+fields_in_order inner required ms fs s h = subst IsInOrder (sym (fields_keys inner required ms fs h)) s
+
+-- ---- the properties of an object
+
+pub record_stop : (inner : Inner) (d properties : Data) (ms : Members) (required : Items) (e : SchemaError) → properties ≡ object ms → required_names d ≡ Ok required
+    → Answers (fields_of inner required ms) (Err e) → Answers (record_type inner d properties) (Err e)
+record_stop inner d properties ms required (Fault f) is n a =
+    ap (record_type inner d) is ∙ ap (λ r. r >>= (λ names. fields_of inner names ms >>= (λ fields. Ok (type.Object fields)))) n ∙ ap (λ r. r >>= (λ fields. Ok (type.Object fields))) a
+record_stop inner d properties ms required OutOfMemory is n a = tt
+
+pub record_read : (inner : Inner) (d properties : Data) (ms : Members) (required : Items) (fields : Fields) → properties ≡ object ms → required_names d ≡ Ok required
+    → fields_of inner required ms ≡ Ok fields → record_type inner d properties ≡ Ok (type.Object fields)
+record_read inner d properties ms required fields is n a =
+    ap (record_type inner d) is ∙ ap (λ r. r >>= (λ names. fields_of inner names ms >>= (λ fields. Ok (type.Object fields)))) n ∙ ap (λ r. r >>= (λ fields. Ok (type.Object fields))) a

@@ -1,0 +1,176 @@
+use Rattle.std.proofs.Common.{◌≡◌, ◌&&◌, nat_le, [], ◌∷◌, ◌++◌, Some, Ok, Err, refl, ap, sym, ◌∙◌, subst, string_bytes, rules}
+use Rattle.std.proofs.lemmas.List.Elements.{All-nil, All-push, All-same}
+use Rattle.std.proofs.lemmas.Result.{err_from_is_err_and}
+use Rattle.plain.specs.declared.text.Keyed.{Keyed}
+use Rattle.plain.specs.Keys.{value_under}
+use Rattle.serde_json.specs.View.{view, items_view, members_view}
+use Rattle.serde_json.proofs.Views.{items_len-items_view, members_len-members_view}
+use Rattle.cel_value.specs.declared.value.Value.{Value}
+use Rattle.cel_value.specs.Fits.{fits, HasItsField}
+use Rattle.cel_value.specs.Value.{code_points}
+use Rattle.vap_schema.specs.Paths.{path_text}
+use Rattle.vap_schema.specs.Seen.{Answers, seen_entry, seen_entries, seen_member, seen_members, reader_of, readers_of}
+use Rattle.vap_schema.proofs.Rest.{behind, behind-none, behind-all}
+use Rattle.vap_schema.proofs.Turns.{path_text-Item, all_push, items_stop, items_go, items_end, entries_stop, entries_go, members_stop, members_go}
+use Rattle.vap_schema.proofs.Lengths.{list_over, list_read, list_fits, map_over, map_read, map_fits}
+use Rattle.vap_schema.proofs.Ordered.{entries_in_order, members_in_order, names_in_order}
+use Rattle.vap_schema.proofs.Fitted.{object_fits, has_field}
+use Rattle.vap_schema.proofs.fitting.+fit_at.Goals as goal
+
+-- ---- lists
+
+pub fit_list-returns-in_err-check_limit-clause-exact : goal.fit_list-returns-in_err-check_limit-clause-exact
+fit_list-returns-in_err-check_limit-clause-exact t c =
+    let p = err_from_is_err_and c.from_residual.result c.from_residual.ensures.1 in
+    rw (p.1, p.2) (list_over (reader_of c.args.item_type.now).1 c.args.max _ (path_text c.args.path.now) (items_view c.args.items.now) _ (items_len-items_view c.args.items.now) c.in_err-check_limit.ensures)
+
+pub fit_list-returns-clause-exact : goal.fit_list-returns-clause-exact
+fit_list-returns-clause-exact t c =
+    list_read (reader_of c.args.item_type.now).1 c.args.max _ (path_text c.args.path.now) (items_view c.args.items.now) c.in_ok-check_limit.field-0 c.fit_items.result (items_len-items_view c.args.items.now) c.in_ok-check_limit.ensures
+    c.fit_items.ensures.exact
+
+pub fit_list-returns-clause-fits : goal.fit_list-returns-clause-fits
+fit_list-returns-clause-fits t c =
+    list_fits (reader_of c.args.item_type.now).1 c.args.max _ (path_text c.args.path.now) (items_view c.args.items.now) c.in_ok-check_limit.field-0 c.args.item_type.now c.fit_items.result (items_len-items_view c.args.items.now)
+    c.in_ok-check_limit.ensures c.fit_items.ensures.exact c.fit_items.ensures.fits
+
+pub fit_items-loop-place-init : goal.fit_items-loop-place-init
+fit_items-loop-place-init t c =
+    let none = c.in_ok-values.ensures.items in
+    record { exact = rw none (sym (behind-none _)); fits = rw none refl }
+
+pub fit_items-returns-in_err-fit_at-clause-exact : goal.fit_items-returns-in_err-fit_at-clause-exact
+fit_items-returns-in_err-fit_at-clause-exact t c =
+    let p = err_from_is_err_and c.from_residual-in_err-fit_at.result c.from_residual-in_err-fit_at.ensures.1 in
+    let l = c.loop-place in
+    rw (p.1, p.2) (items_stop (reader_of c.args.item_type.now).1 (path_text c.args.path.now) c.args.items.now l.place c.index-items-place.result l.values.items _ _ c.loop-place-test.true c.index-items-place.is l.invariant.exact
+    (subst (λ q. Answers ((reader_of c.args.item_type.now).1 q (view c.index-items-place.result)) (Err c.in_err-fit_at.field-0.0)) (path_text-Item c.args.path l.place) c.in_err-fit_at.ensures.exact))
+
+pub fit_items-loop-place-preserved : goal.fit_items-loop-place-preserved
+fit_items-loop-place-preserved t c =
+    let l = c.loop-place in record {
+      exact = rw c.in_ok-push.ensures.items (items_go (reader_of c.args.item_type.now).1 (path_text c.args.path.now) c.args.items.now l.place c.index-items-place.result c.in_ok-fit_at.field-0 l.values.items _ c.loop-place-test.true
+          c.index-items-place.is l.invariant.exact (rw (path_text-Item c.args.path l.place) at c.in_ok-fit_at.ensures.exact));
+      fits = rw c.in_ok-push.ensures.items (all_push (λ (v : Value). fits v c.args.item_type.now) l.values.items c.in_ok-fit_at.field-0 l.invariant.fits c.in_ok-fit_at.ensures.fits);
+    }
+
+pub fit_items-returns-clause-exact : goal.fit_items-returns-clause-exact
+fit_items-returns-clause-exact t c =
+    let l = c.loop-place in
+    items_end (reader_of c.args.item_type.now).1 (path_text c.args.path.now) c.args.items.now l.place l.values.items _ c.loop-place-test.false l.invariant.exact ∙ ap Ok (sym c.from_vec.ensures)
+
+-- ---- maps
+
+pub fit_map-returns-in_err-check_limit-clause-exact : goal.fit_map-returns-in_err-check_limit-clause-exact
+fit_map-returns-in_err-check_limit-clause-exact t c =
+    let p = err_from_is_err_and c.from_residual.result c.from_residual.ensures.1 in
+    rw (p.1, p.2) (map_over (reader_of c.args.item_type.now).1 c.args.max c.args.key_max c.len.result (path_text c.args.path.now) (members_view c.args.members.now.entries) _
+    (members_len-members_view c.args.members.now.entries ∙ sym c.len.ensures.len) c.in_err-check_limit.ensures)
+
+pub fit_map-returns-clause-exact : goal.fit_map-returns-clause-exact
+fit_map-returns-clause-exact t c =
+    map_read (reader_of c.args.item_type.now).1 c.args.max c.args.key_max c.len.result (path_text c.args.path.now) (members_view c.args.members.now.entries) c.in_ok-check_limit.field-0 c.fit_entries.result
+    (members_len-members_view c.args.members.now.entries ∙ sym c.len.ensures.len) c.in_ok-check_limit.ensures c.fit_entries.ensures.exact
+
+pub fit_map-returns-clause-fits : goal.fit_map-returns-clause-fits
+fit_map-returns-clause-fits t c =
+    map_fits (reader_of c.args.item_type.now).1 c.args.max c.args.key_max c.len.result (path_text c.args.path.now) (members_view c.args.members.now.entries) c.in_ok-check_limit.field-0 c.args.item_type.now c.fit_entries.result
+    (members_len-members_view c.args.members.now.entries ∙ sym c.len.ensures.len) c.in_ok-check_limit.ensures c.fit_entries.ensures.exact c.fit_entries.ensures.fits
+
+pub fit_entries-loop-name-init : goal.fit_entries-loop-name-init
+fit_entries-loop-name-init t c =
+    let all : c.into_iter-name-iterator.result ≡ c.args.members.now.entries = search rules in
+    let none = c.in_ok-entries.ensures.items in
+    record { can_next = tt; is_finite = tt; exact = rw (all, none) (sym (behind-none _)); fits = rw none refl }
+
+pub fit_entries-returns-in_err-fit_entry-clause-exact : goal.fit_entries-returns-in_err-fit_entry-clause-exact
+fit_entries-returns-in_err-fit_entry-clause-exact t c =
+    let p = err_from_is_err_and c.from_residual-in_err-fit_entry.result c.from_residual-in_err-fit_entry.ensures.1 in
+    let l = c.loop-name in
+    let here = ap (λ es. behind l.entries.items (seen_entries (reader_of c.args.item_type.now).1 c.args.key_max (path_text c.args.path.now) (members_view es))) c.in-Some.ensures.steps in
+    rw (p.1, p.2) (entries_stop (reader_of c.args.item_type.now).1 c.args.key_max (path_text c.args.path.now) (string_bytes c.in-Some.name.now) (view c.in-Some.member.now) (members_view c.next.new.self) l.entries.items _ _
+    (l.invariant.exact ∙ here) (subst (λ k. Answers (seen_entry (reader_of c.args.item_type.now).1 c.args.key_max (path_text c.args.path.now) k (view c.in-Some.member.now)) (Err c.in_err-fit_entry.field-0.0)) c.as_str.ensures.value c.in_err-fit_entry.ensures.exact))
+
+pub fit_entries-loop-name-preserved : goal.fit_entries-loop-name-preserved
+fit_entries-loop-name-preserved t c =
+    let l = c.loop-name in
+    let here = ap (λ es. behind l.entries.items (seen_entries (reader_of c.args.item_type.now).1 c.args.key_max (path_text c.args.path.now) (members_view es))) c.in-Some.ensures.steps in record {
+      can_next = tt;
+      is_finite = tt;
+      exact = rw c.in_ok-push.ensures.items (entries_go (reader_of c.args.item_type.now).1 c.args.key_max (path_text c.args.path.now) (string_bytes c.in-Some.name.now) (view c.in-Some.member.now) (members_view c.next.new.self) c.in_ok-fit_entry.field-0
+          l.entries.items _ (l.invariant.exact ∙ here) (rw c.as_str.ensures.value at c.in_ok-fit_entry.ensures.exact));
+      fits = rw c.in_ok-push.ensures.items (all_push (λ (e : Keyed Value). nat_le (code_points e.key) c.args.key_max && fits e.value c.args.item_type.now) l.entries.items c.in_ok-fit_entry.field-0 l.invariant.fits c.in_ok-fit_entry.ensures.fits);
+    }
+
+pub fit_entries-from_vec-requires : goal.fit_entries-from_vec-requires
+fit_entries-from_vec-requires t c =
+    let l = c.loop-name in
+    let here = (reader_of c.args.item_type.now).1 in
+    let ended = ap (λ es. seen_entries here c.args.key_max (path_text c.args.path.now) (members_view es)) c.in-None.ensures.steps.0 in
+    entries_in_order here c.args.key_max (path_text c.args.path.now) (members_view c.args.members.now.entries) l.entries.items (names_in_order c.args.members.now.entries c.iter-name-items.ensures.ordered)
+    (l.invariant.exact ∙ behind-all l.entries.items _ ended)
+
+pub fit_entries-returns-clause-exact : goal.fit_entries-returns-clause-exact
+fit_entries-returns-clause-exact t c =
+    let l = c.loop-name in
+    let ended = ap (λ es. seen_entries (reader_of c.args.item_type.now).1 c.args.key_max (path_text c.args.path.now) (members_view es)) c.in-None.ensures.steps.0 in
+    l.invariant.exact ∙ behind-all l.entries.items _ ended ∙ ap Ok (sym c.from_vec.ensures)
+
+-- ---- objects
+
+pub fit_object-returns-clause-fits : goal.fit_object-returns-clause-fits
+fit_object-returns-clause-fits t c =
+    object_fits c.args.fields.now (path_text c.args.path.now) c.in_ok-entries.entries c.in_ok-check_all_there.field-0 c.in_ok-entries.ensures.ordered c.as_slice.ensures.ordered c.in_ok-entries.ensures.fits
+    (rw c.as_slice.ensures.entries at c.in_ok-check_all_there.ensures)
+
+pub fit_members-loop-name-init : goal.fit_members-loop-name-init
+fit_members-loop-name-init t c =
+    let all : c.into_iter-name-iterator.result ≡ c.args.members.now.entries = search rules in
+    let none = c.new-entries.ensures.items in record {
+      can_next = tt;
+      is_finite = tt;
+      exact = rw (all, none) (sym (behind-none _));
+      fits = All-same (HasItsField c.args.fields.now) c.new-entries.result.items [] none (All-nil (HasItsField c.args.fields.now));
+    }
+
+pub fit_members-returns-in_err-entry-clause-exact : goal.fit_members-returns-in_err-entry-clause-exact
+fit_members-returns-in_err-entry-clause-exact t c =
+    let p = err_from_is_err_and c.from_residual.result c.from_residual.ensures.1 in
+    let l = c.loop-name in
+    let here = ap (λ es. behind l.entries.items (seen_members (readers_of c.args.fields.now) (path_text c.args.path.now) (members_view es))) c.in-Some.ensures.steps in
+    rw (p.1, p.2) (members_stop (readers_of c.args.fields.now) (path_text c.args.path.now) (string_bytes c.in-Some.name.now) (view c.in-Some.member.now) (members_view c.next.new.self) l.entries.items _ _ (l.invariant.exact ∙ here)
+    (subst (λ k. Answers (seen_member (value_under k (readers_of c.args.fields.now)) (path_text c.args.path.now) k (view c.in-Some.member.now)) (Err c.in_err-entry.field-0.0)) c.as_str.ensures.value c.in_err-entry.ensures.exact))
+
+pub fit_members-loop-name-preserved-in-Continue-branch-3 : goal.fit_members-loop-name-preserved-in-Continue-branch-3
+fit_members-loop-name-preserved-in-Continue-branch-3 t c =
+    let l = c.loop-name in
+    let here = ap (λ es. behind l.entries.items (seen_members (readers_of c.args.fields.now) (path_text c.args.path.now) (members_view es))) c.in-Some.ensures.steps in
+    let known = rw c.as_str.ensures.value at c.in_ok-entry.ensures.exact in record {
+      can_next = tt;
+      is_finite = tt;
+      exact = rw c.in_ok-push.ensures.items (members_go (readers_of c.args.fields.now) (path_text c.args.path.now) (string_bytes c.in-Some.name.now) (view c.in-Some.member.now) (members_view c.next.new.self) (Some c.in-Some-2.entry)
+          l.entries.items _ (l.invariant.exact ∙ here) (known ∙ ap Ok c.in-Some-2.is));
+      fits = All-same (HasItsField c.args.fields.now) c.push.new.self.items (l.entries.items ++ c.in-Some-2.entry ∷ []) c.in_ok-push.ensures.items
+          (All-push (HasItsField c.args.fields.now) l.entries.items c.in-Some-2.entry l.invariant.fits (rw c.in-Some-2.is at c.in_ok-entry.ensures.fits));
+    }
+
+pub fit_members-from_vec-requires : goal.fit_members-from_vec-requires
+fit_members-from_vec-requires t c =
+    let l = c.loop-name in
+    let ended = ap (λ es. seen_members (readers_of c.args.fields.now) (path_text c.args.path.now) (members_view es)) c.in-None.ensures.steps.0 in
+    members_in_order (readers_of c.args.fields.now) (path_text c.args.path.now) (members_view c.args.members.now.entries) l.entries.items (names_in_order c.args.members.now.entries c.iter-name-items.ensures.ordered)
+    (l.invariant.exact ∙ behind-all l.entries.items _ ended)
+
+pub fit_members-returns-clause-exact : goal.fit_members-returns-clause-exact
+fit_members-returns-clause-exact t c =
+    let l = c.loop-name in
+    let ended = ap (λ es. seen_members (readers_of c.args.fields.now) (path_text c.args.path.now) (members_view es)) c.in-None.ensures.steps.0 in
+    l.invariant.exact ∙ behind-all l.entries.items _ ended ∙ ap Ok (sym c.from_vec.ensures)
+
+pub fit_members-returns-clause-fits : goal.fit_members-returns-clause-fits
+fit_members-returns-clause-fits t c = All-same (HasItsField c.args.fields.now) c.from_vec.result c.loop-name.entries.items c.from_vec.ensures c.loop-name.invariant.fits
+
+pub fit_member-returns-then-eq-clause-fits : goal.fit_member-returns-then-eq-clause-fits
+fit_member-returns-then-eq-clause-fits t c =
+    let named : c.field-item.result.key ≡ c.args.name.now = search rules in
+    rw (← c.as_slice-field-items.ensures.entries) (has_field c.as_slice-field-items.result.now c.loop-field.field-index c.field-item.result c.args.name.now c.fit_field.result c.loop-field-test.true c.field-item.is named c.fit_field.ensures.fits)

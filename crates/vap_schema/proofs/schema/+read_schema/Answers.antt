@@ -1,0 +1,67 @@
+use Rattle.std.proofs.Common.{◌≡◌, ◌<◌, Ok, Err, ap, sym, ◌∙◌, subst, string_bytes, rules, arith}
+use Rattle.std.proofs.lemmas.Result.{err_from_is_err_and}
+use Rattle.serde_json.specs.View.{view, items_view, members_view}
+use Rattle.serde_json.proofs.Views.{view-Object}
+use Rattle.vap_schema.specs.Schemas.{Answers, schema_type, field_of, fields_of}
+use Rattle.vap_schema.proofs.Rest.{behind, behind-none, behind-all}
+use Rattle.vap_schema.proofs.Ordered.{names_in_order}
+use Rattle.vap_schema.proofs.Levels.{too_deep, one_level, fields_stop, fields_go, fields_in_order, record_stop, record_read}
+use Rattle.vap_schema.proofs.schema.+read_schema.Goals as goal
+
+pub read_fields-loop-name-init : goal.read_fields-loop-name-init
+read_fields-loop-name-init t c =
+    let all : c.into_iter-name-iterator.result ≡ c.args.properties.now.entries = search rules in
+    let none = c.in_ok-fields.ensures.items in
+    record { can_next = tt; is_finite = tt; exact = rw (all, none) (sym (behind-none _)) }
+
+pub read_fields-returns-in_err-read_field : goal.read_fields-returns-in_err-read_field
+read_fields-returns-in_err-read_field t c =
+    let p = err_from_is_err_and c.from_residual-in_err-read_field.result c.from_residual-in_err-read_field.ensures.1 in
+    let l = c.loop-name in
+    let here = ap (λ es. behind l.fields.items (fields_of (schema_type c.args.levels) (items_view c.args.required.now) (members_view es))) c.in-Some.ensures.steps in
+    rw (p.1, p.2) (fields_stop (schema_type c.args.levels) (items_view c.args.required.now) (string_bytes c.in-Some.name.now) (view c.in-Some.schema.now) (members_view c.next.new.self) l.fields.items _ _ (l.invariant.exact ∙ here)
+    (subst (λ k. Answers (field_of (schema_type c.args.levels) (items_view c.args.required.now) k (view c.in-Some.schema.now)) (Err c.in_err-read_field.field-0.0)) c.as_str.ensures.value c.in_err-read_field.ensures))
+
+pub read_fields-loop-name-preserved : goal.read_fields-loop-name-preserved
+read_fields-loop-name-preserved t c =
+    let l = c.loop-name in
+    let here = ap (λ es. behind l.fields.items (fields_of (schema_type c.args.levels) (items_view c.args.required.now) (members_view es))) c.in-Some.ensures.steps in record {
+      can_next = tt;
+      is_finite = tt;
+      exact = rw c.in_ok-push.ensures.items (fields_go (schema_type c.args.levels) (items_view c.args.required.now) (string_bytes c.in-Some.name.now) (view c.in-Some.schema.now) (members_view c.next.new.self) c.in_ok-read_field.field-0 l.fields.items _
+          (l.invariant.exact ∙ here) (rw c.as_str.ensures.value at c.in_ok-read_field.ensures));
+    }
+
+pub read_fields-from_vec-requires : goal.read_fields-from_vec-requires
+read_fields-from_vec-requires t c =
+    let l = c.loop-name in
+    let ended = ap (λ es. fields_of (schema_type c.args.levels) (items_view c.args.required.now) (members_view es)) c.in-None.ensures.steps.0 in
+    fields_in_order (schema_type c.args.levels) (items_view c.args.required.now) (members_view c.args.properties.now.entries) l.fields.items (names_in_order c.args.properties.now.entries c.iter-name-items.ensures.ordered)
+    (l.invariant.exact ∙ behind-all l.fields.items _ ended)
+
+pub read_fields-returns : goal.read_fields-returns
+read_fields-returns t c =
+    let l = c.loop-name in
+    let ended = ap (λ es. fields_of (schema_type c.args.levels) (items_view c.args.required.now) (members_view es)) c.in-None.ensures.steps.0 in
+    l.invariant.exact ∙ behind-all l.fields.items _ ended ∙ ap Ok (sym c.from_vec.ensures)
+
+pub read_schema-returns : goal.read_schema-returns
+read_schema-returns t c =
+    let some : 0 < c.args.levels = omega arith in
+    subst (λ want. Answers want c.read_nested.result) (sym (one_level c.args.levels (view c.args.schema.now) some)) c.read_nested.ensures
+
+pub read_schema-returns-then-levels-eq0 : goal.read_schema-returns-then-levels-eq0
+read_schema-returns-then-levels-eq0 t c =
+    let none : c.args.levels ≡ 0 = omega arith in
+    too_deep c.args.levels (view c.args.schema.now) none
+
+pub read_record-returns-in_err-fields-in-Object : goal.read_record-returns-in_err-fields-in-Object
+read_record-returns-in_err-fields-in-Object t c =
+    let p = err_from_is_err_and c.from_residual-in_err-fields-in-Object.result c.from_residual-in_err-fields-in-Object.ensures.1 in
+    rw (p.1, p.2) (record_stop (schema_type c.args.levels) (view c.args.schema.now) (view c.args.properties.now) (members_view c.in-Object.members.entries) (items_view c.in_ok-required-in-Object.required.now) _ (ap view c.in-Object.is ∙ view-Object _)
+    c.in_ok-required-in-Object.ensures c.in_err-fields-in-Object.ensures)
+
+pub read_record-returns-in_ok-fields-in-Object : goal.read_record-returns-in_ok-fields-in-Object
+read_record-returns-in_ok-fields-in-Object t c =
+    record_read (schema_type c.args.levels) (view c.args.schema.now) (view c.args.properties.now) (members_view c.in-Object.members.entries) (items_view c.in_ok-required-in-Object.required.now) c.in_ok-fields-in-Object.fields (ap view c.in-Object.is ∙ view-Object _)
+    c.in_ok-required-in-Object.ensures c.in_ok-fields-in-Object.ensures

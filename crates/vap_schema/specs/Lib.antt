@@ -1,0 +1,5 @@
+pub mod FixedTypes
+pub mod Names
+pub mod Paths
+pub mod Schemas
+pub mod Seen

@@ -1,0 +1,270 @@
+-- What type a structural schema gives (Kubernetes, "Specifying a structural schema"; OpenAPI v3, "Schema Object").
+use Rattle.std.specs.Prelude.{◌≡◌, ℕ, zero, suc, ◌^◌, ◌&&◌, ◌||◌, Bool, true, false, not, nat_lt, if◌then◌else◌, List, [], ◌∷◌, Option, Some, None, is_some, option_and_then, Result, Ok, Err, codes}
+use Rattle.std.specs.Borrow.{Bor}
+use Rattle.std.specs.Str.{bytes_eq}
+use Rattle.plain.specs.declared.text.Keyed.{Keyed}
+use Rattle.serde_json.specs.Data as json
+use Rattle.serde_json.specs.Data.{Data, Items, Members}
+use Rattle.serde_json.specs.Find.{get, as_bool, as_number, as_str, as_u64}
+use Rattle.serde_json.specs.View.{items_view}
+use Rattle.serde_json.specs.declared.value.Value.{Value as Json}
+use Rattle.cel_value.specs.declared.cel_type.Field.{Field}
+use Rattle.cel_value.specs.declared.cel_type.CelType as type
+use Rattle.cel_value.specs.declared.cel_type.CelType.{CelType}
+use Rattle.vap_schema.specs.Seen.{◌>>=◌}
+use Rattle.vap_schema.specs.FixedTypes.{with_fixed_fields}
+use Rattle.vap_schema.specs.declared.keywords.TypeWord.{TypeWord}
+use Rattle.vap_schema.specs.declared.keywords.TypeWord.TheVariants as word
+use Rattle.vap_schema.specs.declared.schema_fault.SchemaFault.{SchemaFault}
+use Rattle.vap_schema.specs.declared.schema_fault.SchemaFault.TheVariants.{NoType, BadKeyword, TooDeep}
+use Rattle.vap_schema.specs.declared.schema_fault.SchemaError.{SchemaError}
+use Rattle.vap_schema.specs.declared.schema_fault.SchemaError.TheVariants.{Fault, OutOfMemory}
+
+-- ---- keywords
+
+-- what is stated, or that it is of a wrong kind
+abbrev pub stated : {A : Type 0} → Option A → Result A SchemaFault
+stated (Some a) = Ok a
+stated None = Err BadKeyword
+
+-- what stands under a keyword that is true or false: it is false where it is absent
+abbrev pub flag_in : Option Data → Result Bool SchemaFault
+flag_in None = Ok false
+flag_in (Some d) = stated (as_bool d)
+
+-- a keyword that is true or false
+abbrev pub flag : List ℕ → Data → Result Bool SchemaFault
+flag name d = flag_in (get name d)
+
+-- a whole number from 0 to 4,294,967,295
+abbrev pub in_range : Option ℕ → Result ℕ SchemaFault
+in_range (Some n) = if nat_lt n (2 ^ 32) then Ok n else Err BadKeyword
+in_range None = Err BadKeyword
+
+-- what stands under a limit, and what the limit is where it is absent
+abbrev pub limit_in : ℕ → Option Data → Result ℕ SchemaFault
+limit_in unstated None = Ok unstated
+limit_in unstated (Some d) = in_range (option_and_then as_u64 (as_number d))
+
+-- a keyword that is a limit, with what it is where it is absent
+abbrev pub limit : List ℕ → ℕ → Data → Result ℕ SchemaFault
+limit name unstated d = limit_in unstated (get name d)
+
+-- what stands under a keyword that may not be there
+abbrev pub absent_in : Option Data → Result (Unit {0}) SchemaFault
+absent_in None = Ok tt
+absent_in (Some d) = Err BadKeyword
+
+-- nothing, or that a keyword is there which may not be
+abbrev pub absent : List ℕ → Data → Result (Unit {0}) SchemaFault
+absent name d = absent_in (get name d)
+
+-- the words of `type`
+abbrev pub type_word : List ℕ → Option TypeWord
+type_word s =
+    if bytes_eq s (codes "boolean") then Some word.Boolean
+    else (if bytes_eq s (codes "integer") then Some word.Integer
+    else (if bytes_eq s (codes "number") then Some word.Number
+    else (if bytes_eq s (codes "string") then Some word.String
+    else (if bytes_eq s (codes "array") then Some word.Array
+    else (if bytes_eq s (codes "object") then Some word.Object
+    else None)))))
+
+-- a word that must be one of these
+abbrev pub some_word : Option TypeWord → Result (Option TypeWord) SchemaFault
+some_word (Some w) = Ok (Some w)
+some_word None = Err BadKeyword
+
+-- what stands under `type`: a word, or nothing
+abbrev pub type_word_in : Option Data → Result (Option TypeWord) SchemaFault
+type_word_in None = Ok None
+type_word_in (Some d) = some_word (option_and_then type_word (as_str d))
+
+-- the word of `type`, if there is one
+abbrev pub stated_word : Data → Result (Option TypeWord) SchemaFault
+stated_word d = type_word_in (get (codes "type") d)
+
+-- whether this is the word of a plain list
+abbrev pub plain_word : Option (List ℕ) → Result Bool SchemaFault
+plain_word (Some s) = Ok (not (bytes_eq s (codes "set") || bytes_eq s (codes "map")))
+plain_word None = Err BadKeyword
+
+-- what stands under the kind of a list: it is plain where it is absent
+abbrev pub plain_in : Option Data → Result Bool SchemaFault
+plain_in None = Ok true
+plain_in (Some d) = plain_word (as_str d)
+
+-- whether a list is plain: neither a set nor an associative list
+abbrev pub is_plain : Data → Result Bool SchemaFault
+is_plain d = plain_in (get (codes "x-kubernetes-list-type") d)
+
+-- whether all items are texts
+abbrev pub all_texts : Items → Bool
+all_texts json.no_items = true
+all_texts (json.item d ds) = is_some (as_str d) && all_texts ds
+
+-- what stands under the names: none where they are absent
+abbrev pub names_in : Option Data → Result Items SchemaFault
+names_in None = Ok json.no_items
+names_in (Some (json.array ds)) = if all_texts ds then Ok ds else Err BadKeyword
+names_in (Some _) = Err BadKeyword
+
+-- the names of required fields
+abbrev pub required_names : Data → Result Items SchemaFault
+required_names d = names_in (get (codes "required") d)
+
+-- whether this is the text
+abbrev pub is_text : List ℕ → Option (List ℕ) → Bool
+is_text s (Some t) = bytes_eq t s
+is_text s None = false
+
+-- whether a name is one of these
+abbrev pub is_among : List ℕ → Items → Bool
+is_among name json.no_items = false
+is_among name (json.item d ds) = is_text name (as_str d) || is_among name ds
+
+-- ---- types
+
+-- what schemas inside give
+abbrev pub Inner : Type 0
+Inner = Data → Result CelType SchemaFault
+
+-- a schema of no type: anything may stand there, and nothing is read of it
+abbrev pub untyped : Data → Result CelType SchemaFault
+untyped d = do
+  kept ← flag (codes "x-kubernetes-preserve-unknown-fields") d
+  either ← flag (codes "x-kubernetes-int-or-string") d
+  if kept || either then Ok type.Opaque else Err NoType
+
+-- a text
+abbrev pub text_type : Data → Result CelType SchemaFault
+text_type d = do
+  max ← limit (codes "maxLength") 1048576 d
+  Ok (type.Text max)
+
+-- a list, a set or an associative list
+abbrev pub list_type : Inner → Data → Result CelType SchemaFault
+list_type inner d = do
+  max ← limit (codes "maxItems") 524287 d
+  plain ← is_plain d
+  items ← stated (get (codes "items") d)
+  item ← inner items
+  Ok (type.List max plain item)
+
+-- a field, with the type that its schema gives
+abbrev pub field_of : Inner → Items → List ℕ → Data → Result (Keyed (Field CelType)) SchemaFault
+field_of inner required k d = do
+  t ← inner d
+  Ok (record { key = k; value = record { required = is_among k required; cel_type = t } })
+
+-- the fields of an object, in the order of their names
+abbrev pub fields_of : Inner → Items → Members → Result (List (Keyed (Field CelType))) SchemaFault
+fields_of inner required json.no_members = Ok []
+fields_of inner required (json.member k d ms) = do
+  f ← field_of inner required k d
+  more ← fields_of inner required ms
+  Ok (f ∷ more)
+
+-- an object without properties has no fields, or is kept as it is
+abbrev pub bare_type : Data → Result CelType SchemaFault
+bare_type d = do
+  kept ← flag (codes "x-kubernetes-preserve-unknown-fields") d
+  if kept then Ok type.Opaque else (do
+    _ ← required_names d
+    Ok (type.Object []))
+
+-- an object of the fields that its properties name
+abbrev pub record_type : Inner → Data → Data → Result CelType SchemaFault
+record_type inner d (json.object properties) = do
+  required ← required_names d
+  fields ← fields_of inner required properties
+  Ok (type.Object fields)
+record_type inner d _ = Err BadKeyword
+
+-- what stands under `properties`
+abbrev pub closed_in : Inner → Data → Option Data → Result CelType SchemaFault
+closed_in inner d None = bare_type d
+closed_in inner d (Some properties) = record_type inner d properties
+
+-- an object with no other fields than its properties
+abbrev pub closed_type : Inner → Data → Result CelType SchemaFault
+closed_type inner d = closed_in inner d (get (codes "properties") d)
+
+-- whether this is the word `false`
+abbrev pub is_false : Data → Bool
+is_false (json.boolean b) = not b
+is_false _ = false
+
+-- what stands under any name: anything, or what a schema gives
+abbrev pub entry_type : Inner → Data → Result CelType SchemaFault
+entry_type inner (json.boolean b) = Ok type.Opaque
+entry_type inner (json.object ms) = inner (json.object ms)
+entry_type inner _ = Err BadKeyword
+
+-- an object of entries under any names, and no properties beside
+abbrev pub map_type : Inner → Data → Data → Result CelType SchemaFault
+map_type inner d entry = do
+  _ ← absent (codes "properties") d
+  max ← limit (codes "maxProperties") 524287 d
+  item ← entry_type inner entry
+  Ok (type.Map max 1048576 item)
+
+-- what stands under `additionalProperties`
+abbrev pub object_in : Inner → Data → Option Data → Result CelType SchemaFault
+object_in inner d None = closed_type inner d
+object_in inner d (Some entry) = if is_false entry then closed_type inner d else map_type inner d entry
+
+-- an object
+abbrev pub object_type : Inner → Data → Result CelType SchemaFault
+object_type inner d = object_in inner d (get (codes "additionalProperties") d)
+
+-- the type by the word of `type`
+abbrev pub typed_as : Inner → Data → Option TypeWord → Result CelType SchemaFault
+typed_as inner d None = untyped d
+typed_as inner d (Some word.Boolean) = Ok type.Bool
+typed_as inner d (Some word.Integer) = Ok type.Int
+typed_as inner d (Some word.Number) = Ok type.Opaque
+typed_as inner d (Some word.String) = text_type d
+typed_as inner d (Some word.Array) = list_type inner d
+typed_as inner d (Some word.Object) = object_type inner d
+
+-- the type of a schema, null apart
+abbrev pub own_type : Inner → Data → Result CelType SchemaFault
+own_type inner d = do
+  _ ← absent (codes "$ref") d
+  w ← stated_word d
+  typed_as inner d w
+
+-- whether this is an object
+abbrev pub is_object : Data → Bool
+is_object (json.object ms) = true
+is_object _ = false
+
+-- the type of a schema that is no root, with null where it says so
+abbrev pub nested_type : Inner → Data → Result CelType SchemaFault
+nested_type inner d = if is_object d then (do
+  nullable ← flag (codes "nullable") d
+  t ← own_type inner d
+  Ok (if nullable then type.Nullable t else t)) else Err BadKeyword
+
+-- the type of a schema that is no root, where so many may stand inside each other
+unfoldable pub schema_type : ℕ → Data → Result CelType SchemaFault
+schema_type zero d = Err TooDeep
+schema_type (suc levels) d = nested_type (schema_type levels) d
+
+-- the type of the objects whose root schema this is: at most 100 schemas stand inside each other
+abbrev pub object_type_of : Data → Result CelType SchemaFault
+object_type_of d = if is_object d then (do
+  t ← own_type (schema_type 99) d
+  Ok (with_fixed_fields t)) else Err BadKeyword
+
+-- the answer has these names, or this fault
+abbrev pub NamesAre : Result Items SchemaFault → Result (Bor (List Json)) SchemaFault → Type 0
+NamesAre want (Ok names) = want ≡ Ok (items_view names.now)
+NamesAre want (Err f) = want ≡ Err f
+
+-- the answer is this one or this fault, or memory ran out
+abbrev pub Answers : {A : Type 0} → Result A SchemaFault → Result A SchemaError → Type 0
+Answers want (Ok a) = want ≡ Ok a
+Answers want (Err (Fault f)) = want ≡ Err f
+Answers want (Err OutOfMemory) = Unit {0}

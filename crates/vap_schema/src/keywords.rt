@@ -1,0 +1,167 @@
+//! The keywords of one schema (OpenAPI v3, "Schema Object"; Kubernetes, "Specifying a structural schema").
+
+ghost use Rattle.std.specs.Prelude.{◌≡◌};
+ghost use Rattle.serde_json.specs.View.{view, items_view};
+ghost use Rattle.serde_json.specs.Find.{as_str};
+ghost use Rattle.vap_schema.specs.Schemas.{flag, limit, absent, type_word, stated_word, is_plain, all_texts, required_names, is_text, is_among, is_false, NamesAre};
+
+use crate::schema_fault::SchemaFault;
+use serde_json::Value as Json;
+
+/// The words of `type`.
+#[derive(Clone, Copy, Debug, PartialEq, Eq)]
+pub enum TypeWord {
+    Boolean,
+    Integer,
+    Number,
+    String,
+    Array,
+    Object,
+}
+
+/// A keyword that is true or false, and false where it is absent.
+pub fn flag(schema: &Json, name: &str) -> Result<bool, SchemaFault>
+    ensures { result ≡ flag name.now (view schema.now) }
+{
+    match schema.get(name) {
+        Some(value) => match value.as_bool() {
+            Some(truth) => Ok(truth),
+            None => Err(SchemaFault::BadKeyword),
+        },
+        None => Ok(false),
+    }
+}
+
+/// A keyword that is a limit, with what it is where it is absent.
+pub fn limit(schema: &Json, name: &str, unstated: u32) -> Result<u32, SchemaFault>
+    ensures { result ≡ limit name.now unstated (view schema.now) }
+{
+    match schema.get(name) {
+        Some(value) => match value.as_u64() {
+            Some(number) => {
+                if number < 4_294_967_296 {
+                    Ok(number as u32)
+                } else {
+                    Err(SchemaFault::BadKeyword)
+                }
+            }
+            None => Err(SchemaFault::BadKeyword),
+        },
+        None => Ok(unstated),
+    }
+}
+
+/// Refuses a keyword that may not stand there.
+pub fn check_absent(schema: &Json, name: &str) -> Result<(), SchemaFault>
+    ensures { result ≡ absent name.now (view schema.now) }
+{
+    match schema.get(name) {
+        Some(_) => Err(SchemaFault::BadKeyword),
+        None => Ok(()),
+    }
+}
+
+/// The word of `type`, if there is one.
+pub fn stated_word(schema: &Json) -> Result<Option<TypeWord>, SchemaFault>
+    ensures { result ≡ stated_word (view schema.now) }
+{
+    match schema.get("type") {
+        Some(value) => match value.as_str() {
+            Some(text) => match type_word(text) {
+                Some(word) => Ok(Some(word)),
+                None => Err(SchemaFault::BadKeyword),
+            },
+            None => Err(SchemaFault::BadKeyword),
+        },
+        None => Ok(None),
+    }
+}
+
+fn type_word(text: &str) -> Option<TypeWord>
+    ensures { result ≡ type_word text.now }
+{
+    if text == "boolean" {
+        Some(TypeWord::Boolean)
+    } else if text == "integer" {
+        Some(TypeWord::Integer)
+    } else if text == "number" {
+        Some(TypeWord::Number)
+    } else if text == "string" {
+        Some(TypeWord::String)
+    } else if text == "array" {
+        Some(TypeWord::Array)
+    } else if text == "object" {
+        Some(TypeWord::Object)
+    } else {
+        None
+    }
+}
+
+/// Whether a list is plain: neither a set nor an associative list.
+pub fn is_plain(schema: &Json) -> Result<bool, SchemaFault>
+    ensures { result ≡ is_plain (view schema.now) }
+{
+    match schema.get("x-kubernetes-list-type") {
+        Some(value) => match value.as_str() {
+            Some(text) => Ok(!(text == "set" || text == "map")),
+            None => Err(SchemaFault::BadKeyword),
+        },
+        None => Ok(true),
+    }
+}
+
+/// The names of required fields.
+pub fn required_names(schema: &Json) -> Result<&[Json], SchemaFault>
+    ensures { NamesAre (required_names (view schema.now)) result }
+{
+    match schema.get("required") {
+        Some(Json::Array(names)) => {
+            if all_texts(names.as_slice()) {
+                Ok(names.as_slice())
+            } else {
+                Err(SchemaFault::BadKeyword)
+            }
+        }
+        Some(_) => Err(SchemaFault::BadKeyword),
+        None => Ok(&[]),
+    }
+}
+
+fn all_texts(names: &[Json]) -> bool
+    ensures { result ≡ all_texts (items_view names.now) }
+{
+    for name in names {
+        if !name.is_string() {
+            return false;
+        }
+    }
+    true
+}
+
+/// Whether a name is one of these.
+pub fn is_among(names: &[Json], name: &str) -> bool
+    ensures { result ≡ is_among name.now (items_view names.now) }
+{
+    for other in names {
+        if is_text(other, name) {
+            return true;
+        }
+    }
+    false
+}
+
+fn is_text(value: &Json, text: &str) -> bool
+    ensures { result ≡ is_text text.now (as_str (view value.now)) }
+{
+    match value.as_str() {
+        Some(found) => found == text,
+        None => false,
+    }
+}
+
+/// Whether a value is the word `false`.
+pub fn is_false(value: &Json) -> bool
+    ensures { result ≡ is_false (view value.now) }
+{
+    matches!(value, Json::Bool(false))
+}

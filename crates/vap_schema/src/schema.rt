@@ -1,0 +1,254 @@
+//! From a schema to the type of what it describes.
+
+ghost use Rattle.std.specs.Prelude.{◌≡◌};
+ghost use Rattle.serde_json.specs.View.{view, items_view, members_view};
+ghost use Rattle.vap_schema.specs.Schemas.{Answers, schema_type, nested_type, own_type, untyped, list_type, object_type, closed_type, record_type, bare_type, map_type, entry_type, fields_of, field_of, object_type_of};
+
+use crate::fixed_types::with_fixed_fields;
+use crate::keywords::{
+    TypeWord, check_absent, flag, is_among, is_false, is_plain, limit, required_names, stated_word,
+};
+use crate::schema_fault::{SchemaError, SchemaFault};
+use cel_value::{CelType, Field};
+use plain::{Boxed, Keyed, Text, TextMap};
+use serde_json::{Map, Value as Json};
+use std::alloc::Global;
+use std::marker::Model;
+
+/// The schema of a kind, which contracts see as the type of the kind's objects.
+#[derive(Debug, Drop)]
+pub struct Schema {
+    object_type: CelType,
+}
+
+impl Model for Schema {
+    ghost use Rattle.std.specs.Coded.{codes};
+    ghost use Rattle.cel_value.specs.contracts.cel_type.CelType as cel_type;
+    ghost use Rattle.cel_value.specs.declared.cel_type.CelType.{CelType};
+
+    ghost Value = { CelType };
+
+    ghost coded = { Prim.hlevel (codes, cel_type.the_row.coded) };
+
+    ghost view = { λ s. s.object_type };
+}
+
+impl Schema {
+    /// The schema of a kind, or its first fault: of a schema before those inside it, these in document order.
+    pub fn from_json(alloc: Global, json: &Json) -> Result<Schema, SchemaError>
+        ensures { Answers (object_type_of (view json.now)) result }
+    {
+        if !json.is_object() {
+            return Err(SchemaError::Fault(SchemaFault::BadKeyword));
+        }
+        let object_type = read_own(99, alloc, json)?;
+        Ok(Schema {
+            object_type: with_fixed_fields(alloc, object_type)?,
+        })
+    }
+
+    /// The type of the kind's objects.
+    pub fn object_type(&self) -> &CelType
+        ensures { result.now ≡ self.now }
+    {
+        &self.object_type
+    }
+}
+
+/// The type of a schema that is no root, where so many may stand inside each other.
+#[cycle(read_schema)]
+fn read_schema(levels: u32, alloc: Global, schema: &Json) -> Result<CelType, SchemaError>
+    ensures { Answers (schema_type levels (view schema.now)) result }
+{
+    if levels == 0 {
+        return Err(SchemaError::Fault(SchemaFault::TooDeep));
+    }
+    read_nested(levels - 1, alloc, schema)
+}
+
+/// The type of a schema that is no root, where so many may stand inside each other in it.
+#[cycle(read_schema)]
+fn read_nested(levels: u32, alloc: Global, schema: &Json) -> Result<CelType, SchemaError>
+    ensures { Answers (nested_type (schema_type levels) (view schema.now)) result }
+{
+    if !schema.is_object() {
+        return Err(SchemaError::Fault(SchemaFault::BadKeyword));
+    }
+    let nullable = flag(schema, "nullable")?;
+    let cel_type = read_own(levels, alloc, schema)?;
+    if nullable {
+        Ok(CelType::Nullable(Boxed::new(alloc, cel_type)?))
+    } else {
+        Ok(cel_type)
+    }
+}
+
+/// The type of a schema, null apart, where so many may stand inside each other in it.
+#[cycle(read_schema)]
+fn read_own(levels: u32, alloc: Global, schema: &Json) -> Result<CelType, SchemaError>
+    ensures { Answers (own_type (schema_type levels) (view schema.now)) result }
+{
+    check_absent(schema, "$ref")?;
+    match stated_word(schema)? {
+        None => Ok(untyped(schema)?),
+        Some(TypeWord::Boolean) => Ok(CelType::Bool),
+        Some(TypeWord::Integer) => Ok(CelType::Int),
+        Some(TypeWord::Number) => Ok(CelType::Opaque),
+        Some(TypeWord::String) => {
+            let max = limit(schema, "maxLength", 1_048_576)?;
+            Ok(CelType::Text { max })
+        }
+        Some(TypeWord::Array) => read_list(levels, alloc, schema),
+        Some(TypeWord::Object) => read_object(levels, alloc, schema),
+    }
+}
+
+fn untyped(schema: &Json) -> Result<CelType, SchemaFault>
+    ensures { result ≡ untyped (view schema.now) }
+{
+    let kept = flag(schema, "x-kubernetes-preserve-unknown-fields")?;
+    let either = flag(schema, "x-kubernetes-int-or-string")?;
+    if kept || either {
+        Ok(CelType::Opaque)
+    } else {
+        Err(SchemaFault::NoType)
+    }
+}
+
+#[cycle(read_schema)]
+fn read_list(levels: u32, alloc: Global, schema: &Json) -> Result<CelType, SchemaError>
+    ensures { Answers (list_type (schema_type levels) (view schema.now)) result }
+{
+    let max = limit(schema, "maxItems", 524_287)?;
+    let plain = is_plain(schema)?;
+    match schema.get("items") {
+        Some(items) => {
+            let item = read_schema(levels, alloc, items)?;
+            Ok(CelType::List {
+                max,
+                plain,
+                item: Boxed::new(alloc, item)?,
+            })
+        }
+        None => Err(SchemaError::Fault(SchemaFault::BadKeyword)),
+    }
+}
+
+#[cycle(read_schema)]
+fn read_object(levels: u32, alloc: Global, schema: &Json) -> Result<CelType, SchemaError>
+    ensures { Answers (object_type (schema_type levels) (view schema.now)) result }
+{
+    match schema.get("additionalProperties") {
+        Some(entry) => {
+            if is_false(entry) {
+                read_closed(levels, alloc, schema)
+            } else {
+                read_map(levels, alloc, schema, entry)
+            }
+        }
+        None => read_closed(levels, alloc, schema),
+    }
+}
+
+#[cycle(read_schema)]
+fn read_map(levels: u32, alloc: Global, schema: &Json, entry: &Json) -> Result<CelType, SchemaError>
+    ensures { Answers (map_type (schema_type levels) (view schema.now) (view entry.now)) result }
+{
+    check_absent(schema, "properties")?;
+    let max = limit(schema, "maxProperties", 524_287)?;
+    let item = read_entry(levels, alloc, entry)?;
+    Ok(CelType::Map {
+        max,
+        key_max: 1_048_576,
+        item: Boxed::new(alloc, item)?,
+    })
+}
+
+/// What stands under each name of a map: anything, or what a schema gives.
+#[cycle(read_schema)]
+fn read_entry(levels: u32, alloc: Global, entry: &Json) -> Result<CelType, SchemaError>
+    ensures { Answers (entry_type (schema_type levels) (view entry.now)) result }
+{
+    match entry {
+        Json::Bool(_) => Ok(CelType::Opaque),
+        Json::Object(_) => read_schema(levels, alloc, entry),
+        _ => Err(SchemaError::Fault(SchemaFault::BadKeyword)),
+    }
+}
+
+#[cycle(read_schema)]
+fn read_closed(levels: u32, alloc: Global, schema: &Json) -> Result<CelType, SchemaError>
+    ensures { Answers (closed_type (schema_type levels) (view schema.now)) result }
+{
+    match schema.get("properties") {
+        Some(properties) => read_record(levels, alloc, schema, properties),
+        None => Ok(bare(alloc, schema)?),
+    }
+}
+
+/// An object of the fields that its properties name.
+#[cycle(read_schema)]
+fn read_record(
+    levels: u32,
+    alloc: Global,
+    schema: &Json,
+    properties: &Json,
+) -> Result<CelType, SchemaError>
+    ensures { Answers (record_type (schema_type levels) (view schema.now) (view properties.now)) result }
+{
+    match properties {
+        Json::Object(members) => {
+            let required = required_names(schema)?;
+            let fields = read_fields(levels, alloc, required, members)?;
+            Ok(CelType::Object { fields })
+        }
+        _ => Err(SchemaError::Fault(SchemaFault::BadKeyword)),
+    }
+}
+
+/// An object without properties has no fields, or is kept as it is.
+fn bare(alloc: Global, schema: &Json) -> Result<CelType, SchemaFault>
+    ensures { result ≡ bare_type (view schema.now) }
+{
+    if flag(schema, "x-kubernetes-preserve-unknown-fields")? {
+        return Ok(CelType::Opaque);
+    }
+    required_names(schema)?;
+    Ok(CelType::Object {
+        fields: TextMap::new(alloc),
+    })
+}
+
+#[cycle(read_schema)]
+fn read_fields(
+    levels: u32,
+    alloc: Global,
+    required: &[Json],
+    properties: &Map<String, Json>,
+) -> Result<TextMap<Field<CelType>>, SchemaError>
+    ensures { Answers (fields_of (schema_type levels) (items_view required.now) (members_view properties.now.entries)) result }
+{
+    let mut fields = Vec::with_capacity(alloc, properties.len())?;
+    for (name, schema) in properties.iter() {
+        fields.push(read_field(levels, alloc, required, name.as_str(), schema)?)?;
+    }
+    Ok(TextMap::from_vec(fields))
+}
+
+#[cycle(read_schema)]
+fn read_field(
+    levels: u32,
+    alloc: Global,
+    required: &[Json],
+    name: &str,
+    schema: &Json,
+) -> Result<Keyed<Field<CelType>>, SchemaError>
+    ensures { Answers (field_of (schema_type levels) (items_view required.now) name.now (view schema.now)) result }
+{
+    let cel_type = read_schema(levels, alloc, schema)?;
+    let required = is_among(required, name);
+    Ok(Keyed {
+        key: Text::from_str(alloc, name)?,
+        value: Field { required, cel_type },
+    })
+}
