@@ -1,7 +1,7 @@
 -- A typed tree that checking gives is well typed.
 use Rattle.std.proofs.Common.{◌≡◌, ℕ, cond, true, false, ◌&&◌, List, [], ◌∷◌, Option, Some, None, ap, sym, ◌∙◌, subst, refl, inl, inr}
 use Rattle.std.proofs.lemmas.Bool.{and_from, cases_Bool}
-use Rattle.std.specs.Prelude.{Result, Ok, Err}
+use Rattle.std.specs.Prelude.{Result, Ok, Err, map}
 use Rattle.cel_value.specs.declared.value.Value as value
 use Rattle.cel_value.specs.declared.cel_type.CelType.{CelType}
 use Rattle.cel_value.specs.declared.cel_type.CelType as type
@@ -10,13 +10,14 @@ use Rattle.cel_value.specs.Join.{IsAbove}
 use Rattle.cel_value.proofs.Above.{join-above}
 use Rattle.cel_value.proofs.Reflexive.{assignable-refl}
 use Rattle.cel_code.proofs.Opened.{bool_fits, int_fits}
+use Rattle.cel_parse.specs.declared.expr.Entry.{Entry}
 use Rattle.cel_parse.specs.declared.expr.Expr.{Expr, roll-Expr}
 use Rattle.cel_parse.specs.declared.expr.Expr.TheOpen.{Expr-F}
 use Rattle.cel_parse.specs.declared.expr.Expr.TheFolds.{map-Expr, fold-roll-Expr, ind-Expr}
 use Rattle.cel_parse.specs.declared.expr.Syntax.{Syntax}
 use Rattle.cel_parse.specs.declared.expr.Syntax.TheVariants as syntax
 use Rattle.cel_code.specs.declared.cel_check.fault.TypeRule.{TypeRule}
-use Rattle.cel_code.specs.declared.cel_check.fault.TypeRule.TheVariants.{NoOverload, Mixed, TooLarge}
+use Rattle.cel_code.specs.declared.cel_check.fault.TypeRule.TheVariants.{UnknownName, NoOverload, Mixed, TooLarge}
 use Rattle.cel_code.specs.declared.cel_check.operator.Operator.{Operator}
 use Rattle.cel_code.specs.declared.cel_check.operator.Overload.{Overload}
 use Rattle.cel_code.specs.declared.cel_check.scope.Scope.{Scope}
@@ -27,7 +28,7 @@ use Rattle.cel_code.specs.declared.cel_check.tree.Form.TheVariants as form
 use Rattle.cel_code.specs.Outcomes.{Types, types_outside}
 use Rattle.cel_code.specs.Operators.{row, type_of_one, type_of_two}
 use Rattle.cel_code.specs.Meaning.{is_truth, type_of, takes_result, Judged, right_at, judged_step, judged_of, is_right}
-use Rattle.cel_code.specs.Typing.{Names, types_in, types_of, names_of, Checked, refused, node, after, unary_overloads, binary_overloads, or_later, first_of, chosen, logic, joined_branches, conditional, checked_at, checked, is_too_large, checked_within}
+use Rattle.cel_code.specs.Typing.{Names, types_in, types_of, names_of, Checked, refused, node, after, after_each, after_entries, unary_overloads, binary_overloads, or_later, first_of, chosen, logic, joined_branches, conditional, checked_at, checked, is_too_large, checked_within}
 
 -- where there is a typed tree, it is well typed
 abbrev pub RightIn : Types → Checked → Type 0
@@ -57,6 +58,7 @@ FromRow f (Ok o) = f o.operator ≡ Ok o.cel_type
 or_later_from : (f : Operator → Result CelType TypeRule) (op : Operator) (r : Result CelType TypeRule) (later : Result Overload TypeRule) → f op ≡ r → FromRow f later → FromRow f (or_later op r later)
 unfolding FromRow
 or_later_from f op (Ok t) later e h = e
+or_later_from f op (Err UnknownName) later e h = tt
 or_later_from f op (Err NoOverload) later e h = h
 or_later_from f op (Err Mixed) later e h = tt
 or_later_from f op (Err TooLarge) later e h = tt
@@ -118,9 +120,44 @@ Such = (e : Expr) × AllRight e
 abbrev part : {A : Type 0} → (Such → A) → ℕ → Syntax Such → Syntax A
 part f p y = (map-Expr _ _ f (record { place = p; form = y })).form
 
+abbrev own : Such → Names → Checked
+own e = checked e.0
+
+abbrev own_entry : Entry Such → Entry (Names → Checked)
+own_entry e = record { key = own e.key; value = own e.value }
+
+each_right : (p : ℕ) (xs : List Such) (names : Names) → RightIn (types_of names) (after_each (map own xs) names (refused p NoOverload))
+each_right p [] names = tt
+each_right p (x ∷ xs) names = after_right (types_of names) (checked x.0 names) _ (x.1 names) (λ t h. each_right p xs names)
+
+entries_right : (p : ℕ) (xs : List (Entry Such)) (names : Names) → RightIn (types_of names) (after_entries (map own_entry xs) names (refused p NoOverload))
+entries_right p [] names = tt
+entries_right p (x ∷ xs) names = after_right (types_of names) (checked x.key.0 names) _ (x.key.1 names) (λ k h. after_right (types_of names) (checked x.value.0 names) _ (x.value.1 names) (λ v i. entries_right p xs names))
+
+twice : (xs : List Such) → map checked (map (λ (e : Such). e.0) xs) ≡ map own xs
+twice [] = refl
+twice (x ∷ xs) = ap (λ (cs : List (Names → Checked)). own x ∷ cs) (twice xs)
+
+twice_entries : (xs : List (Entry Such)) → map (λ (e : Entry Expr). record { key = checked e.key; value = checked e.value }) (map (λ (e : Entry Such). record { key = e.key.0; value = e.value.0 }) xs) ≡ map own_entry xs
+twice_entries [] = refl
+twice_entries (x ∷ xs) = ap (λ (cs : List (Entry (Names → Checked))). own_entry x ∷ cs) (twice_entries xs)
+
 level : (p : ℕ) (y : Syntax Such) (names : Names) → RightIn (types_of names) (checked_at p (part (λ e. checked e.0) p y) names)
 level p (syntax.Bool b) names = node_right type.Bool (form.Literal (value.Bool b)) (types_of names) (bool_fits b)
 level p (syntax.Int n) names = node_right type.Int (form.Literal (value.Int n)) (types_of names) (int_fits n)
+level p (syntax.Name n) names = tt
+level p syntax.Null names = tt
+level p (syntax.Uint n) names = tt
+level p (syntax.Text s) names = tt
+level p (syntax.Select a f) names = after_right (types_of names) (checked a.0 names) _ (a.1 names) (λ s h. tt)
+level p (syntax.Has a f) names = after_right (types_of names) (checked a.0 names) _ (a.1 names) (λ s h. tt)
+level p (syntax.Call f xs) names = each_right p xs names
+level p (syntax.Method a f xs) names = after_right (types_of names) (checked a.0 names) _ (a.1 names) (λ s h. each_right p xs names)
+level p (syntax.Index a b) names = after_right (types_of names) (checked a.0 names) _ (a.1 names) (λ s h. after_right (types_of names) (checked b.0 names) _ (b.1 names) (λ t k. tt))
+level p (syntax.List xs) names = each_right p xs names
+level p (syntax.Map es) names = entries_right p es names
+level p (syntax.Loop l a x b) names = after_right (types_of names) (checked a.0 names) _ (a.1 names) (λ s h. after_right (types_of names) (checked b.0 names) _ (b.1 names) (λ t k. tt))
+level p (syntax.MapWhere a x q t) names = after_right (types_of names) (checked a.0 names) _ (a.1 names) (λ s h. after_right (types_of names) (checked q.0 names) _ (q.1 names) (λ r k. after_right (types_of names) (checked t.0 names) _ (t.1 names) (λ u l. tt)))
 level p (syntax.Unary op a) names = after_right (types_of names) (checked a.0 names) _ (a.1 names) (λ s h. unary_right p (unary_overloads op) s (types_of names) h)
 level p (syntax.Binary op a b) names = after_right (types_of names) (checked a.0 names) _ (a.1 names) (λ s h. after_right (types_of names) (checked b.0 names) _ (b.1 names) (λ t k. binary_right p (binary_overloads op) s t (types_of names) h k))
 level p (syntax.And a b) names = after_right (types_of names) (checked a.0 names) _ (a.1 names) (λ s h. after_right (types_of names) (checked b.0 names) _ (b.1 names) (λ t k. and_right p s t (types_of names) h k))
@@ -130,6 +167,19 @@ level p (syntax.Conditional c a b) names = after_right (types_of names) (checked
 fused : (p : ℕ) (y : Syntax Such) → map-Expr _ _ checked (map-Expr _ _ (λ e. e.0) (record { place = p; form = y })) ≡ map-Expr _ _ (λ e. checked e.0) (record { place = p; form = y })
 fused p (syntax.Bool b) = refl
 fused p (syntax.Int n) = refl
+fused p (syntax.Name n) = refl
+fused p syntax.Null = refl
+fused p (syntax.Uint n) = refl
+fused p (syntax.Text s) = refl
+fused p (syntax.Select a f) = refl
+fused p (syntax.Has a f) = refl
+fused p (syntax.Call f xs) = ap (λ (cs : List (Names → Checked)). record { place = p; form = syntax.Call f cs }) (twice xs)
+fused p (syntax.Method a f xs) = ap (λ (cs : List (Names → Checked)). record { place = p; form = syntax.Method (own a) f cs }) (twice xs)
+fused p (syntax.Index a b) = refl
+fused p (syntax.List xs) = ap (λ (cs : List (Names → Checked)). record { place = p; form = syntax.List cs }) (twice xs)
+fused p (syntax.Map es) = ap (λ (cs : List (Entry (Names → Checked))). record { place = p; form = syntax.Map cs }) (twice_entries es)
+fused p (syntax.Loop l a x b) = refl
+fused p (syntax.MapWhere a x q t) = refl
 fused p (syntax.Unary op a) = refl
 fused p (syntax.Binary op a b) = refl
 fused p (syntax.And a b) = refl

@@ -7,3 +7,5 @@ pub mod Preserved
 pub mod Rows
 pub mod Runs
 mod WorkedRows
+mod Sizes
+mod Parts

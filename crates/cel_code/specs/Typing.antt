@@ -9,11 +9,12 @@ use Rattle.cel_parse.specs.declared.expr.UnaryOperator.{UnaryOperator}
 use Rattle.cel_parse.specs.declared.expr.UnaryOperator.TheVariants as unary_operator
 use Rattle.cel_parse.specs.declared.expr.BinaryOperator.{BinaryOperator}
 use Rattle.cel_parse.specs.declared.expr.BinaryOperator.TheVariants as binary_operator
+use Rattle.cel_parse.specs.declared.expr.Entry.{Entry}
 use Rattle.cel_parse.specs.declared.expr.Expr.{Expr, fold-Expr}
 use Rattle.cel_parse.specs.declared.expr.Syntax.{Syntax}
 use Rattle.cel_parse.specs.declared.expr.Syntax.TheVariants as syntax
 use Rattle.cel_code.specs.declared.cel_check.fault.TypeRule.{TypeRule}
-use Rattle.cel_code.specs.declared.cel_check.fault.TypeRule.TheVariants.{NoOverload, Mixed, TooLarge}
+use Rattle.cel_code.specs.declared.cel_check.fault.TypeRule.TheVariants.{UnknownName, NoOverload, Mixed, TooLarge}
 use Rattle.cel_code.specs.declared.cel_check.fault.TypeFault.{TypeFault}
 use Rattle.cel_code.specs.declared.cel_check.fault.CheckError.{CheckError}
 use Rattle.cel_code.specs.declared.cel_check.fault.CheckError.TheVariants as error
@@ -77,6 +78,7 @@ binary_overloads binary_operator.Greater = operator.Greater ∷ []
 binary_overloads binary_operator.AtLeast = operator.AtLeast ∷ []
 binary_overloads binary_operator.Equal = operator.Equal ∷ []
 binary_overloads binary_operator.NotEqual = operator.NotEqual ∷ []
+binary_overloads binary_operator.In = []
 binary_overloads binary_operator.Add = operator.Add ∷ []
 binary_overloads binary_operator.Subtract = operator.Subtract ∷ []
 binary_overloads binary_operator.Multiply = operator.Multiply ∷ []
@@ -86,6 +88,7 @@ binary_overloads binary_operator.Remainder = operator.Remainder ∷ []
 -- an overload that takes the operands, or the later ones where this one does not
 abbrev pub or_later : Operator → Result CelType TypeRule → Result Overload TypeRule → Result Overload TypeRule
 or_later op (Ok t) later = Ok (record { operator = op; cel_type = t })
+or_later op (Err UnknownName) later = Err UnknownName
 or_later op (Err NoOverload) later = later
 or_later op (Err Mixed) later = Err Mixed
 or_later op (Err TooLarge) later = Err TooLarge
@@ -122,10 +125,33 @@ abbrev pub conditional : ℕ → TypedTree → TypedTree → TypedTree → Check
 conditional place c a b =
     if is_truth (type_of c) then joined_branches place (form.Conditional c a b) (join (type_of a) (type_of b)) else refused place NoOverload
 
+-- all parts one after another, up to the first fault
+abbrev pub after_each : List (Names → Checked) → Names → Checked → Checked
+after_each [] names c = c
+after_each (a ∷ xs) names c = after (a names) (λ t. after_each xs names c)
+
+-- all keys and values one after another, up to the first fault
+abbrev pub after_entries : List (Entry (Names → Checked)) → Names → Checked → Checked
+after_entries [] names c = c
+after_entries (e ∷ es) names c = after (e.key names) (λ k. after (e.value names) (λ v. after_entries es names c))
+
 -- one level, where each part is its own checking in a scope of names
 abbrev pub checked_at : ℕ → Syntax (Names → Checked) → Names → Checked
 checked_at place (syntax.Bool b) names = Ok (node type.Bool (form.Literal (value.Bool b)))
 checked_at place (syntax.Int n) names = Ok (node type.Int (form.Literal (value.Int n)))
+checked_at place (syntax.Name n) names = refused place UnknownName
+checked_at place syntax.Null names = refused place NoOverload
+checked_at place (syntax.Uint n) names = refused place NoOverload
+checked_at place (syntax.Text s) names = refused place NoOverload
+checked_at place (syntax.Select a f) names = after (a names) (λ s. refused place NoOverload)
+checked_at place (syntax.Has a f) names = after (a names) (λ s. refused place NoOverload)
+checked_at place (syntax.Call f xs) names = after_each xs names (refused place NoOverload)
+checked_at place (syntax.Method a f xs) names = after (a names) (λ s. after_each xs names (refused place NoOverload))
+checked_at place (syntax.Index a b) names = after (a names) (λ s. after (b names) (λ t. refused place NoOverload))
+checked_at place (syntax.List xs) names = after_each xs names (refused place NoOverload)
+checked_at place (syntax.Map es) names = after_entries es names (refused place NoOverload)
+checked_at place (syntax.Loop l a x b) names = after (a names) (λ s. after (b names) (λ t. refused place NoOverload))
+checked_at place (syntax.MapWhere a x p t) names = after (a names) (λ s. after (p names) (λ r. after (t names) (λ u. refused place NoOverload)))
 checked_at place (syntax.Unary op a) names = after (a names) (λ s. chosen place (λ o. form.Unary o s) (overload_of_one op (type_of s)))
 checked_at place (syntax.Binary op a b) names =
     after (a names) (λ s. after (b names) (λ t. chosen place (λ o. form.Binary o s t) (overload_of_two op (type_of s) (type_of t))))
@@ -137,10 +163,33 @@ checked_at place (syntax.Conditional c a b) names = after (c names) (λ r. after
 abbrev pub checked : Expr → Names → Checked
 checked = fold-Expr (Names → Checked) (λ e. checked_at e.place e.form)
 
+-- the depth of the deepest part
+abbrev pub deepest : List ℕ → ℕ
+deepest [] = 0
+deepest (n ∷ ns) = max n (deepest ns)
+
+-- the depth of the deepest key or value
+abbrev pub deepest_entry : List (Entry ℕ) → ℕ
+deepest_entry [] = 0
+deepest_entry (e ∷ es) = max (max e.key e.value) (deepest_entry es)
+
 -- how deep a node is: a leaf 1, else one more than its deepest part
 abbrev pub depth_at : Syntax ℕ → ℕ
 depth_at (syntax.Bool b) = 1
 depth_at (syntax.Int n) = 1
+depth_at (syntax.Name n) = 1
+depth_at syntax.Null = 1
+depth_at (syntax.Uint n) = 1
+depth_at (syntax.Text s) = 1
+depth_at (syntax.Select a f) = 1 + a
+depth_at (syntax.Has a f) = 1 + a
+depth_at (syntax.Call f ns) = 1 + deepest ns
+depth_at (syntax.Method a f ns) = 1 + max a (deepest ns)
+depth_at (syntax.Index a b) = 1 + max a b
+depth_at (syntax.List ns) = 1 + deepest ns
+depth_at (syntax.Map es) = 1 + deepest_entry es
+depth_at (syntax.Loop l a x b) = 1 + max a b
+depth_at (syntax.MapWhere a x p t) = 1 + max a (max p t)
 depth_at (syntax.Unary op a) = 1 + a
 depth_at (syntax.Binary op a b) = 1 + max a b
 depth_at (syntax.And a b) = 1 + max a b
@@ -151,10 +200,33 @@ depth_at (syntax.Conditional c a b) = 1 + max c (max a b)
 abbrev pub depth_of : Expr → ℕ
 depth_of = fold-Expr ℕ (λ e. depth_at e.form)
 
+-- how many nodes the parts have
+abbrev pub total : List ℕ → ℕ
+total [] = 0
+total (n ∷ ns) = n + total ns
+
+-- how many the keys and values have
+abbrev pub total_entries : List (Entry ℕ) → ℕ
+total_entries [] = 0
+total_entries (e ∷ es) = (e.key + e.value) + total_entries es
+
 -- how many nodes there are
 abbrev pub nodes_at : Syntax ℕ → ℕ
 nodes_at (syntax.Bool b) = 1
 nodes_at (syntax.Int n) = 1
+nodes_at (syntax.Name n) = 1
+nodes_at syntax.Null = 1
+nodes_at (syntax.Uint n) = 1
+nodes_at (syntax.Text s) = 1
+nodes_at (syntax.Select a f) = 1 + a
+nodes_at (syntax.Has a f) = 1 + a
+nodes_at (syntax.Call f ns) = 1 + total ns
+nodes_at (syntax.Method a f ns) = 1 + (a + total ns)
+nodes_at (syntax.Index a b) = 1 + (a + b)
+nodes_at (syntax.List ns) = 1 + total ns
+nodes_at (syntax.Map es) = 1 + total_entries es
+nodes_at (syntax.Loop l a x b) = 1 + (a + b)
+nodes_at (syntax.MapWhere a x p t) = 1 + (a + (p + t))
 nodes_at (syntax.Unary op a) = 1 + a
 nodes_at (syntax.Binary op a b) = 1 + (a + b)
 nodes_at (syntax.And a b) = 1 + (a + b)
@@ -164,6 +236,22 @@ nodes_at (syntax.Conditional c a b) = 1 + (c + (a + b))
 -- the number of its nodes
 abbrev pub nodes_of : Expr → ℕ
 nodes_of = fold-Expr ℕ (λ e. nodes_at e.form)
+
+-- the checkings of several expressions
+abbrev pub each_checked : List Expr → List (Names → Checked)
+each_checked es = map checked es
+
+-- the checkings of keys and values
+abbrev pub entries_checked : List (Entry Expr) → List (Entry (Names → Checked))
+entries_checked es = map (λ e. record { key = checked e.key; value = checked e.value }) es
+
+-- their depths
+abbrev pub entry_depths : List (Entry Expr) → List (Entry ℕ)
+entry_depths es = map (λ e. record { key = depth_of e.key; value = depth_of e.value }) es
+
+-- how many nodes they have
+abbrev pub entry_sizes : List (Entry Expr) → List (Entry ℕ)
+entry_sizes es = map (λ e. record { key = nodes_of e.key; value = nodes_of e.value }) es
 
 -- past the limits of a tree
 abbrev pub is_too_large : Expr → Bool

@@ -24,7 +24,7 @@ pub fn compile(alloc: Global, typed: &Typed) -> Result<Image, AllocError>
 {
     let slots = Items::from_vec(copy_types(alloc, typed.slots.as_slice())?);
     let mut draft = Draft::new(alloc);
-    draft.emit(&typed.tree)?;
+    draft.emit(typed.tree.get())?;
     draft.put(Instr::End)?;
     let Draft {
         alloc: _,
@@ -37,7 +37,7 @@ pub fn compile(alloc: Global, typed: &Typed) -> Result<Image, AllocError>
         slots,
         constants,
         targets,
-        result: typed.tree.cel_type.copy(alloc)?,
+        result: typed.tree.get().cel_type.copy(alloc)?,
         code,
     })
 }

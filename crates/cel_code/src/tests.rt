@@ -3,55 +3,15 @@ use crate::cel_check::{
     is_whole,
 };
 use crate::{Image, Instr, compile};
-use cel_parse::{BinaryOperator, Expr, Syntax, UnaryOperator};
+use cel_parse::{Expr, Syntax, UnaryOperator, parse};
 use cel_value::{CelType, Value};
 use plain::Boxed;
 use std::alloc::{AllocError, Global};
 use std::test::Fail;
 
-fn truth(place: usize, value: bool) -> Expr {
-    Expr {
-        place,
-        form: Syntax::Bool(value),
-    }
-}
-
-fn number(place: usize, value: i64) -> Expr {
-    Expr {
-        place,
-        form: Syntax::Int(value),
-    }
-}
-
-fn binary(
-    alloc: Global,
-    place: usize,
-    operator: BinaryOperator,
-    left: Expr,
-    right: Expr,
-) -> Result<Expr, AllocError> {
-    let left = Boxed::new(alloc, left)?;
-    let right = Boxed::new(alloc, right)?;
-    Ok(Expr {
-        place,
-        form: Syntax::Binary(operator, left, right),
-    })
-}
-
-fn conditional(
-    alloc: Global,
-    place: usize,
-    condition: Expr,
-    yes: Expr,
-    no: Expr,
-) -> Result<Expr, AllocError> {
-    let condition = Boxed::new(alloc, condition)?;
-    let yes = Boxed::new(alloc, yes)?;
-    let no = Boxed::new(alloc, no)?;
-    Ok(Expr {
-        place,
-        form: Syntax::Conditional(condition, yes, no),
-    })
+/// The expression of a text, in a box, so that a test lets it go by a call.
+fn expr_of(alloc: Global, text: &str) -> Result<Boxed<Expr>, Fail> {
+    Ok(Boxed::new(alloc, parse(alloc, text)?)?)
 }
 
 fn no_overload(place: usize) -> TypeFault {
@@ -70,14 +30,20 @@ fn fault_of(alloc: Global, expr: &Expr) -> Result<Option<TypeFault>, Fail> {
     }
 }
 
-fn image_of(alloc: Global, expr: &Expr) -> Result<Image, Fail> {
-    let typed = check(alloc, expr, &Scope::new(alloc))?;
+fn fault_in(alloc: Global, text: &str) -> Result<Option<TypeFault>, Fail> {
+    let expr = expr_of(alloc, text)?;
+    fault_of(alloc, expr.get())
+}
+
+fn image_of(alloc: Global, text: &str) -> Result<Image, Fail> {
+    let expr = expr_of(alloc, text)?;
+    let typed = check(alloc, expr.get(), &Scope::new(alloc))?;
     Ok(compile(alloc, &typed)?)
 }
 
 #[test]
 fn a_truth_value_is_pushed_and_ends(rt: HostRuntime) -> Result<(), Fail> {
-    let image = image_of(rt.alloc(), &truth(0, true))?;
+    let image = image_of(rt.alloc(), "true")?;
     assert_eq!(rt; image.constants.len(), 1);
     assert!(rt; matches!(image.constants.get(0), Some(Value::Bool(true))));
     assert_eq!(rt;
@@ -90,13 +56,9 @@ fn a_truth_value_is_pushed_and_ends(rt: HostRuntime) -> Result<(), Fail> {
     Ok(())
 }
 
-// `1 + 1 == 2`: the constant 1 is held once.
 #[test]
 fn a_constant_is_held_once(rt: HostRuntime) -> Result<(), Fail> {
-    let alloc = rt.alloc();
-    let sum = binary(alloc, 2, BinaryOperator::Add, number(0, 1), number(4, 1))?;
-    let expr = binary(alloc, 6, BinaryOperator::Equal, sum, number(9, 2))?;
-    let image = image_of(alloc, &expr)?;
+    let image = image_of(rt.alloc(), "1 + 1 == 2")?;
     assert_eq!(rt; image.constants.len(), 2);
     assert!(rt; matches!(image.constants.get(0), Some(Value::Int(1))));
     assert!(rt; matches!(image.constants.get(1), Some(Value::Int(2))));
@@ -112,12 +74,10 @@ fn a_constant_is_held_once(rt: HostRuntime) -> Result<(), Fail> {
     Ok(())
 }
 
-// `true ? 1 : 2`: jumps arrive at the second branch with nothing, and behind it with an int.
+// Jumps arrive at the second branch with nothing, and behind it with an int.
 #[test]
 fn a_conditional_jumps_over_a_branch(rt: HostRuntime) -> Result<(), Fail> {
-    let alloc = rt.alloc();
-    let expr = conditional(alloc, 5, truth(0, true), number(7, 1), number(11, 2))?;
-    let image = image_of(alloc, &expr)?;
+    let image = image_of(rt.alloc(), "true ? 1 : 2")?;
     let code = [
         Instr::Const(0),
         Instr::Cond(4, 5),
@@ -137,28 +97,16 @@ fn a_conditional_jumps_over_a_branch(rt: HostRuntime) -> Result<(), Fail> {
     Ok(())
 }
 
-// `1 == true`
 #[test]
 fn a_comparison_of_two_kinds_has_no_overload(rt: HostRuntime) -> Result<(), Fail> {
-    let alloc = rt.alloc();
-    let expr = binary(
-        alloc,
-        2,
-        BinaryOperator::Equal,
-        number(0, 1),
-        truth(5, true),
-    )?;
-    let fault = fault_of(alloc, &expr)?;
+    let fault = fault_in(rt.alloc(), "1 == true")?;
     assert_eq!(rt; fault, Some(no_overload(2)));
     Ok(())
 }
 
-// `true ? 1 : false`
 #[test]
 fn branches_of_two_kinds_are_mixed(rt: HostRuntime) -> Result<(), Fail> {
-    let alloc = rt.alloc();
-    let expr = conditional(alloc, 5, truth(0, true), number(7, 1), truth(11, false))?;
-    let fault = fault_of(alloc, &expr)?;
+    let fault = fault_in(rt.alloc(), "true ? 1 : false")?;
     let want = TypeFault {
         rule: TypeRule::Mixed,
         place: 5,
@@ -167,32 +115,26 @@ fn branches_of_two_kinds_are_mixed(rt: HostRuntime) -> Result<(), Fail> {
     Ok(())
 }
 
-// `(1 + true) < (2 + true)`: the left fault is the first.
 #[test]
 fn the_left_fault_is_the_first(rt: HostRuntime) -> Result<(), Fail> {
-    let alloc = rt.alloc();
-    let left = binary(alloc, 3, BinaryOperator::Add, number(1, 1), truth(5, true))?;
-    let right = binary(
-        alloc,
-        16,
-        BinaryOperator::Add,
-        number(14, 2),
-        truth(18, true),
-    )?;
-    let expr = binary(alloc, 11, BinaryOperator::Less, left, right)?;
-    let fault = fault_of(alloc, &expr)?;
+    let fault = fault_in(rt.alloc(), "(1 + true) < (2 + true)")?;
     assert_eq!(rt; fault, Some(no_overload(3)));
     Ok(())
 }
 
-/// `true` behind so many `!`.
-fn negated(alloc: Global, times: u32) -> Result<Expr, AllocError> {
-    let mut expr = truth(0, true);
+/// `true` behind so many `!`: deeper than a text may be.
+fn negated(alloc: Global, times: u32) -> Result<Boxed<Expr>, AllocError> {
+    let leaf = Expr {
+        place: 0,
+        form: Syntax::Bool(true),
+    };
+    let mut expr = Boxed::new(alloc, leaf)?;
     for _ in 0..times {
-        expr = Expr {
+        let negation = Expr {
             place: 7,
-            form: Syntax::Unary(UnaryOperator::Not, Boxed::new(alloc, expr)?),
+            form: Syntax::Unary(UnaryOperator::Not, expr),
         };
+        expr = Boxed::new(alloc, negation)?;
     }
     Ok(expr)
 }
@@ -200,12 +142,14 @@ fn negated(alloc: Global, times: u32) -> Result<Expr, AllocError> {
 #[test]
 fn a_tree_past_depth_100_is_too_large(rt: HostRuntime) -> Result<(), Fail> {
     let alloc = rt.alloc();
-    assert_eq!(rt; fault_of(alloc, &negated(alloc, 99)?)?, None);
+    let deepest = negated(alloc, 99)?;
+    assert_eq!(rt; fault_of(alloc, deepest.get())?, None);
+    let too_deep = negated(alloc, 100)?;
     let want = TypeFault {
         rule: TypeRule::TooLarge,
         place: 0,
     };
-    assert_eq!(rt; fault_of(alloc, &negated(alloc, 100)?)?, Some(want));
+    assert_eq!(rt; fault_of(alloc, too_deep.get())?, Some(want));
     Ok(())
 }
 
@@ -229,4 +173,41 @@ fn operators_have_their_numbers_and_types(rt: HostRuntime) {
     };
     let denied = overload.operator.type_of_one(&overload.cel_type);
     assert!(rt; matches!(&denied, Ok(CelType::Bool)));
+}
+
+#[test]
+fn what_is_not_typed_yet_is_refused(rt: HostRuntime) -> Result<(), Fail> {
+    let rows = [
+        ("a", TypeRule::UnknownName, 0),
+        ("1 + b", TypeRule::UnknownName, 4),
+        ("true && x", TypeRule::UnknownName, 8),
+        ("null", TypeRule::NoOverload, 0),
+        ("1u", TypeRule::NoOverload, 0),
+        ("'t'", TypeRule::NoOverload, 0),
+        ("a.b", TypeRule::UnknownName, 0),
+        ("1.b", TypeRule::NoOverload, 2),
+        ("has(1.b)", TypeRule::NoOverload, 0),
+        ("f(1, x)", TypeRule::UnknownName, 5),
+        ("f(1)", TypeRule::NoOverload, 0),
+        ("1.f(2)", TypeRule::NoOverload, 2),
+        ("1.f(x)", TypeRule::UnknownName, 4),
+        ("1[2]", TypeRule::NoOverload, 1),
+        ("1[x]", TypeRule::UnknownName, 2),
+        ("[1, x]", TypeRule::UnknownName, 4),
+        ("[]", TypeRule::NoOverload, 0),
+        ("{1: x}", TypeRule::UnknownName, 4),
+        ("{1: 2}", TypeRule::NoOverload, 0),
+        ("1 in 2", TypeRule::NoOverload, 2),
+        ("1.all(x, x)", TypeRule::UnknownName, 9),
+        ("1.all(x, true)", TypeRule::NoOverload, 2),
+        ("x.all(y, y)", TypeRule::UnknownName, 0),
+        ("1.map(x, y, z)", TypeRule::UnknownName, 9),
+        ("1.map(x, 2, z)", TypeRule::UnknownName, 12),
+        ("1.map(x, 2, 3)", TypeRule::NoOverload, 2),
+    ];
+    for (text, rule, place) in rows {
+        let fault = fault_in(rt.alloc(), text)?;
+        assert_eq!(rt; fault, Some(TypeFault { rule, place }), "{text}");
+    }
+    Ok(())
 }

@@ -1,21 +1,52 @@
-//! The expression of a tree.
+//! The expression of a tree, with its macros expanded.
 
-ghost use Rattle.std.specs.Prelude.{◌≡◌, Ok};
+ghost use Rattle.std.specs.Prelude.{◌≡◌, ℕ, List, IfOk, Ok};
 ghost use Rattle.cel_parse.specs.declared.expr.Expr.{Expr};
 ghost use Rattle.cel_parse.specs.Views.{same, Gives};
-ghost use Rattle.cel_parse.specs.Expansion.{expr, number_of, form_of, expanded};
+ghost use Rattle.cel_parse.specs.Words.{word_at};
+ghost use Rattle.cel_parse.specs.Expansion.{expr, after, number_of, form_of, each, each_entry, plain_call, has_of, call_of, name_in, loop_name, plain_method, loop_of_kind, method_of, expansion, expansions, entry_expansions, expanded};
 
-use crate::expr::{BinaryOperator, Expr, Syntax, UnaryOperator};
+use crate::expr::{BinaryOperator, Entry, Expr, Loop, Syntax, UnaryOperator};
 use crate::fault::{ParseError, ParseFault};
-use crate::tree::Tree;
+use crate::tree::{Joint, Tree};
+use crate::word::{is_has, loop_at, word_at};
 use cel_lex::{Infix, LexFault, LexFaultKind};
-use plain::Boxed;
-use std::alloc::Global;
+use plain::{Boxed, Items, Text};
+use std::alloc::{AllocError, Global};
 
 fn at(place: usize, form: Syntax<Expr>) -> Expr
     ensures { result ≡ expr place form }
 {
     Expr { place, form }
+}
+
+// The word that begins at a place.
+fn word(alloc: Global, source: &str, place: usize) -> Result<Text, AllocError>
+    ensures { IfOk result (λ t. t ≡ word_at source.now place) }
+{
+    Text::from_str(alloc, word_at(source, place))
+}
+
+fn boxed_two(alloc: Global, a: Expr, b: Expr) -> Result<(Boxed<Expr>, Boxed<Expr>), AllocError>
+    ensures { IfOk result (λ x. x ≡ (a, b)) }
+{
+    let a = Boxed::new(alloc, a)?;
+    let b = Boxed::new(alloc, b)?;
+    Ok((a, b))
+}
+
+fn boxed_three(
+    alloc: Global,
+    a: Expr,
+    b: Expr,
+    c: Expr,
+) -> Result<(Boxed<Expr>, Boxed<Expr>, Boxed<Expr>), AllocError>
+    ensures { IfOk result (λ x. x ≡ (a, b, c)) }
+{
+    let a = Boxed::new(alloc, a)?;
+    let b = Boxed::new(alloc, b)?;
+    let c = Boxed::new(alloc, c)?;
+    Ok((a, b, c))
 }
 
 // A number, unless it is out of range.
@@ -37,6 +68,19 @@ fn number(place: usize, is_negative: bool, magnitude: u64) -> Result<Expr, Parse
     Ok(at(place, Syntax::Int(value)))
 }
 
+fn text(place: usize, value: &Text) -> Result<Expr, ParseError>
+    ensures { Gives same result (Ok (expr place (Syntax.Text value.now))) }
+{
+    Ok(at(place, Syntax::Text(value.copy()?)))
+}
+
+fn named(alloc: Global, source: &str, place: usize) -> Result<Expr, ParseError>
+    ensures { Gives same result (Ok (expr place (Syntax.Name (word_at source.now place)))) }
+{
+    let name = word(alloc, source, place)?;
+    Ok(at(place, Syntax::Name(name)))
+}
+
 fn unary(
     alloc: Global,
     place: usize,
@@ -49,38 +93,39 @@ fn unary(
     Ok(at(place, Syntax::Unary(operator, operand)))
 }
 
-fn form(operator: Infix, left: Boxed<Expr>, right: Boxed<Expr>) -> Syntax<Expr>
-    ensures { result ≡ form_of operator left right }
+fn form(joint: Joint, left: Boxed<Expr>, right: Boxed<Expr>) -> Syntax<Expr>
+    ensures { result ≡ form_of joint left right }
 {
-    match operator {
-        Infix::Or => Syntax::Or(left, right),
-        Infix::And => Syntax::And(left, right),
-        Infix::Less => Syntax::Binary(BinaryOperator::Less, left, right),
-        Infix::AtMost => Syntax::Binary(BinaryOperator::AtMost, left, right),
-        Infix::Greater => Syntax::Binary(BinaryOperator::Greater, left, right),
-        Infix::AtLeast => Syntax::Binary(BinaryOperator::AtLeast, left, right),
-        Infix::Equal => Syntax::Binary(BinaryOperator::Equal, left, right),
-        Infix::NotEqual => Syntax::Binary(BinaryOperator::NotEqual, left, right),
-        Infix::Add => Syntax::Binary(BinaryOperator::Add, left, right),
-        Infix::Subtract => Syntax::Binary(BinaryOperator::Subtract, left, right),
-        Infix::Multiply => Syntax::Binary(BinaryOperator::Multiply, left, right),
-        Infix::Divide => Syntax::Binary(BinaryOperator::Divide, left, right),
-        Infix::Remainder => Syntax::Binary(BinaryOperator::Remainder, left, right),
-    }
+    let operator = match joint {
+        Joint::Infix(Infix::Or) => return Syntax::Or(left, right),
+        Joint::Infix(Infix::And) => return Syntax::And(left, right),
+        Joint::Infix(Infix::Less) => BinaryOperator::Less,
+        Joint::Infix(Infix::AtMost) => BinaryOperator::AtMost,
+        Joint::Infix(Infix::Greater) => BinaryOperator::Greater,
+        Joint::Infix(Infix::AtLeast) => BinaryOperator::AtLeast,
+        Joint::Infix(Infix::Equal) => BinaryOperator::Equal,
+        Joint::Infix(Infix::NotEqual) => BinaryOperator::NotEqual,
+        Joint::In => BinaryOperator::In,
+        Joint::Infix(Infix::Add) => BinaryOperator::Add,
+        Joint::Infix(Infix::Subtract) => BinaryOperator::Subtract,
+        Joint::Infix(Infix::Multiply) => BinaryOperator::Multiply,
+        Joint::Infix(Infix::Divide) => BinaryOperator::Divide,
+        Joint::Infix(Infix::Remainder) => BinaryOperator::Remainder,
+    };
+    Syntax::Binary(operator, left, right)
 }
 
 fn binary(
     alloc: Global,
     place: usize,
-    operator: Infix,
+    joint: Joint,
     left: Expr,
     right: Expr,
 ) -> Result<Expr, ParseError>
-    ensures { Gives same result (Ok (expr place (form_of operator left right))) }
+    ensures { Gives same result (Ok (expr place (form_of joint left right))) }
 {
-    let left = Boxed::new(alloc, left)?;
-    let right = Boxed::new(alloc, right)?;
-    Ok(at(place, form(operator, left, right)))
+    let (left, right) = boxed_two(alloc, left, right)?;
+    Ok(at(place, form(joint, left, right)))
 }
 
 fn conditional(
@@ -92,40 +137,387 @@ fn conditional(
 ) -> Result<Expr, ParseError>
     ensures { Gives same result (Ok (expr place (Syntax.Conditional test yes no))) }
 {
-    let test = Boxed::new(alloc, test)?;
-    let yes = Boxed::new(alloc, yes)?;
-    let no = Boxed::new(alloc, no)?;
+    let (test, yes, no) = boxed_three(alloc, test, yes, no)?;
     Ok(at(place, Syntax::Conditional(test, yes, no)))
 }
 
-/// The expression of a tree, unless a number in it is out of range.
-pub fn expand(alloc: Global, tree: &Tree) -> Result<Expr, ParseError>
-    ensures { Gives same result (expanded tree.now) }
+fn index(alloc: Global, place: usize, operand: Expr, index: Expr) -> Result<Expr, ParseError>
+    ensures { Gives same result (Ok (expr place (Syntax.Index operand index))) }
+{
+    let (operand, index) = boxed_two(alloc, operand, index)?;
+    Ok(at(place, Syntax::Index(operand, index)))
+}
+
+fn select(alloc: Global, source: &str, place: usize, operand: Expr) -> Result<Expr, ParseError>
+    ensures { Gives same result (Ok (expr place (Syntax.Select operand (word_at source.now place)))) }
+{
+    let operand = Boxed::new(alloc, operand)?;
+    let field = word(alloc, source, place)?;
+    Ok(at(place, Syntax::Select(operand, field)))
+}
+
+// The test for a field.
+fn has(
+    alloc: Global,
+    source: &str,
+    place: usize,
+    field: usize,
+    operand: Expr,
+) -> Result<Expr, ParseError>
+    ensures { Gives same result (Ok (expr place (Syntax.Has operand (word_at source.now field)))) }
+{
+    let operand = Boxed::new(alloc, operand)?;
+    let field = word(alloc, source, field)?;
+    Ok(at(place, Syntax::Has(operand, field)))
+}
+
+fn looped(
+    alloc: Global,
+    source: &str,
+    place: usize,
+    kind: Loop,
+    range: Expr,
+    name: usize,
+    body: Expr,
+) -> Result<Expr, ParseError>
+    ensures { Gives same result (Ok (expr place (Syntax.Loop kind range (word_at source.now name) body))) }
+{
+    let (range, body) = boxed_two(alloc, range, body)?;
+    let name = word(alloc, source, name)?;
+    Ok(at(place, Syntax::Loop(kind, range, name, body)))
+}
+
+fn mapped_where(
+    alloc: Global,
+    source: &str,
+    place: usize,
+    range: Expr,
+    name: usize,
+    predicate: Expr,
+    transform: Expr,
+) -> Result<Expr, ParseError>
+    ensures { Gives same result (Ok (expr place (Syntax.MapWhere range (word_at source.now name) predicate transform))) }
+{
+    let (range, predicate, transform) = boxed_three(alloc, range, predicate, transform)?;
+    let name = word(alloc, source, name)?;
+    let form = Syntax::MapWhere(range, name, predicate, transform);
+    Ok(at(place, form))
+}
+
+// A call that is no macro, of what is expanded already.
+fn called(alloc: Global, source: &str, place: usize, items: Items<Expr>) -> Result<Expr, ParseError>
+    ensures { Gives same result (Ok (expr place (Syntax.Call (word_at source.now place) items))) }
+{
+    let name = word(alloc, source, place)?;
+    Ok(at(place, Syntax::Call(name, items)))
+}
+
+fn name_of(tree: &Tree) -> Option<usize>
+    ensures { (source : List ℕ) → result ≡ name_in (expansion source tree.now).role }
 {
     match tree {
+        Tree::Name { place } => Some(*place),
+        _ => None,
+    }
+}
+
+// The place of a loop's variable, if the arguments suit the loop.
+fn loop_name(kind: Loop, arguments: &[Tree]) -> Option<usize>
+    ensures { (source : List ℕ) → result ≡ loop_name kind (expansions source arguments.now) }
+{
+    match arguments {
+        [name, _] => name_of(name),
+        [name, _, _] if kind == Loop::Map => name_of(name),
+        _ => None,
+    }
+}
+
+// A method that is no loop.
+fn called_on(
+    alloc: Global,
+    source: &str,
+    place: usize,
+    operand: Expr,
+    items: Items<Expr>,
+) -> Result<Expr, ParseError>
+    ensures { Gives same result (Ok (expr place (Syntax.Method operand (word_at source.now place) items))) }
+{
+    let operand = Boxed::new(alloc, operand)?;
+    let name = word(alloc, source, place)?;
+    Ok(at(place, Syntax::Method(operand, name, items)))
+}
+
+#[cycle(expansion)]
+fn each(alloc: Global, source: &str, trees: &[Tree]) -> Result<Items<Expr>, ParseError>
+    ensures { Gives same result (each (expansions source.now trees.now)) }
+{
+    let mut items = Items::new(alloc);
+    for tree in trees {
+        let item = expand(alloc, source, tree)?;
+        items.push(item)?;
+    }
+    Ok(items)
+}
+
+#[cycle(expansion)]
+fn each_entry(
+    alloc: Global,
+    source: &str,
+    entries: &[Entry<Tree>],
+) -> Result<Items<Entry<Expr>>, ParseError>
+    ensures { Gives same result (each_entry (entry_expansions source.now entries.now)) }
+{
+    let mut items = Items::new(alloc);
+    for entry in entries {
+        let key = expand(alloc, source, &entry.key)?;
+        let value = expand(alloc, source, &entry.value)?;
+        items.push(Entry { key, value })?;
+    }
+    Ok(items)
+}
+
+// A call that is no macro.
+#[cycle(expansion)]
+fn plain_call(
+    alloc: Global,
+    source: &str,
+    place: usize,
+    arguments: &[Tree],
+) -> Result<Expr, ParseError>
+    ensures { Gives same result (plain_call source.now place (expansions source.now arguments.now)) }
+{
+    let items = each(alloc, source, arguments)?;
+    called(alloc, source, place, items)
+}
+
+// A call of `has`: the test for a field, if its argument selects one.
+#[cycle(expansion)]
+fn test(alloc: Global, source: &str, place: usize, arguments: &[Tree]) -> Result<Expr, ParseError>
+    ensures { Gives same result (has_of source.now place (expansions source.now arguments.now)) }
+{
+    let [only] = arguments else {
+        return plain_call(alloc, source, place, arguments);
+    };
+    let Tree::Select {
+        place: field,
+        operand,
+    } = only
+    else {
+        return plain_call(alloc, source, place, arguments);
+    };
+    let operand = expand(alloc, source, operand.get())?;
+    has(alloc, source, place, *field, operand)
+}
+
+#[cycle(expansion)]
+fn call(alloc: Global, source: &str, place: usize, arguments: &[Tree]) -> Result<Expr, ParseError>
+    ensures { Gives same result (call_of source.now place (expansions source.now arguments.now)) }
+{
+    if is_has(source, place) {
+        return test(alloc, source, place, arguments);
+    }
+    plain_call(alloc, source, place, arguments)
+}
+
+// A method that is no macro, of what is expanded already.
+#[cycle(expansion)]
+fn plain_method(
+    alloc: Global,
+    source: &str,
+    place: usize,
+    arguments: &[Tree],
+    operand: Expr,
+) -> Result<Expr, ParseError>
+    ensures { Gives same result (plain_method source.now place (Ok operand) (expansions source.now arguments.now)) }
+{
+    let items = each(alloc, source, arguments)?;
+    called_on(alloc, source, place, operand, items)
+}
+
+// A loop over what is expanded already.
+#[cycle(expansion)]
+fn loop_over(
+    alloc: Global,
+    source: &str,
+    place: usize,
+    kind: Loop,
+    body: &Tree,
+    name: usize,
+    range: Expr,
+) -> Result<Expr, ParseError>
+    ensures { Gives same result (after (expanded source.now body.now) (λ p. Ok (expr place (Syntax.Loop kind range (word_at source.now name) p)))) }
+{
+    let body = expand(alloc, source, body)?;
+    looped(alloc, source, place, kind, range, name, body)
+}
+
+// A loop whose predicate is expanded already.
+#[cycle(expansion)]
+fn map_where(
+    alloc: Global,
+    source: &str,
+    place: usize,
+    transform: &Tree,
+    name: usize,
+    range: Expr,
+    predicate: Expr,
+) -> Result<Expr, ParseError>
+    ensures { Gives same result (after (expanded source.now transform.now) (λ t. Ok (expr place (Syntax.MapWhere range (word_at source.now name) predicate t)))) }
+{
+    let transform = expand(alloc, source, transform)?;
+    mapped_where(alloc, source, place, range, name, predicate, transform)
+}
+
+// A method with a loop's name, of what is expanded already: the loop, if the arguments suit it.
+#[cycle(expansion)]
+fn loop_on(
+    alloc: Global,
+    source: &str,
+    place: usize,
+    kind: Loop,
+    arguments: &[Tree],
+    range: Expr,
+) -> Result<Expr, ParseError>
+    ensures { Gives same result (loop_of_kind source.now place kind (Ok range) (expansions source.now arguments.now)) }
+{
+    let Some(name) = loop_name(kind, arguments) else {
+        return plain_method(alloc, source, place, arguments, range);
+    };
+    match arguments {
+        [_, body] => loop_over(alloc, source, place, kind, body, name, range),
+        [_, predicate, transform] => {
+            let predicate = expand(alloc, source, predicate)?;
+            map_where(alloc, source, place, transform, name, range, predicate)
+        }
+        _ => plain_method(alloc, source, place, arguments, range),
+    }
+}
+
+// A method of what is expanded already.
+#[cycle(expansion)]
+fn method(
+    alloc: Global,
+    source: &str,
+    place: usize,
+    arguments: &[Tree],
+    operand: Expr,
+) -> Result<Expr, ParseError>
+    ensures { Gives same result (method_of source.now place (Ok operand) (expansions source.now arguments.now)) }
+{
+    match loop_at(source, place) {
+        Some(kind) => loop_on(alloc, source, place, kind, arguments, operand),
+        None => plain_method(alloc, source, place, arguments, operand),
+    }
+}
+
+// An index of what is expanded already.
+#[cycle(expansion)]
+fn index_on(
+    alloc: Global,
+    source: &str,
+    place: usize,
+    item: &Tree,
+    operand: Expr,
+) -> Result<Expr, ParseError>
+    ensures { Gives same result (after (expanded source.now item.now) (λ y. Ok (expr place (Syntax.Index operand y)))) }
+{
+    let item = expand(alloc, source, item)?;
+    index(alloc, place, operand, item)
+}
+
+// An operator whose left operand is expanded already.
+#[cycle(expansion)]
+fn binary_on(
+    alloc: Global,
+    source: &str,
+    place: usize,
+    joint: Joint,
+    right: &Tree,
+    left: Expr,
+) -> Result<Expr, ParseError>
+    ensures { Gives same result (after (expanded source.now right.now) (λ y. Ok (expr place (form_of joint left y)))) }
+{
+    let right = expand(alloc, source, right)?;
+    binary(alloc, place, joint, left, right)
+}
+
+// A conditional whose last branch alone is not expanded yet.
+#[cycle(expansion)]
+fn conditional_on(
+    alloc: Global,
+    source: &str,
+    place: usize,
+    no: &Tree,
+    test: Expr,
+    yes: Expr,
+) -> Result<Expr, ParseError>
+    ensures { Gives same result (after (expanded source.now no.now) (λ z. Ok (expr place (Syntax.Conditional test yes z)))) }
+{
+    let no = expand(alloc, source, no)?;
+    conditional(alloc, place, test, yes, no)
+}
+
+/// The expression of a tree, unless a number in it is out of range.
+#[cycle(expansion)]
+pub fn expand(alloc: Global, source: &str, tree: &Tree) -> Result<Expr, ParseError>
+    ensures { Gives same result (expanded source.now tree.now) }
+{
+    match tree {
+        Tree::Null { place } => Ok(at(*place, Syntax::Null)),
+        Tree::Truth { place, value } => Ok(at(*place, Syntax::Bool(*value))),
         Tree::Number {
             place,
             is_negative,
             magnitude,
         } => number(*place, *is_negative, *magnitude),
-        Tree::Truth { place, value } => Ok(at(*place, Syntax::Bool(*value))),
+        Tree::Unsigned { place, value } => Ok(at(*place, Syntax::Uint(*value))),
+        Tree::Text { place, value } => text(*place, value),
+        Tree::Name { place } => named(alloc, source, *place),
+        Tree::Call { place, arguments } => call(alloc, source, *place, arguments.as_slice()),
+        Tree::Select { place, operand } => {
+            let operand = expand(alloc, source, operand.get())?;
+            select(alloc, source, *place, operand)
+        }
+        Tree::Method {
+            place,
+            operand,
+            arguments,
+        } => {
+            let operand = expand(alloc, source, operand.get())?;
+            method(alloc, source, *place, arguments.as_slice(), operand)
+        }
+        Tree::Index {
+            place,
+            operand,
+            index,
+        } => {
+            let operand = expand(alloc, source, operand.get())?;
+            index_on(alloc, source, *place, index.get(), operand)
+        }
+        Tree::List { place, items } => {
+            let items = each(alloc, source, items.as_slice())?;
+            Ok(at(*place, Syntax::List(items)))
+        }
+        Tree::Map { place, entries } => {
+            let entries = each_entry(alloc, source, entries.as_slice())?;
+            Ok(at(*place, Syntax::Map(entries)))
+        }
         Tree::Unary {
             place,
             operator,
             operand,
         } => {
-            let operand = expand(alloc, operand.get())?;
+            let operand = expand(alloc, source, operand.get())?;
             unary(alloc, *place, *operator, operand)
         }
         Tree::Binary {
             place,
-            operator,
+            joint,
             left,
             right,
         } => {
-            let left = expand(alloc, left.get())?;
-            let right = expand(alloc, right.get())?;
-            binary(alloc, *place, *operator, left, right)
+            let left = expand(alloc, source, left.get())?;
+            binary_on(alloc, source, *place, *joint, right.get(), left)
         }
         Tree::Conditional {
             place,
@@ -133,10 +525,9 @@ pub fn expand(alloc: Global, tree: &Tree) -> Result<Expr, ParseError>
             yes,
             no,
         } => {
-            let test = expand(alloc, test.get())?;
-            let yes = expand(alloc, yes.get())?;
-            let no = expand(alloc, no.get())?;
-            conditional(alloc, *place, test, yes, no)
+            let test = expand(alloc, source, test.get())?;
+            let yes = expand(alloc, source, yes.get())?;
+            conditional_on(alloc, source, *place, no.get(), test, yes)
         }
     }
 }

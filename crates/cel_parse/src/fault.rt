@@ -16,6 +16,9 @@ pub enum ParseFault {
     /// No text of the grammar goes on with the token that starts here, or ends here.
     #[error("not expected at {place}")]
     Unexpected { place: usize },
+    /// A macro, whose name begins here, with another number or form of arguments than it takes.
+    #[error("a macro's arguments are wrong at {place}")]
+    BadMacro { place: usize },
     #[error("too deep")]
     TooDeep,
 }

@@ -9,12 +9,14 @@ mod expansion;
 mod expr;
 mod fault;
 mod heads;
+mod macros;
 mod nodes;
 mod parser;
 #[cfg(test)]
 mod tests;
 mod tree;
+mod word;
 
-pub use expr::{BinaryOperator, Expr, Syntax, UnaryOperator};
+pub use expr::{BinaryOperator, Entry, Expr, Loop, Syntax, UnaryOperator};
 pub use fault::{ParseError, ParseFault};
 pub use parser::{one_expression, parse};

@@ -11,7 +11,8 @@ ghost use Rattle.cel_parse.specs.Parsing.{IsParsed, IsRefused};
 use crate::descent::tree_of;
 use crate::expansion::expand;
 use crate::expr::Expr;
-use crate::fault::ParseError;
+use crate::fault::{ParseError, ParseFault};
+use crate::macros::first_wrong;
 use cel_lex::tokens;
 use std::alloc::Global;
 
@@ -23,8 +24,11 @@ pub fn parse(alloc: Global, text: &str) -> Result<Expr, ParseError>
     ensures refused { (f : ParseFault) → IsErrOf result (errors.Fault f) → IsRefused text.now f }
 {
     let cut = tokens(alloc, text)?;
-    let tree = tree_of(alloc, text.len(), cut.as_slice())?;
-    expand(alloc, &tree)
+    let tree = tree_of(alloc, text, cut.as_slice())?;
+    if let Some(place) = first_wrong(text, &tree) {
+        return Err(ParseError::Fault(ParseFault::BadMacro { place }));
+    }
+    expand(alloc, text, &tree)
 }
 
 /// A text spells one expression or is refused, and not both. Where a character or a number refuses it, nothing else

@@ -1,20 +1,68 @@
-//! What the grammar derives: trees whose numbers have a sign and a magnitude.
+//! What the grammar derives: trees whose numbers have a sign and a magnitude, and whose macros are calls.
 
-use crate::expr::UnaryOperator;
+use crate::expr::{Entry, UnaryOperator};
 use cel_lex::Infix;
-use plain::Boxed;
+use plain::{Boxed, Items, Text};
 
-/// A tree of the grammar. Each node has the byte at which its operator or `?` begins, else its first token.
+/// What stands between two operands.
+#[derive(Clone, Copy, Debug, PartialEq, Eq)]
+pub enum Joint {
+    Infix(Infix),
+    In,
+}
+
+/// A tree of the grammar. Each node has the byte at which its operator, name, selector, opening bracket or `?` begins,
+/// else its first token. The word that begins at the place of a `Name`, `Call`, `Select` or `Method` is its name.
 #[derive(Debug, Drop)]
 pub enum Tree {
+    Null {
+        place: usize,
+    },
+    Truth {
+        place: usize,
+        value: bool,
+    },
     Number {
         place: usize,
         is_negative: bool,
         magnitude: u64,
     },
-    Truth {
+    Unsigned {
         place: usize,
-        value: bool,
+        value: u64,
+    },
+    Text {
+        place: usize,
+        value: Text,
+    },
+    Name {
+        place: usize,
+    },
+    Call {
+        place: usize,
+        arguments: Items<Tree>,
+    },
+    Select {
+        place: usize,
+        operand: Boxed<Tree>,
+    },
+    Method {
+        place: usize,
+        operand: Boxed<Tree>,
+        arguments: Items<Tree>,
+    },
+    Index {
+        place: usize,
+        operand: Boxed<Tree>,
+        index: Boxed<Tree>,
+    },
+    List {
+        place: usize,
+        items: Items<Tree>,
+    },
+    Map {
+        place: usize,
+        entries: Items<Entry<Tree>>,
     },
     Unary {
         place: usize,
@@ -23,7 +71,7 @@ pub enum Tree {
     },
     Binary {
         place: usize,
-        operator: Infix,
+        joint: Joint,
         left: Boxed<Tree>,
         right: Boxed<Tree>,
     },

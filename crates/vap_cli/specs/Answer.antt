@@ -7,9 +7,9 @@ use Rattle.cel_value.specs.Names.{error_name}
 use Rattle.cel_lex.specs.declared.fault.LexFaultKind.{LexFaultKind}
 use Rattle.cel_lex.specs.declared.fault.LexFaultKind.TheVariants.{BadChar, Unterminated, BadEscape, IntRange, TooLong}
 use Rattle.cel_parse.specs.declared.fault.ParseFault.{ParseFault}
-use Rattle.cel_parse.specs.declared.fault.ParseFault.TheVariants.{Lex, Unexpected, TooDeep}
+use Rattle.cel_parse.specs.declared.fault.ParseFault.TheVariants.{Lex, Unexpected, BadMacro, TooDeep}
 use Rattle.cel_code.specs.declared.cel_check.fault.TypeRule.{TypeRule}
-use Rattle.cel_code.specs.declared.cel_check.fault.TypeRule.TheVariants.{NoOverload, Mixed, TooLarge}
+use Rattle.cel_code.specs.declared.cel_check.fault.TypeRule.TheVariants.{UnknownName, NoOverload, Mixed, TooLarge}
 use Rattle.vap_cli.specs.declared.answer.Refusal.{Refusal}
 use Rattle.vap_cli.specs.declared.answer.Refusal.TheVariants as refusal
 use Rattle.vap_cli.specs.declared.answer.Answer.{Answer}
@@ -40,6 +40,7 @@ lex_fault_name TooLong = codes "TooLong"
 
 -- the name of a rule of typing
 abbrev pub type_rule_name : TypeRule → List ℕ
+type_rule_name UnknownName = codes "UnknownName"
 type_rule_name NoOverload = codes "NoOverload"
 type_rule_name Mixed = codes "Mixed"
 type_rule_name TooLarge = codes "TooLarge"
@@ -52,6 +53,7 @@ name_at name place = name ++ (codes " at " ++ decimal place)
 abbrev pub parse_fault_text : ParseFault → List ℕ
 parse_fault_text (Lex fault) = name_at (lex_fault_name fault.kind) fault.place
 parse_fault_text (Unexpected place) = name_at (codes "Unexpected") place
+parse_fault_text (BadMacro place) = name_at (codes "BadMacro") place
 parse_fault_text TooDeep = codes "TooDeep"
 
 -- a refusal with its place, where it has one

@@ -83,6 +83,7 @@ impl fmt::Display for Refusal {
             Refusal::Parse(ParseFault::TooDeep) => return write!(f, "TooDeep"),
             Refusal::Parse(ParseFault::Lex(fault)) => (lex_fault_name(fault.kind), fault.place),
             Refusal::Parse(ParseFault::Unexpected { place }) => ("Unexpected", *place),
+            Refusal::Parse(ParseFault::BadMacro { place }) => ("BadMacro", *place),
             Refusal::Type(fault) => (type_rule_name(fault.rule), fault.place),
             Refusal::Unverified { at } => ("Unverified", *at),
         };
@@ -106,6 +107,7 @@ fn type_rule_name(rule: TypeRule) -> &'static str
     ensures { result.now ≡ type_rule_name rule }
 {
     match rule {
+        TypeRule::UnknownName => "UnknownName",
         TypeRule::NoOverload => "NoOverload",
         TypeRule::Mixed => "Mixed",
         TypeRule::TooLarge => "TooLarge",

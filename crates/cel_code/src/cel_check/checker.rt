@@ -1,15 +1,18 @@
 ghost use Rattle.std.specs.Prelude.{◌≡◌, IfOk};
-ghost use Rattle.cel_code.specs.Typing.{Names, names_of, types_in, checked, checked_within, Answers};
+ghost use Rattle.cel_code.specs.declared.cel_check.fault.TypeRule.TheVariants.{NoOverload};
+ghost use Rattle.cel_code.specs.Typing.{Names, names_of, types_in, refused, after_each, after_entries, each_checked, entries_checked, checked, checked_within, Answers};
 
 use crate::cel_check::fault::{CheckError, TypeFault, TypeRule};
-use crate::cel_check::node::{binary, conditional, conjunction, disjunction, literal, unary};
+use crate::cel_check::node::{
+    binary, conditional, conjunction, disjunction, literal, refused, unary,
+};
 use crate::cel_check::scope::Scope;
 use crate::cel_check::size::is_too_large;
 use crate::cel_check::tree::TypedTree;
 use crate::cel_check::typed::Typed;
-use cel_parse::{Expr, Syntax};
+use cel_parse::{Entry, Expr, Syntax};
 use cel_value::{CelType, Value};
-use plain::{Items, Keyed};
+use plain::{Boxed, Items, Keyed};
 use std::alloc::{AllocError, Global};
 
 /// The typed tree of an expression, or its first fault: a tree past the limits is TooLarge at 0 before all others, and
@@ -40,36 +43,94 @@ fn slot_types(alloc: Global, names: &[Keyed<CelType>]) -> Result<Items<CelType>,
     Ok(types)
 }
 
-fn typed_tree(alloc: Global, expr: &Expr) -> Result<TypedTree, CheckError>
+// What has no type yet is refused behind the first fault of its parts.
+#[cycle(checking)]
+fn refused_behind(
+    alloc: Global,
+    place: usize,
+    parts: &[Expr],
+) -> Result<Boxed<TypedTree>, CheckError>
+    ensures { (names : Names) → Answers result (λ tree. tree) (after_each (each_checked parts.now) names (refused place NoOverload)) }
+{
+    for part in parts {
+        typed_tree(alloc, part)?;
+    }
+    Err(refused(TypeRule::NoOverload, place))
+}
+
+#[cycle(checking)]
+fn refused_behind_entries(
+    alloc: Global,
+    place: usize,
+    entries: &[Entry<Expr>],
+) -> Result<Boxed<TypedTree>, CheckError>
+    ensures { (names : Names) → Answers result (λ tree. tree) (after_entries (entries_checked entries.now) names (refused place NoOverload)) }
+{
+    for entry in entries {
+        typed_tree(alloc, &entry.key)?;
+        typed_tree(alloc, &entry.value)?;
+    }
+    Err(refused(TypeRule::NoOverload, place))
+}
+
+#[cycle(checking)]
+fn typed_tree(alloc: Global, expr: &Expr) -> Result<Boxed<TypedTree>, CheckError>
     ensures { (names : Names) → Answers result (λ tree. tree) (checked expr.now names) }
 {
+    let place = expr.place;
     match &expr.form {
-        Syntax::Bool(value) => Ok(literal(CelType::Bool, Value::Bool(*value))),
-        Syntax::Int(value) => Ok(literal(CelType::Int, Value::Int(*value))),
+        Syntax::Bool(value) => literal(alloc, CelType::Bool, Value::Bool(*value)),
+        Syntax::Int(value) => literal(alloc, CelType::Int, Value::Int(*value)),
+        Syntax::Name(_) => Err(refused(TypeRule::UnknownName, place)),
+        Syntax::Null | Syntax::Uint(_) | Syntax::Text(_) => {
+            Err(refused(TypeRule::NoOverload, place))
+        }
+        Syntax::Select(operand, _) | Syntax::Has(operand, _) => {
+            typed_tree(alloc, operand.get())?;
+            Err(refused(TypeRule::NoOverload, place))
+        }
+        Syntax::Index(left, right) | Syntax::Loop(_, left, _, right) => {
+            typed_tree(alloc, left.get())?;
+            typed_tree(alloc, right.get())?;
+            Err(refused(TypeRule::NoOverload, place))
+        }
+        Syntax::MapWhere(range, _, predicate, transform) => {
+            typed_tree(alloc, range.get())?;
+            typed_tree(alloc, predicate.get())?;
+            typed_tree(alloc, transform.get())?;
+            Err(refused(TypeRule::NoOverload, place))
+        }
+        Syntax::Call(_, parts) => refused_behind(alloc, place, parts.as_slice()),
+        Syntax::List(parts) => refused_behind(alloc, place, parts.as_slice()),
+        Syntax::Method(operand, _, parts) => {
+            typed_tree(alloc, operand.get())?;
+            refused_behind(alloc, place, parts.as_slice())
+        }
+        Syntax::Map(entries) => refused_behind_entries(alloc, place, entries.as_slice()),
         Syntax::Unary(operator, operand) => {
             let operand = typed_tree(alloc, operand.get())?;
-            unary(alloc, expr.place, *operator, operand)
+            unary(alloc, place, *operator, operand)
         }
         Syntax::Binary(operator, left, right) => {
             let left = typed_tree(alloc, left.get())?;
             let right = typed_tree(alloc, right.get())?;
-            binary(alloc, expr.place, *operator, left, right)
+            binary(alloc, place, *operator, left, right)
         }
         Syntax::And(left, right) => {
             let left = typed_tree(alloc, left.get())?;
             let right = typed_tree(alloc, right.get())?;
-            conjunction(alloc, expr.place, left, right)
+            conjunction(alloc, place, left, right)
         }
         Syntax::Or(left, right) => {
             let left = typed_tree(alloc, left.get())?;
             let right = typed_tree(alloc, right.get())?;
-            disjunction(alloc, expr.place, left, right)
+            disjunction(alloc, place, left, right)
         }
         Syntax::Conditional(condition, yes, no) => {
             let condition = typed_tree(alloc, condition.get())?;
             let yes = typed_tree(alloc, yes.get())?;
             let no = typed_tree(alloc, no.get())?;
-            conditional(alloc, expr.place, condition, yes, no)
+            conditional(alloc, place, condition, yes, no)
         }
     }
 }

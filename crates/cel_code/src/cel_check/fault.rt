@@ -9,6 +9,8 @@ use thiserror::Error;
 /// Which rule of typing an expression breaks.
 #[derive(Clone, Copy, Debug, PartialEq, Eq)]
 pub enum TypeRule {
+    /// No name is known yet.
+    UnknownName,
     /// No operator takes operands of these types; a condition is no truth value.
     NoOverload,
     /// The branches of a conditional have no type in common.

@@ -35,6 +35,7 @@ pub fn overload_of_two(
         BinaryOperator::AtLeast => Operator::AtLeast,
         BinaryOperator::Equal => Operator::Equal,
         BinaryOperator::NotEqual => Operator::NotEqual,
+        BinaryOperator::In => return Err(Untyped::Rule(TypeRule::NoOverload)),
         BinaryOperator::Add => Operator::Add,
         BinaryOperator::Subtract => Operator::Subtract,
         BinaryOperator::Multiply => Operator::Multiply,

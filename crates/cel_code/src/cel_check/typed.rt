@@ -4,12 +4,12 @@ ghost use Rattle.cel_code.specs.Meaning.{is_right};
 
 use crate::cel_check::tree::TypedTree;
 use cel_value::CelType;
-use plain::Items;
+use plain::{Boxed, Items};
 
 /// A well typed expression, and the types of the slots that its names stand for.
 #[derive(Debug, Drop)]
 pub struct Typed {
     pub slots: Items<CelType>,
-    pub tree: TypedTree,
+    pub tree: Boxed<TypedTree>,
     pub ghost well_typed: { is_right tree (types_outside slots) ≡ true },
 }

@@ -1,4 +1,6 @@
-use Rattle.std.proofs.Common.{ap}
+use Rattle.std.proofs.Common.{ap, subst}
+use Rattle.cel_code.specs.Drafts.{drafted}
+use Rattle.cel_code.specs.Placed.{Emits}
 use Rattle.cel_code.proofs.Place.{placed}
 use Rattle.cel_code.proofs.Runs.{computes}
 use Rattle.cel_code.proofs.Preserved.{preserved_outside}
@@ -18,7 +20,8 @@ returns-in_err-put-clause-preserves c = preserved_outside c.args.typed.now
 
 pub returns-clause-computes : goal.returns-clause-computes
 returns-clause-computes c =
-    let p = placed _ _ _ c.args.typed.now.tree (ap (λ d. d.instrs) c.new-draft.ensures) c.in_ok-emit.ensures c.in_ok-put.ensures in
+    let emitted = subst (Emits (drafted c.new-draft.result) (drafted c.emit.new.self)) c.get.ensures c.in_ok-emit.ensures in
+    let p = placed _ _ _ c.args.typed.now.tree (ap (λ d. d.instrs) c.new-draft.ensures) emitted c.in_ok-put.ensures in
     computes _ c.args.typed.now.tree p.to p.stands p.ends
 
 pub returns-clause-preserves : goal.returns-clause-preserves

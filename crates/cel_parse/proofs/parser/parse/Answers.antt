@@ -1,9 +1,14 @@
-use Rattle.std.proofs.Common.{◌≡◌}
+use Rattle.std.proofs.Common.{◌≡◌, sym, ◌∙◌}
 use Rattle.std.proofs.lemmas.Result.{err_from_is_err_and}
 use Rattle.cel_parse.specs.declared.fault.ParseError.TheVariants as errors
+use Rattle.cel_parse.specs.declared.fault.ParseFault.TheVariants.{BadMacro}
 use Rattle.cel_parse.specs.Faults.{from_lexing}
-use Rattle.cel_parse.proofs.Refusals.{refused_cut, refused_tree, refused_expression}
+use Rattle.cel_parse.proofs.FewTokens.{few_of}
+use Rattle.cel_parse.proofs.Refusals.{refused_cut, refused_tree, refused_macro, refused_expression}
 use Rattle.cel_parse.proofs.parser.parse.Goals as goal
+
+pub tree_of-requires : goal.tree_of-requires
+tree_of-requires c = record { few = few_of c.in_ok-cut.ensures.cut c.as_slice.ensures.value }
 
 pub returns-in_err-cut-clause-refused : goal.returns-in_err-cut-clause-refused
 returns-in_err-cut-clause-refused c = λ f h.
@@ -19,6 +24,11 @@ returns-in_err-tree-clause-refused c = λ f h.
     let e : c.in_err-tree.field-0.0 ≡ errors.Fault f = (let a = p.1 in let b = p.2 in cc) in
     refused_tree c.args.text.now _ _ f c.in_ok-cut.ensures.cut c.as_slice.ensures.value (x f (cc))
 
+pub returns-in-Some-clause-refused : goal.returns-in-Some-clause-refused
+returns-in-Some-clause-refused c = λ f h.
+    let e : BadMacro c.in-Some.place ≡ f = cc in
+    refused_macro c.args.text.now _ _ c.in_ok-tree.tree c.in-Some.place f c.in_ok-cut.ensures.cut c.as_slice.ensures.value c.in_ok-tree.ensures.tree c.in-Some.ensures e
+
 pub returns-clause-refused : goal.returns-clause-refused
 returns-clause-refused c = λ f h.
-    refused_expression c.args.text.now _ _ c.in_ok-tree.tree c.expand.result f c.in_ok-cut.ensures.cut c.as_slice.ensures.value c.in_ok-tree.ensures.tree c.expand.ensures h
+    refused_expression c.args.text.now _ _ c.in_ok-tree.tree c.expand.result f c.in_ok-cut.ensures.cut c.as_slice.ensures.value c.in_ok-tree.ensures.tree (sym c.first_wrong.ensures ∙ c.in_default.is) c.expand.ensures h
