@@ -51,8 +51,8 @@ module _ (source : List ℕ) (place : ℕ) (tree : Tree) (es xs : List Tree) (re
   list_fails errors.OutOfMemory e h = tt
   list_fails (errors.Fault f) e h = of_list e (Err f) h
 
-  pub list_done : (items : List Expr) (x : Expr) → tree ≡ list place es → each (expansions source xs) ≡ Ok items → x ≡ expr place (syntax.List items) → expanded source tree ≡ Ok x
-  list_done items x e h q = of_list e (Ok items) h ∙ ap (λ y. Ok y) (sym q)
+  pub list_gives : (items : List Expr) (r : Result Expr ParseError) → tree ≡ list place es → each (expansions source xs) ≡ Ok items → Gives same r (Ok (expr place (syntax.List items))) → Gives same r (expanded source tree)
+  list_gives items r e h g = gives_by r (expanded source tree) (Ok (expr place (syntax.List items))) (of_list e (Ok items) h) g
 
 -- the entries that the code reads are the tree's
 module _ (source : List ℕ) (place : ℕ) (tree : Tree) (es xs : List (Entry Tree)) (read : xs ≡ es) where
@@ -65,5 +65,5 @@ module _ (source : List ℕ) (place : ℕ) (tree : Tree) (es xs : List (Entry Tr
   map_fails errors.OutOfMemory e h = tt
   map_fails (errors.Fault f) e h = of_map e (Err f) h
 
-  pub map_done : (entries : List (Entry Expr)) (x : Expr) → tree ≡ map_tree place es → each_entry (entry_expansions source xs) ≡ Ok entries → x ≡ expr place (syntax.Map entries) → expanded source tree ≡ Ok x
-  map_done entries x e h q = of_map e (Ok entries) h ∙ ap (λ y. Ok y) (sym q)
+  pub map_gives : (entries : List (Entry Expr)) (r : Result Expr ParseError) → tree ≡ map_tree place es → each_entry (entry_expansions source xs) ≡ Ok entries → Gives same r (Ok (expr place (syntax.Map entries))) → Gives same r (expanded source tree)
+  map_gives entries r e h g = gives_by r (expanded source tree) (Ok (expr place (syntax.Map entries))) (of_map e (Ok entries) h) g

@@ -7,6 +7,7 @@ pub mod Spans
 pub mod Told
 pub mod RowsTold
 pub mod Readers
+pub mod Fronts
 pub mod Complete
 pub mod Answered
 pub mod FewTokens

@@ -14,12 +14,12 @@ use crate::heads::{
     question_at, selector_at, step_at, suffix_at, unexpected_at,
 };
 use crate::nodes::{
-    Taken, both, called, entered, indexed, listed, literal_of, mapped, method, opened, selected,
-    shut, signed, three,
+    Taken, both, called, entered, indexed, leaf, listed, literal_of, mapped, method, opened,
+    selected, shut, signed, three,
 };
 use crate::tree::Tree;
 use cel_lex::{Token, TokenKind};
-use plain::Items;
+use plain::{Boxed, Items};
 use std::alloc::Global;
 
 #[cycle(descent)]
@@ -29,7 +29,7 @@ fn read_expression<'a>(
     source: &str,
     brackets: u32,
     tokens: &'a [Token],
-) -> Result<Taken<'a, Tree>, ParseError>
+) -> Result<Taken<'a, Boxed<Tree>>, ParseError>
     ensures { Gives seen result (expression source.now brackets tokens.now) }
 {
     if brackets == 0 {
@@ -46,7 +46,7 @@ fn read_conditional<'a>(
     brackets: u32,
     turns: u32,
     tokens: &'a [Token],
-) -> Result<Taken<'a, Tree>, ParseError>
+) -> Result<Taken<'a, Boxed<Tree>>, ParseError>
     requires { turns ≤ 100 }
     ensures { Gives seen result (conditional_at (expression source.now brackets) source.now brackets turns tokens.now) }
 {
@@ -73,7 +73,7 @@ fn read_operators<'a>(
     brackets: u32,
     level: u32,
     tokens: &'a [Token],
-) -> Result<Taken<'a, Tree>, ParseError>
+) -> Result<Taken<'a, Boxed<Tree>>, ParseError>
     requires { level ≤ 5 }
     ensures { Gives seen result (operators (expression source.now brackets) source.now brackets level tokens.now) }
 {
@@ -98,7 +98,7 @@ fn read_unary<'a>(
     source: &str,
     brackets: u32,
     tokens: &'a [Token],
-) -> Result<Taken<'a, Tree>, ParseError>
+) -> Result<Taken<'a, Boxed<Tree>>, ParseError>
     ensures { Gives seen result (unary_at (expression source.now brackets) source.now brackets tokens.now) }
 {
     if let Some((place, after)) = bang_at(tokens) {
@@ -119,7 +119,7 @@ fn read_nots<'a>(
     brackets: u32,
     turns: u32,
     tokens: &'a [Token],
-) -> Result<Taken<'a, Tree>, ParseError>
+) -> Result<Taken<'a, Boxed<Tree>>, ParseError>
     requires { turns ≤ 100 }
     ensures { Gives seen result (nots_at (expression source.now brackets) source.now brackets turns tokens.now) }
 {
@@ -142,7 +142,7 @@ fn read_minuses<'a>(
     turns: u32,
     place: usize,
     tokens: &'a [Token],
-) -> Result<Taken<'a, Tree>, ParseError>
+) -> Result<Taken<'a, Boxed<Tree>>, ParseError>
     requires { turns ≤ 100 }
     ensures { Gives seen result (minuses_at (expression source.now brackets) source.now brackets turns place tokens.now) }
 {
@@ -159,11 +159,7 @@ fn read_minuses<'a>(
             is_negative: true,
             magnitude,
         };
-        return Ok(Taken {
-            what,
-            depth: 1,
-            rest,
-        });
+        return leaf(alloc, what, rest);
     }
     let operand = read_member(alloc, source, brackets, tokens)?;
     signed(alloc, place, UnaryOperator::Negate, operand)
@@ -176,7 +172,7 @@ fn read_member<'a>(
     source: &str,
     brackets: u32,
     tokens: &'a [Token],
-) -> Result<Taken<'a, Tree>, ParseError>
+) -> Result<Taken<'a, Boxed<Tree>>, ParseError>
     ensures { Gives seen result (member (expression source.now brackets) source.now brackets tokens.now) }
 {
     let mut left = read_primary(alloc, source, brackets, tokens)?;
@@ -198,9 +194,9 @@ fn read_suffix<'a>(
     brackets: u32,
     suffix: Suffix,
     place: usize,
-    left: Taken<'a, Tree>,
+    left: Taken<'a, Boxed<Tree>>,
     tokens: &'a [Token],
-) -> Result<Taken<'a, Tree>, ParseError>
+) -> Result<Taken<'a, Boxed<Tree>>, ParseError>
     ensures { Gives seen result (suffixed (expression source.now brackets) source.now brackets suffix place (seen left.entry) tokens.now) }
 {
     if suffix == Suffix::Index {
@@ -225,7 +221,7 @@ fn read_primary<'a>(
     source: &str,
     brackets: u32,
     tokens: &'a [Token],
-) -> Result<Taken<'a, Tree>, ParseError>
+) -> Result<Taken<'a, Boxed<Tree>>, ParseError>
     ensures { Gives seen result (primary (expression source.now brackets) source.now brackets tokens.now) }
 {
     let [first, rest @ ..] = tokens else {
@@ -233,24 +229,15 @@ fn read_primary<'a>(
     };
     let place = first.start;
     if let Some(what) = literal_of(first)? {
-        return Ok(Taken {
-            what,
-            depth: 1,
-            rest,
-        });
+        return leaf(alloc, what, rest);
     }
     match first.kind {
         TokenKind::Name => {
             let Some((_, inside)) = opening_at(rest) else {
-                let what = Tree::Name { place };
-                return Ok(Taken {
-                    what,
-                    depth: 1,
-                    rest,
-                });
+                return leaf(alloc, Tree::Name { place }, rest);
             };
             let arguments = read_items(alloc, source, brackets, Closer::Parenthesis, inside)?;
-            called(source, place, arguments)
+            called(alloc, source, place, arguments)
         }
         TokenKind::Open => {
             let inside = read_expression(alloc, source, brackets, rest)?;
@@ -258,11 +245,11 @@ fn read_primary<'a>(
         }
         TokenKind::OpenBracket => {
             let items = read_items(alloc, source, brackets, Closer::Bracket, rest)?;
-            listed(place, items)
+            listed(alloc, place, items)
         }
         TokenKind::OpenBrace => {
             let entries = read_entries(alloc, source, brackets, rest)?;
-            mapped(place, entries)
+            mapped(alloc, place, entries)
         }
         _ => Err(unexpected_at(source, tokens)),
     }
@@ -292,7 +279,7 @@ fn read_items<'a>(
     let mut ahead = tokens;
     for _turn in 0..16384u32 {
         let Taken { what, depth, rest } = read_expression(alloc, source, brackets, ahead)?;
-        items.push(what)?;
+        items.push(what.into_inner())?;
         deepest = deepest.max(depth);
         match step_at(source, closer, rest)? {
             Step::End(rest) => {
@@ -368,7 +355,7 @@ fn read_entries<'a>(
 
 // The tree of all the tokens of a text.
 #[tactic(auto, unfolding(crate::specs::Descent::all_of))]
-fn read_all(alloc: Global, source: &str, tokens: &[Token]) -> Result<Tree, ParseError>
+fn read_all(alloc: Global, source: &str, tokens: &[Token]) -> Result<Boxed<Tree>, ParseError>
     ensures { Gives same result (all_of source.now tokens.now) }
 {
     let Taken {
@@ -383,7 +370,7 @@ fn read_all(alloc: Global, source: &str, tokens: &[Token]) -> Result<Tree, Parse
 }
 
 /// The tree that the grammar derives from the tokens of a text.
-pub fn tree_of(alloc: Global, source: &str, tokens: &[Token]) -> Result<Tree, ParseError>
+pub fn tree_of(alloc: Global, source: &str, tokens: &[Token]) -> Result<Boxed<Tree>, ParseError>
     requires few { length tokens.now ≤ 16384 }
     ensures tree { IfOk result (λ e. IsTree source.now tokens.now e) }
     ensures refused { (f : ParseFault) → IsErrOf result (errors.Fault f) → HasNoTree source.now tokens.now f }

@@ -14,10 +14,11 @@ use cel_lex::{Infix, LexFault, LexFaultKind};
 use plain::{Boxed, Items, Text};
 use std::alloc::{AllocError, Global};
 
-fn at(place: usize, form: Syntax<Expr>) -> Expr
-    ensures { result ≡ expr place form }
+// An expression at a place. It is held in a box, so that letting it go is one call.
+fn at(alloc: Global, place: usize, form: Syntax<Expr>) -> Result<Boxed<Expr>, ParseError>
+    ensures { Gives same result (Ok (expr place form)) }
 {
-    Expr { place, form }
+    Ok(Boxed::new(alloc, Expr { place, form })?)
 }
 
 // The word that begins at a place.
@@ -27,30 +28,13 @@ fn word(alloc: Global, source: &str, place: usize) -> Result<Text, AllocError>
     Text::from_str(alloc, word_at(source, place))
 }
 
-fn boxed_two(alloc: Global, a: Expr, b: Expr) -> Result<(Boxed<Expr>, Boxed<Expr>), AllocError>
-    ensures { IfOk result (λ x. x ≡ (a, b)) }
-{
-    let a = Boxed::new(alloc, a)?;
-    let b = Boxed::new(alloc, b)?;
-    Ok((a, b))
-}
-
-fn boxed_three(
-    alloc: Global,
-    a: Expr,
-    b: Expr,
-    c: Expr,
-) -> Result<(Boxed<Expr>, Boxed<Expr>, Boxed<Expr>), AllocError>
-    ensures { IfOk result (λ x. x ≡ (a, b, c)) }
-{
-    let a = Boxed::new(alloc, a)?;
-    let b = Boxed::new(alloc, b)?;
-    let c = Boxed::new(alloc, c)?;
-    Ok((a, b, c))
-}
-
 // A number, unless it is out of range.
-fn number(place: usize, is_negative: bool, magnitude: u64) -> Result<Expr, ParseError>
+fn number(
+    alloc: Global,
+    place: usize,
+    is_negative: bool,
+    magnitude: u64,
+) -> Result<Boxed<Expr>, ParseError>
     ensures { Gives same result (number_of place is_negative magnitude) }
 {
     let value = if is_negative && magnitude == 9223372036854775808 {
@@ -65,32 +49,20 @@ fn number(place: usize, is_negative: bool, magnitude: u64) -> Result<Expr, Parse
     } else {
         magnitude as i64
     };
-    Ok(at(place, Syntax::Int(value)))
+    at(alloc, place, Syntax::Int(value))
 }
 
-fn text(place: usize, value: &Text) -> Result<Expr, ParseError>
+fn text(alloc: Global, place: usize, value: &Text) -> Result<Boxed<Expr>, ParseError>
     ensures { Gives same result (Ok (expr place (Syntax.Text value.now))) }
 {
-    Ok(at(place, Syntax::Text(value.copy()?)))
+    at(alloc, place, Syntax::Text(value.copy()?))
 }
 
-fn named(alloc: Global, source: &str, place: usize) -> Result<Expr, ParseError>
+fn named(alloc: Global, source: &str, place: usize) -> Result<Boxed<Expr>, ParseError>
     ensures { Gives same result (Ok (expr place (Syntax.Name (word_at source.now place)))) }
 {
     let name = word(alloc, source, place)?;
-    Ok(at(place, Syntax::Name(name)))
-}
-
-fn unary(
-    alloc: Global,
-    place: usize,
-    operator: UnaryOperator,
-    operand: Expr,
-) -> Result<Expr, ParseError>
-    ensures { Gives same result (Ok (expr place (Syntax.Unary operator operand))) }
-{
-    let operand = Boxed::new(alloc, operand)?;
-    Ok(at(place, Syntax::Unary(operator, operand)))
+    at(alloc, place, Syntax::Name(name))
 }
 
 fn form(joint: Joint, left: Boxed<Expr>, right: Boxed<Expr>) -> Syntax<Expr>
@@ -115,45 +87,16 @@ fn form(joint: Joint, left: Boxed<Expr>, right: Boxed<Expr>) -> Syntax<Expr>
     Syntax::Binary(operator, left, right)
 }
 
-fn binary(
+fn select(
     alloc: Global,
+    source: &str,
     place: usize,
-    joint: Joint,
-    left: Expr,
-    right: Expr,
-) -> Result<Expr, ParseError>
-    ensures { Gives same result (Ok (expr place (form_of joint left right))) }
-{
-    let (left, right) = boxed_two(alloc, left, right)?;
-    Ok(at(place, form(joint, left, right)))
-}
-
-fn conditional(
-    alloc: Global,
-    place: usize,
-    test: Expr,
-    yes: Expr,
-    no: Expr,
-) -> Result<Expr, ParseError>
-    ensures { Gives same result (Ok (expr place (Syntax.Conditional test yes no))) }
-{
-    let (test, yes, no) = boxed_three(alloc, test, yes, no)?;
-    Ok(at(place, Syntax::Conditional(test, yes, no)))
-}
-
-fn index(alloc: Global, place: usize, operand: Expr, index: Expr) -> Result<Expr, ParseError>
-    ensures { Gives same result (Ok (expr place (Syntax.Index operand index))) }
-{
-    let (operand, index) = boxed_two(alloc, operand, index)?;
-    Ok(at(place, Syntax::Index(operand, index)))
-}
-
-fn select(alloc: Global, source: &str, place: usize, operand: Expr) -> Result<Expr, ParseError>
+    operand: Boxed<Expr>,
+) -> Result<Boxed<Expr>, ParseError>
     ensures { Gives same result (Ok (expr place (Syntax.Select operand (word_at source.now place)))) }
 {
-    let operand = Boxed::new(alloc, operand)?;
     let field = word(alloc, source, place)?;
-    Ok(at(place, Syntax::Select(operand, field)))
+    at(alloc, place, Syntax::Select(operand, field))
 }
 
 // The test for a field.
@@ -162,54 +105,25 @@ fn has(
     source: &str,
     place: usize,
     field: usize,
-    operand: Expr,
-) -> Result<Expr, ParseError>
+    operand: Boxed<Expr>,
+) -> Result<Boxed<Expr>, ParseError>
     ensures { Gives same result (Ok (expr place (Syntax.Has operand (word_at source.now field)))) }
 {
-    let operand = Boxed::new(alloc, operand)?;
     let field = word(alloc, source, field)?;
-    Ok(at(place, Syntax::Has(operand, field)))
-}
-
-fn looped(
-    alloc: Global,
-    source: &str,
-    place: usize,
-    kind: Loop,
-    range: Expr,
-    name: usize,
-    body: Expr,
-) -> Result<Expr, ParseError>
-    ensures { Gives same result (Ok (expr place (Syntax.Loop kind range (word_at source.now name) body))) }
-{
-    let (range, body) = boxed_two(alloc, range, body)?;
-    let name = word(alloc, source, name)?;
-    Ok(at(place, Syntax::Loop(kind, range, name, body)))
-}
-
-fn mapped_where(
-    alloc: Global,
-    source: &str,
-    place: usize,
-    range: Expr,
-    name: usize,
-    predicate: Expr,
-    transform: Expr,
-) -> Result<Expr, ParseError>
-    ensures { Gives same result (Ok (expr place (Syntax.MapWhere range (word_at source.now name) predicate transform))) }
-{
-    let (range, predicate, transform) = boxed_three(alloc, range, predicate, transform)?;
-    let name = word(alloc, source, name)?;
-    let form = Syntax::MapWhere(range, name, predicate, transform);
-    Ok(at(place, form))
+    at(alloc, place, Syntax::Has(operand, field))
 }
 
 // A call that is no macro, of what is expanded already.
-fn called(alloc: Global, source: &str, place: usize, items: Items<Expr>) -> Result<Expr, ParseError>
+fn called(
+    alloc: Global,
+    source: &str,
+    place: usize,
+    items: Items<Expr>,
+) -> Result<Boxed<Expr>, ParseError>
     ensures { Gives same result (Ok (expr place (Syntax.Call (word_at source.now place) items))) }
 {
     let name = word(alloc, source, place)?;
-    Ok(at(place, Syntax::Call(name, items)))
+    at(alloc, place, Syntax::Call(name, items))
 }
 
 fn name_of(tree: &Tree) -> Option<usize>
@@ -232,21 +146,6 @@ fn loop_name(kind: Loop, arguments: &[Tree]) -> Option<usize>
     }
 }
 
-// A method that is no loop.
-fn called_on(
-    alloc: Global,
-    source: &str,
-    place: usize,
-    operand: Expr,
-    items: Items<Expr>,
-) -> Result<Expr, ParseError>
-    ensures { Gives same result (Ok (expr place (Syntax.Method operand (word_at source.now place) items))) }
-{
-    let operand = Boxed::new(alloc, operand)?;
-    let name = word(alloc, source, place)?;
-    Ok(at(place, Syntax::Method(operand, name, items)))
-}
-
 #[cycle(expansion)]
 fn each(alloc: Global, source: &str, trees: &[Tree]) -> Result<Items<Expr>, ParseError>
     ensures { Gives same result (each (expansions source.now trees.now)) }
@@ -254,7 +153,7 @@ fn each(alloc: Global, source: &str, trees: &[Tree]) -> Result<Items<Expr>, Pars
     let mut items = Items::new(alloc);
     for tree in trees {
         let item = expand(alloc, source, tree)?;
-        items.push(item)?;
+        items.push(item.into_inner())?;
     }
     Ok(items)
 }
@@ -271,7 +170,10 @@ fn each_entry(
     for entry in entries {
         let key = expand(alloc, source, &entry.key)?;
         let value = expand(alloc, source, &entry.value)?;
-        items.push(Entry { key, value })?;
+        items.push(Entry {
+            key: key.into_inner(),
+            value: value.into_inner(),
+        })?;
     }
     Ok(items)
 }
@@ -283,7 +185,7 @@ fn plain_call(
     source: &str,
     place: usize,
     arguments: &[Tree],
-) -> Result<Expr, ParseError>
+) -> Result<Boxed<Expr>, ParseError>
     ensures { Gives same result (plain_call source.now place (expansions source.now arguments.now)) }
 {
     let items = each(alloc, source, arguments)?;
@@ -292,7 +194,12 @@ fn plain_call(
 
 // A call of `has`: the test for a field, if its argument selects one.
 #[cycle(expansion)]
-fn test(alloc: Global, source: &str, place: usize, arguments: &[Tree]) -> Result<Expr, ParseError>
+fn test(
+    alloc: Global,
+    source: &str,
+    place: usize,
+    arguments: &[Tree],
+) -> Result<Boxed<Expr>, ParseError>
     ensures { Gives same result (has_of source.now place (expansions source.now arguments.now)) }
 {
     let [only] = arguments else {
@@ -310,7 +217,12 @@ fn test(alloc: Global, source: &str, place: usize, arguments: &[Tree]) -> Result
 }
 
 #[cycle(expansion)]
-fn call(alloc: Global, source: &str, place: usize, arguments: &[Tree]) -> Result<Expr, ParseError>
+fn call(
+    alloc: Global,
+    source: &str,
+    place: usize,
+    arguments: &[Tree],
+) -> Result<Boxed<Expr>, ParseError>
     ensures { Gives same result (call_of source.now place (expansions source.now arguments.now)) }
 {
     if is_has(source, place) {
@@ -326,12 +238,13 @@ fn plain_method(
     source: &str,
     place: usize,
     arguments: &[Tree],
-    operand: Expr,
-) -> Result<Expr, ParseError>
+    operand: Boxed<Expr>,
+) -> Result<Boxed<Expr>, ParseError>
     ensures { Gives same result (plain_method source.now place (Ok operand) (expansions source.now arguments.now)) }
 {
     let items = each(alloc, source, arguments)?;
-    called_on(alloc, source, place, operand, items)
+    let name = word(alloc, source, place)?;
+    at(alloc, place, Syntax::Method(operand, name, items))
 }
 
 // A loop over what is expanded already.
@@ -343,12 +256,13 @@ fn loop_over(
     kind: Loop,
     body: &Tree,
     name: usize,
-    range: Expr,
-) -> Result<Expr, ParseError>
+    range: Boxed<Expr>,
+) -> Result<Boxed<Expr>, ParseError>
     ensures { Gives same result (after (expanded source.now body.now) (λ p. Ok (expr place (Syntax.Loop kind range (word_at source.now name) p)))) }
 {
     let body = expand(alloc, source, body)?;
-    looped(alloc, source, place, kind, range, name, body)
+    let name = word(alloc, source, name)?;
+    at(alloc, place, Syntax::Loop(kind, range, name, body))
 }
 
 // A loop whose predicate is expanded already.
@@ -359,13 +273,18 @@ fn map_where(
     place: usize,
     transform: &Tree,
     name: usize,
-    range: Expr,
-    predicate: Expr,
-) -> Result<Expr, ParseError>
+    range: Boxed<Expr>,
+    predicate: Boxed<Expr>,
+) -> Result<Boxed<Expr>, ParseError>
     ensures { Gives same result (after (expanded source.now transform.now) (λ t. Ok (expr place (Syntax.MapWhere range (word_at source.now name) predicate t)))) }
 {
     let transform = expand(alloc, source, transform)?;
-    mapped_where(alloc, source, place, range, name, predicate, transform)
+    let name = word(alloc, source, name)?;
+    at(
+        alloc,
+        place,
+        Syntax::MapWhere(range, name, predicate, transform),
+    )
 }
 
 // A method with a loop's name, of what is expanded already: the loop, if the arguments suit it.
@@ -376,8 +295,8 @@ fn loop_on(
     place: usize,
     kind: Loop,
     arguments: &[Tree],
-    range: Expr,
-) -> Result<Expr, ParseError>
+    range: Boxed<Expr>,
+) -> Result<Boxed<Expr>, ParseError>
     ensures { Gives same result (loop_of_kind source.now place kind (Ok range) (expansions source.now arguments.now)) }
 {
     let Some(name) = loop_name(kind, arguments) else {
@@ -400,8 +319,8 @@ fn method(
     source: &str,
     place: usize,
     arguments: &[Tree],
-    operand: Expr,
-) -> Result<Expr, ParseError>
+    operand: Boxed<Expr>,
+) -> Result<Boxed<Expr>, ParseError>
     ensures { Gives same result (method_of source.now place (Ok operand) (expansions source.now arguments.now)) }
 {
     match loop_at(source, place) {
@@ -417,12 +336,12 @@ fn index_on(
     source: &str,
     place: usize,
     item: &Tree,
-    operand: Expr,
-) -> Result<Expr, ParseError>
+    operand: Boxed<Expr>,
+) -> Result<Boxed<Expr>, ParseError>
     ensures { Gives same result (after (expanded source.now item.now) (λ y. Ok (expr place (Syntax.Index operand y)))) }
 {
     let item = expand(alloc, source, item)?;
-    index(alloc, place, operand, item)
+    at(alloc, place, Syntax::Index(operand, item))
 }
 
 // An operator whose left operand is expanded already.
@@ -433,12 +352,12 @@ fn binary_on(
     place: usize,
     joint: Joint,
     right: &Tree,
-    left: Expr,
-) -> Result<Expr, ParseError>
+    left: Boxed<Expr>,
+) -> Result<Boxed<Expr>, ParseError>
     ensures { Gives same result (after (expanded source.now right.now) (λ y. Ok (expr place (form_of joint left y)))) }
 {
     let right = expand(alloc, source, right)?;
-    binary(alloc, place, joint, left, right)
+    at(alloc, place, form(joint, left, right))
 }
 
 // A conditional whose last branch alone is not expanded yet.
@@ -448,30 +367,30 @@ fn conditional_on(
     source: &str,
     place: usize,
     no: &Tree,
-    test: Expr,
-    yes: Expr,
-) -> Result<Expr, ParseError>
+    test: Boxed<Expr>,
+    yes: Boxed<Expr>,
+) -> Result<Boxed<Expr>, ParseError>
     ensures { Gives same result (after (expanded source.now no.now) (λ z. Ok (expr place (Syntax.Conditional test yes z)))) }
 {
     let no = expand(alloc, source, no)?;
-    conditional(alloc, place, test, yes, no)
+    at(alloc, place, Syntax::Conditional(test, yes, no))
 }
 
 /// The expression of a tree, unless a number in it is out of range.
 #[cycle(expansion)]
-pub fn expand(alloc: Global, source: &str, tree: &Tree) -> Result<Expr, ParseError>
+pub fn expand(alloc: Global, source: &str, tree: &Tree) -> Result<Boxed<Expr>, ParseError>
     ensures { Gives same result (expanded source.now tree.now) }
 {
     match tree {
-        Tree::Null { place } => Ok(at(*place, Syntax::Null)),
-        Tree::Truth { place, value } => Ok(at(*place, Syntax::Bool(*value))),
+        Tree::Null { place } => at(alloc, *place, Syntax::Null),
+        Tree::Truth { place, value } => at(alloc, *place, Syntax::Bool(*value)),
         Tree::Number {
             place,
             is_negative,
             magnitude,
-        } => number(*place, *is_negative, *magnitude),
-        Tree::Unsigned { place, value } => Ok(at(*place, Syntax::Uint(*value))),
-        Tree::Text { place, value } => text(*place, value),
+        } => number(alloc, *place, *is_negative, *magnitude),
+        Tree::Unsigned { place, value } => at(alloc, *place, Syntax::Uint(*value)),
+        Tree::Text { place, value } => text(alloc, *place, value),
         Tree::Name { place } => named(alloc, source, *place),
         Tree::Call { place, arguments } => call(alloc, source, *place, arguments.as_slice()),
         Tree::Select { place, operand } => {
@@ -496,11 +415,11 @@ pub fn expand(alloc: Global, source: &str, tree: &Tree) -> Result<Expr, ParseErr
         }
         Tree::List { place, items } => {
             let items = each(alloc, source, items.as_slice())?;
-            Ok(at(*place, Syntax::List(items)))
+            at(alloc, *place, Syntax::List(items))
         }
         Tree::Map { place, entries } => {
             let entries = each_entry(alloc, source, entries.as_slice())?;
-            Ok(at(*place, Syntax::Map(entries)))
+            at(alloc, *place, Syntax::Map(entries))
         }
         Tree::Unary {
             place,
@@ -508,7 +427,7 @@ pub fn expand(alloc: Global, source: &str, tree: &Tree) -> Result<Expr, ParseErr
             operand,
         } => {
             let operand = expand(alloc, source, operand.get())?;
-            unary(alloc, *place, *operator, operand)
+            at(alloc, *place, Syntax::Unary(*operator, operand))
         }
         Tree::Binary {
             place,

@@ -1,9 +1,9 @@
 //! Trees that grow by a node, within the limit of depth.
 
-ghost use Rattle.std.specs.Prelude.{◌≡◌, ℕ, List, IfOk};
+ghost use Rattle.std.specs.Prelude.{◌≡◌, ℕ, List, IfOk, Ok};
 ghost use Rattle.cel_parse.specs.Limits.{measure, is_test};
 ghost use Rattle.cel_parse.specs.Views.{seen, seen_head, Gives};
-ghost use Rattle.cel_parse.specs.Descent.{node, literal_of, closed, wrapped, joined, picked, listed, mapped, called, selected, method, indexed, entered, opened};
+ghost use Rattle.cel_parse.specs.Descent.{node, leaf, literal_of, closed, wrapped, joined, picked, listed, mapped, called, selected, method, indexed, entered, opened};
 
 use crate::expr::{Entry, UnaryOperator};
 use crate::fault::{ParseError, ParseFault};
@@ -22,11 +22,17 @@ pub struct Taken<'a, T> {
     pub rest: &'a [Token],
 }
 
-// A node, unless it is too deep.
+// A node, unless it is too deep. It is held in a box, so that letting it go is one call.
 #[tactic(auto, unfolding(crate::specs::Descent::node))]
-fn grown<'a>(what: Tree, below: u32, rest: &'a [Token]) -> Result<Taken<'a, Tree>, ParseError>
+fn grown<'a>(
+    alloc: Global,
+    what: Tree,
+    below: u32,
+    rest: &'a [Token],
+) -> Result<Taken<'a, Boxed<Tree>>, ParseError>
     ensures { Gives seen result (node what below rest.now) }
 {
+    let what = Boxed::new(alloc, what)?;
     if below >= 100 {
         return Err(ParseError::Fault(ParseFault::TooDeep));
     }
@@ -35,6 +41,30 @@ fn grown<'a>(what: Tree, below: u32, rest: &'a [Token]) -> Result<Taken<'a, Tree
         depth: below + 1,
         rest,
     })
+}
+
+// A node of a depth that is within the limit.
+fn at_depth<'a>(
+    alloc: Global,
+    what: Tree,
+    depth: u32,
+    rest: &'a [Token],
+) -> Result<Taken<'a, Boxed<Tree>>, ParseError>
+    ensures { Gives seen result (Ok (record { what = what; deep = depth; rest = rest.now })) }
+{
+    let what = Boxed::new(alloc, what)?;
+    Ok(Taken { what, depth, rest })
+}
+
+/// A node with nothing below it.
+pub fn leaf<'a>(
+    alloc: Global,
+    what: Tree,
+    rest: &'a [Token],
+) -> Result<Taken<'a, Boxed<Tree>>, ParseError>
+    ensures { Gives seen result (leaf what rest.now) }
+{
+    at_depth(alloc, what, 1, rest)
 }
 
 /// The literal that a token is, if it is one.
@@ -70,18 +100,17 @@ pub fn signed<'a>(
     alloc: Global,
     place: usize,
     operator: UnaryOperator,
-    operand: Taken<'a, Tree>,
-) -> Result<Taken<'a, Tree>, ParseError>
+    operand: Taken<'a, Boxed<Tree>>,
+) -> Result<Taken<'a, Boxed<Tree>>, ParseError>
     ensures { Gives seen result (wrapped place operator (seen operand.entry)) }
 {
     let Taken { what, depth, rest } = operand;
-    let operand = Boxed::new(alloc, what)?;
     let tree = Tree::Unary {
         place,
         operator,
-        operand,
+        operand: what,
     };
-    grown(tree, depth, rest)
+    grown(alloc, tree, depth, rest)
 }
 
 #[tactic(auto, unfolding(crate::specs::Descent::joined))]
@@ -89,66 +118,61 @@ pub fn both<'a>(
     alloc: Global,
     joint: Joint,
     place: usize,
-    left: Taken<'a, Tree>,
-    right: Taken<'a, Tree>,
-) -> Result<Taken<'a, Tree>, ParseError>
+    left: Taken<'a, Boxed<Tree>>,
+    right: Taken<'a, Boxed<Tree>>,
+) -> Result<Taken<'a, Boxed<Tree>>, ParseError>
     ensures { Gives seen result (joined joint place (seen left.entry) (seen right.entry)) }
 {
     let Taken {
-        what: a,
-        depth: a_depth,
+        what: left,
+        depth: left_depth,
         rest: _,
     } = left;
     let Taken {
-        what: b,
-        depth: b_depth,
+        what: right,
+        depth: right_depth,
         rest,
     } = right;
-    let left = Boxed::new(alloc, a)?;
-    let right = Boxed::new(alloc, b)?;
     let tree = Tree::Binary {
         place,
         joint,
         left,
         right,
     };
-    grown(tree, a_depth.max(b_depth), rest)
+    grown(alloc, tree, left_depth.max(right_depth), rest)
 }
 
 pub fn three<'a>(
     alloc: Global,
     place: usize,
-    test: Taken<'a, Tree>,
-    yes: Taken<'a, Tree>,
-    no: Taken<'a, Tree>,
-) -> Result<Taken<'a, Tree>, ParseError>
+    test: Taken<'a, Boxed<Tree>>,
+    yes: Taken<'a, Boxed<Tree>>,
+    no: Taken<'a, Boxed<Tree>>,
+) -> Result<Taken<'a, Boxed<Tree>>, ParseError>
     ensures { Gives seen result (picked place (seen test.entry) (seen yes.entry) (seen no.entry)) }
 {
     let Taken {
-        what: c,
-        depth: c_depth,
+        what: test,
+        depth: test_depth,
         rest: _,
     } = test;
     let Taken {
-        what: a,
-        depth: a_depth,
+        what: yes,
+        depth: yes_depth,
         rest: _,
     } = yes;
     let Taken {
-        what: b,
-        depth: b_depth,
+        what: no,
+        depth: no_depth,
         rest,
     } = no;
-    let test = Boxed::new(alloc, c)?;
-    let yes = Boxed::new(alloc, a)?;
-    let no = Boxed::new(alloc, b)?;
     let tree = Tree::Conditional {
         place,
         test,
         yes,
         no,
     };
-    grown(tree, c_depth.max(a_depth.max(b_depth)), rest)
+    grown(alloc, tree, test_depth.max(yes_depth.max(no_depth)), rest)
 }
 
 /// What stands in brackets, and the closing one.
@@ -156,8 +180,8 @@ pub fn three<'a>(
 pub fn shut<'a>(
     source: &str,
     closer: Closer,
-    inside: Taken<'a, Tree>,
-) -> Result<Taken<'a, Tree>, ParseError>
+    inside: Taken<'a, Boxed<Tree>>,
+) -> Result<Taken<'a, Boxed<Tree>>, ParseError>
     ensures { Gives seen result (closed source.now closer (seen inside.entry)) }
 {
     let Taken { what, depth, rest } = inside;
@@ -190,19 +214,21 @@ pub fn opened<'a>(
 }
 
 pub fn listed<'a>(
+    alloc: Global,
     place: usize,
     items: Taken<'a, Items<Tree>>,
-) -> Result<Taken<'a, Tree>, ParseError>
+) -> Result<Taken<'a, Boxed<Tree>>, ParseError>
     ensures { Gives seen result (listed place (seen items.entry)) }
 {
     let Taken { what, depth, rest } = items;
-    grown(Tree::List { place, items: what }, depth, rest)
+    grown(alloc, Tree::List { place, items: what }, depth, rest)
 }
 
 pub fn mapped<'a>(
+    alloc: Global,
     place: usize,
     entries: Taken<'a, Items<Entry<Tree>>>,
-) -> Result<Taken<'a, Tree>, ParseError>
+) -> Result<Taken<'a, Boxed<Tree>>, ParseError>
     ensures { Gives seen result (mapped place (seen entries.entry)) }
 {
     let Taken { what, depth, rest } = entries;
@@ -210,7 +236,7 @@ pub fn mapped<'a>(
         place,
         entries: what,
     };
-    grown(tree, depth, rest)
+    grown(alloc, tree, depth, rest)
 }
 
 fn is_select(tree: &Tree) -> bool
@@ -231,10 +257,11 @@ fn is_test(source: &str, place: usize, arguments: &[Tree]) -> bool
 
 #[tactic(auto, unfolding(crate::specs::Descent::called))]
 pub fn called<'a>(
+    alloc: Global,
     source: &str,
     place: usize,
     arguments: Taken<'a, Items<Tree>>,
-) -> Result<Taken<'a, Tree>, ParseError>
+) -> Result<Taken<'a, Boxed<Tree>>, ParseError>
     ensures { Gives seen result (called source.now place (seen arguments.entry)) }
 {
     let Taken { what, depth, rest } = arguments;
@@ -244,105 +271,103 @@ pub fn called<'a>(
         arguments: what,
     };
     if is_test {
-        return Ok(Taken {
-            what: tree,
-            depth,
-            rest,
-        });
+        return at_depth(alloc, tree, depth, rest);
     }
-    grown(tree, depth, rest)
+    grown(alloc, tree, depth, rest)
 }
 
 pub fn selected<'a>(
     alloc: Global,
     place: usize,
-    operand: Taken<'a, Tree>,
+    operand: Taken<'a, Boxed<Tree>>,
     rest: &'a [Token],
-) -> Result<Taken<'a, Tree>, ParseError>
+) -> Result<Taken<'a, Boxed<Tree>>, ParseError>
     ensures { Gives seen result (selected place (seen operand.entry) rest.now) }
 {
     let Taken {
-        what,
+        what: operand,
         depth,
         rest: _,
     } = operand;
-    let operand = Boxed::new(alloc, what)?;
-    grown(Tree::Select { place, operand }, depth, rest)
+    grown(alloc, Tree::Select { place, operand }, depth, rest)
 }
 
 #[tactic(auto, unfolding(crate::specs::Descent::method))]
 pub fn method<'a>(
     alloc: Global,
     place: usize,
-    operand: Taken<'a, Tree>,
+    operand: Taken<'a, Boxed<Tree>>,
     arguments: Taken<'a, Items<Tree>>,
-) -> Result<Taken<'a, Tree>, ParseError>
+) -> Result<Taken<'a, Boxed<Tree>>, ParseError>
     ensures { Gives seen result (method place (seen operand.entry) (seen arguments.entry)) }
 {
     let Taken {
-        what: a,
-        depth: a_depth,
+        what: operand,
+        depth: operand_depth,
         rest: _,
     } = operand;
     let Taken {
-        what: b,
-        depth: b_depth,
+        what: arguments,
+        depth: arguments_depth,
         rest,
     } = arguments;
-    let operand = Boxed::new(alloc, a)?;
     let tree = Tree::Method {
         place,
         operand,
-        arguments: b,
+        arguments,
     };
-    grown(tree, a_depth.max(b_depth), rest)
+    grown(alloc, tree, operand_depth.max(arguments_depth), rest)
 }
 
 #[tactic(auto, unfolding(crate::specs::Descent::indexed))]
 pub fn indexed<'a>(
     alloc: Global,
     place: usize,
-    operand: Taken<'a, Tree>,
-    index: Taken<'a, Tree>,
-) -> Result<Taken<'a, Tree>, ParseError>
+    operand: Taken<'a, Boxed<Tree>>,
+    index: Taken<'a, Boxed<Tree>>,
+) -> Result<Taken<'a, Boxed<Tree>>, ParseError>
     ensures { Gives seen result (indexed place (seen operand.entry) (seen index.entry)) }
 {
     let Taken {
-        what: a,
-        depth: a_depth,
+        what: operand,
+        depth: operand_depth,
         rest: _,
     } = operand;
     let Taken {
-        what: b,
-        depth: b_depth,
+        what: index,
+        depth: index_depth,
         rest,
     } = index;
-    let operand = Boxed::new(alloc, a)?;
-    let index = Boxed::new(alloc, b)?;
     let tree = Tree::Index {
         place,
         operand,
         index,
     };
-    grown(tree, a_depth.max(b_depth), rest)
+    grown(alloc, tree, operand_depth.max(index_depth), rest)
 }
 
-pub fn entered<'a>(key: Taken<'a, Tree>, value: Taken<'a, Tree>) -> Taken<'a, Entry<Tree>>
+pub fn entered<'a>(
+    key: Taken<'a, Boxed<Tree>>,
+    value: Taken<'a, Boxed<Tree>>,
+) -> Taken<'a, Entry<Tree>>
     ensures { seen result ≡ entered (seen key.entry) (seen value.entry) }
 {
     let Taken {
-        what: a,
-        depth: a_depth,
+        what: key,
+        depth: key_depth,
         rest: _,
     } = key;
     let Taken {
-        what: b,
-        depth: b_depth,
+        what: value,
+        depth: value_depth,
         rest,
     } = value;
     Taken {
-        what: Entry { key: a, value: b },
-        depth: a_depth.max(b_depth),
+        what: Entry {
+            key: key.into_inner(),
+            value: value.into_inner(),
+        },
+        depth: key_depth.max(value_depth),
         rest,
     }
 }

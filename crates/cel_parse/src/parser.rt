@@ -24,11 +24,12 @@ pub fn parse(alloc: Global, text: &str) -> Result<Expr, ParseError>
     ensures refused { (f : ParseFault) → IsErrOf result (errors.Fault f) → IsRefused text.now f }
 {
     let cut = tokens(alloc, text)?;
-    let tree = tree_of(alloc, text, cut.as_slice())?;
-    if let Some(place) = first_wrong(text, &tree) {
+    let boxed = tree_of(alloc, text, cut.as_slice())?;
+    let tree = boxed.get();
+    if let Some(place) = first_wrong(text, tree) {
         return Err(ParseError::Fault(ParseFault::BadMacro { place }));
     }
-    expand(alloc, text, &tree)
+    Ok(expand(alloc, text, tree)?.into_inner())
 }
 
 /// A text spells one expression or is refused, and not both. Where a character or a number refuses it, nothing else

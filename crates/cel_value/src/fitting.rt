@@ -2,7 +2,7 @@ ghost use Rattle.std.specs.Prelude.{◌≡◌, ◌≤◌, ◌&&◌, nat_le, IsTr
 ghost use Rattle.std.specs.List.{list_all};
 ghost use Rattle.cel_value.specs.Value.{code_points, weight_of};
 ghost use Rattle.cel_value.specs.Greatest.{greatest_of};
-ghost use Rattle.cel_value.specs.Fits.{fits, object_fits, admitted_by, DecidesObjects};
+ghost use Rattle.cel_value.specs.Fits.{fits, object_fits, admitted_by, DecidesObjects, HasEntriesInOrder, HasFieldsInOrder};
 
 use crate::cel_type::{CelType, Field};
 use crate::text_length::code_points;
@@ -16,7 +16,27 @@ pub fn fits(value: &Value, cel_type: &CelType) -> bool
     ensures bounded { IsTrue result → weight_of value.now ≤ greatest_of cel_type.now }
     ensures objects { DecidesObjects value.now cel_type.now result }
 {
+    has_entries_in_order(value);
+    has_fields_in_order(cel_type);
     admits(cel_type, value)
+}
+
+/// Says, for the law of objects, that an object's entries stand by key.
+fn has_entries_in_order(value: &Value)
+    ensures { HasEntriesInOrder value.now }
+{
+    if let Value::Object(entries) = value {
+        let _ = entries.as_slice();
+    }
+}
+
+/// Says, for the law of objects, that the fields of a type of objects stand by key.
+fn has_fields_in_order(cel_type: &CelType)
+    ensures { HasFieldsInOrder cel_type.now }
+{
+    if let CelType::Object { fields } = cel_type {
+        let _ = fields.as_slice();
+    }
 }
 
 #[cycle(admits)]

@@ -11,7 +11,7 @@ use Rattle.cel_value.specs.declared.value.Value.{Value, Object}
 use Rattle.cel_value.specs.declared.cel_type.Field.{Field}
 use Rattle.cel_value.specs.declared.cel_type.CelType.{CelType, Object as ObjectType}
 use Rattle.cel_value.specs.Fits.{fits, HasItsField, HasItsEntry}
-use Rattle.cel_value.proofs.Objects.{decides_objects}
+use Rattle.cel_value.proofs.Objects.{fits-Object, walk_from_FitsFields}
 use Rattle.vap_schema.specs.Seen.{all_there, readers_of}
 use Rattle.vap_schema.specs.declared.fit_fault.FitFault.{FitFault}
 use Rattle.vap_schema.specs.declared.fit_fault.FitError.{FitError}
@@ -38,7 +38,7 @@ all_have (f ∷ fields) path es u h =
 
 pub object_fits : (fields : List (Keyed (Field CelType))) (path : List ℕ) (es : List (Keyed Value)) (u : Unit {0}) → IsInKeyOrder es → IsInKeyOrder fields → All (HasItsField fields) es
     → all_there (readers_of fields) path es ≡ Ok u → IsTrue (fits (Object es) (ObjectType fields))
-object_fits fields path es u se sf all h = (decides_objects (Object es) (ObjectType fields) (fits (Object es) (ObjectType fields)) refl es fields se sf refl refl).1 (all, all_have fields path es u h)
+object_fits fields path es u se sf all h = fits-Object es fields ∙ walk_from_FitsFields fields es se sf (all, all_have fields path es u h)
 
 -- an entry under a field's name, which fits the field, has its field
 pub has_field : (fields : List (Keyed (Field CelType))) (i : ℕ) (f : Keyed (Field CelType)) (name : List ℕ) (answer : Result (Option (Keyed Value)) FitError) → i < length fields → f ≡ get_or fields i f → f.key ≡ name

@@ -45,17 +45,8 @@ fn fit_at(
 {
     match cel_type {
         CelType::Opaque => Ok(Value::Opaque),
-        CelType::Nullable(item) => {
-            if document.is_null() {
-                Ok(Value::Null)
-            } else {
-                fit_at(alloc, item.get(), document, path)
-            }
-        }
-        CelType::Null => match document {
-            Json::Null => Ok(Value::Null),
-            _ => Err(misfit(alloc, document, path)),
-        },
+        CelType::Null | CelType::Nullable(_) if document.is_null() => Ok(Value::Null),
+        CelType::Nullable(item) => fit_at(alloc, item.get(), document, path),
         CelType::Bool => match document {
             Json::Bool(truth) => Ok(Value::Bool(*truth)),
             _ => Err(misfit(alloc, document, path)),
@@ -86,7 +77,7 @@ fn fit_at(
             }
             _ => Err(misfit(alloc, document, path)),
         },
-        CelType::Never | CelType::Uint => Err(misfit(alloc, document, path)),
+        CelType::Never | CelType::Null | CelType::Uint => Err(misfit(alloc, document, path)),
     }
 }
 

@@ -245,10 +245,11 @@ fn read_field(
 ) -> Result<Keyed<Field<CelType>>, SchemaError>
     ensures { Answers (field_of (schema_type levels) (items_view required.now) name.now (view schema.now)) result }
 {
-    let cel_type = read_schema(levels, alloc, schema)?;
+    let key = Text::from_str(alloc, name)?;
     let required = is_among(required, name);
+    let cel_type = read_schema(levels, alloc, schema)?;
     Ok(Keyed {
-        key: Text::from_str(alloc, name)?,
+        key,
         value: Field { required, cel_type },
     })
 }

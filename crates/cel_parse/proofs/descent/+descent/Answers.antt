@@ -80,11 +80,11 @@ read_items-returns-in_err-rest-2 t c =
 
 pub read_items-returns-in-End : goal.read_items-returns-in-End
 read_items-returns-in-End t c =
-    items_end c.args.source.now c.args.closer (expression c.args.source.now c.args.brackets) c.loop-turn._turn c.loop-turn.ahead.now c.loop-turn.items c.loop-turn.deepest _ c.loop-turn-test.true c.loop-turn.invariant (seen c.in_ok-what.field-0) c.in_ok-what.ensures c.in-End.rest.now _ _ (end_is _ _ c.in-End.rest c.in_ok-rest-2.ensures c.in-End.is) c.in_ok-push.ensures.ok c.max-deepest.ensures
+    items_end c.args.source.now c.args.closer (expression c.args.source.now c.args.brackets) c.loop-turn._turn c.loop-turn.ahead.now c.loop-turn.items c.loop-turn.deepest _ c.loop-turn-test.true c.loop-turn.invariant (seen c.in_ok-what.field-0) c.in_ok-what.ensures c.in-End.rest.now _ _ (end_is _ _ c.in-End.rest c.in_ok-rest-2.ensures c.in-End.is) (rw c.into_inner.ensures at c.in_ok-push.ensures.ok) c.max-deepest.ensures
 
 pub read_items-loop-turn-preserved : goal.read_items-loop-turn-preserved
 read_items-loop-turn-preserved t c =
-    items_go_on c.args.source.now c.args.closer (expression c.args.source.now c.args.brackets) c.loop-turn._turn c.loop-turn.ahead.now c.loop-turn.items c.loop-turn.deepest _ c.loop-turn-test.true c.loop-turn.invariant (seen c.in_ok-what.field-0) c.in_ok-what.ensures c.in-More.rest.now _ _ (more_is _ _ c.in-More.rest c.in_ok-rest-2.ensures c.in-More.is) c.in_ok-push.ensures.ok c.max-deepest.ensures
+    items_go_on c.args.source.now c.args.closer (expression c.args.source.now c.args.brackets) c.loop-turn._turn c.loop-turn.ahead.now c.loop-turn.items c.loop-turn.deepest _ c.loop-turn-test.true c.loop-turn.invariant (seen c.in_ok-what.field-0) c.in_ok-what.ensures c.in-More.rest.now _ _ (more_is _ _ c.in-More.rest c.in_ok-rest-2.ensures c.in-More.is) (rw c.into_inner.ensures at c.in_ok-push.ensures.ok) c.max-deepest.ensures
 
 pub read_items-returns : goal.read_items-returns
 read_items-returns t c = out_of_items c.args.source.now c.args.closer (expression c.args.source.now c.args.brackets) c.loop-turn._turn c.loop-turn.ahead.now c.loop-turn.items c.loop-turn.deepest _ c.loop-turn-test.false c.loop-turn.invariant

@@ -17,18 +17,21 @@ returns-in_err-cut-clause-refused c = λ f h.
     let e : from_lexing c.in_err-cut.field-0.0 ≡ errors.Fault f = (let a = p.1 in let b = p.2 in cc) in
     refused_cut c.args.text.now c.in_err-cut.field-0.0 f e (λ g q. x g (cc))
 
-pub returns-in_err-tree-clause-refused : goal.returns-in_err-tree-clause-refused
-returns-in_err-tree-clause-refused c = λ f h.
-    let p = err_from_is_err_and c.from_residual-in_err-tree.result c.from_residual-in_err-tree.ensures.1 in
-    let x = c.in_err-tree.ensures.refused in
-    let e : c.in_err-tree.field-0.0 ≡ errors.Fault f = (let a = p.1 in let b = p.2 in cc) in
+pub returns-in_err-boxed-clause-refused : goal.returns-in_err-boxed-clause-refused
+returns-in_err-boxed-clause-refused c = λ f h.
+    let p = err_from_is_err_and c.from_residual-in_err-boxed.result c.from_residual-in_err-boxed.ensures.1 in
+    let x = c.in_err-boxed.ensures.refused in
+    let e : c.in_err-boxed.field-0.0 ≡ errors.Fault f = (let a = p.1 in let b = p.2 in cc) in
     refused_tree c.args.text.now _ _ f c.in_ok-cut.ensures.cut c.as_slice.ensures.value (x f (cc))
 
 pub returns-in-Some-clause-refused : goal.returns-in-Some-clause-refused
 returns-in-Some-clause-refused c = λ f h.
     let e : BadMacro c.in-Some.place ≡ f = cc in
-    refused_macro c.args.text.now _ _ c.in_ok-tree.tree c.in-Some.place f c.in_ok-cut.ensures.cut c.as_slice.ensures.value c.in_ok-tree.ensures.tree c.in-Some.ensures e
+    refused_macro c.args.text.now _ _ c.get-tree.result.now c.in_ok-boxed.boxed c.in_ok-cut.ensures.cut c.as_slice.ensures.value c.get-tree.ensures c.in_ok-boxed.ensures.tree c.in-Some.place f c.in-Some.ensures e
 
-pub returns-clause-refused : goal.returns-clause-refused
-returns-clause-refused c = λ f h.
-    refused_expression c.args.text.now _ _ c.in_ok-tree.tree c.expand.result f c.in_ok-cut.ensures.cut c.as_slice.ensures.value c.in_ok-tree.ensures.tree (sym c.first_wrong.ensures ∙ c.in_default.is) c.expand.ensures h
+pub returns-in_err-expand-clause-refused : goal.returns-in_err-expand-clause-refused
+returns-in_err-expand-clause-refused c = λ f h.
+    let p = err_from_is_err_and c.from_residual-in_err-expand.result c.from_residual-in_err-expand.ensures.1 in
+    let e : c.in_err-expand.field-0.0 ≡ errors.Fault f = (let a = p.1 in let b = p.2 in cc) in
+    refused_expression c.args.text.now _ _ c.get-tree.result.now c.in_ok-boxed.boxed c.in_ok-cut.ensures.cut c.as_slice.ensures.value c.get-tree.ensures c.in_ok-boxed.ensures.tree c.in_err-expand.field-0.0 f
+    (sym c.first_wrong.ensures ∙ c.in_default.is) c.in_err-expand.ensures e
