@@ -1,64 +1,109 @@
 #!/usr/bin/env python3
-"""Runs the tests of a crate with the first allocation refused, then the second, and so on until a run meets none.
+"""Runs what `rt ci` built with its first allocation refused, then with its second, and so on to the last that it makes.
 
-In each run the crate's first test of CRATES must pass: it takes 'out of memory' for an answer, and no other wrong one.
-The second fails while an allocation is refused, so where it passes the runs end. The last line is 'N passed, M failed'.
+The program is run on the first expression and on vectors of each answer, and then must give its right answer, or end
+with status 4 and nothing on standard output. Of crates/rows the tests of TESTS are run, which take 'out of memory' for
+an answer and no other wrong one. The last line is 'N passed, M failed', each refused allocation counted.
 """
+import json
 import os
+import shutil
 import subprocess
 import sys
+import tempfile
 from concurrent.futures import ThreadPoolExecutor
 from pathlib import Path
 
-ROOT = Path(__file__).resolve().parent.parent / "crates"
-CRATES = {
-    "plain": ("tests::containers_grow_or_are_out_of_memory", "tests::containers_grow"),
-    "cel_value": ("tests::copies_and_joins_are_made_or_out_of_memory", "tests::copies_and_joins_are_made"),
-    "vap_cli": ("tests::the_first_row_is_true_or_out_of_memory", "tests::the_first_row_is_true"),
-}
-MOST = 1000
-AT_ONCE = min(4, os.cpu_count() or 1)
+TOP = Path(__file__).resolve().parent.parent
+PROGRAM = TOP / "crates/vap/out/vap"
+ROWS = TOP / "crates/rows/out/rows_tests"
+FIRST = "1 + 2 * 3 == 7 && !(4 < 3)"
+TESTS = [
+    "containers::containers_grow_or_are_out_of_memory",
+    "values::copies_and_joins_are_made_or_out_of_memory",
+    "schemas::a_document_is_fitted_or_out_of_memory",
+]
+VECTORS = 50
+MOST = 100_000
+OVER = 99  # the status that the preloaded library gives where no allocation was refused
 
 
-def run(crate, refused):
-    """Whether each of the two tests passed with that allocation refused, and what was said."""
-    words = ["rt", "try", "--test", "--fail-alloc", str(refused)]
-    ran = subprocess.run(words, cwd=ROOT / crate, stdin=subprocess.DEVNULL, capture_output=True, text=True)
-    said = ran.stdout + ran.stderr
-    lines = said.splitlines()
-    return [f"test {name} ... ok" in lines for name in CRATES[crate]], said
+def preloaded(folder):
+    """The library that refuses, compiled by the kit's own compiler."""
+    kit = Path(subprocess.run(["rt", "doc"], capture_output=True, text=True, check=True).stdout.strip()).parent
+    library = Path(folder) / "refused.so"
+    flags = ["-O2", "-shared", "-fPIC", "-nostdlib", "-fuse-ld=lld"]
+    subprocess.run([kit / "toolchain/bin/clang", *flags, "-o", library, TOP / "tests/refused.c"], check=True)
+    return library
 
 
-def refuse_each(crate):
-    """How many of a crate's runs passed and failed."""
-    passed = failed = 0
-    with ThreadPoolExecutor(AT_ONCE) as pool:
-        for first in range(1, MOST, AT_ONCE):
-            refusals = range(first, first + AT_ONCE)
-            for refused, ((is_well, has_memory), said) in zip(refusals, pool.map(lambda n: run(crate, n), refusals)):
-                if not is_well:
-                    failed += 1
-                    print(f"{crate}, with allocation {refused} refused:\n{said}", flush=True)
-                elif has_memory:
-                    print(f"refused memory: the test of {crate} makes {refused - 1} allocations", flush=True)
-                    if passed == 0:
-                        failed += 1
-                        print(f"refused memory: no run of {crate} was refused any")
-                    return passed, failed
-                else:
-                    passed += 1
-            if failed:
-                break
-    print(f"refused memory: not all of the first {MOST} runs of {crate} are done")
-    return passed, max(failed, 1)
+def kind(line):
+    """What the answer of a vector is called, without its place; values by their first character."""
+    words = line["stdout"].split()
+    return " ".join(words[:2]) if words[:1] in (["error:"], ["refused:"]) else line["stdout"][:1]
+
+
+def spread(lines):
+    """So many vectors, one of each answer in turn."""
+    answers = {}
+    for line in lines:
+        answers.setdefault(kind(line), []).append(line)
+    chosen = []
+    while len(chosen) < VECTORS and answers:
+        for answer in sorted(answers):
+            chosen.append(answers[answer].pop(0))
+            if not answers[answer]:
+                del answers[answer]
+    return chosen[:VECTORS]
+
+
+def cases():
+    """Each case: its name, its words, and whether a status and an output are well where memory is refused."""
+    lines = []
+    for file in sorted((TOP / "tests/vectors").glob("eval*.jsonl")):
+        lines += [json.loads(text) for text in file.read_text(encoding="utf-8").splitlines()]
+    lines = [line for line in lines if len(line["expression"]) < 1000]
+    first = {"expression": FIRST, "status": 0, "stdout": "true\n"}
+    for line in [first] + spread(lines):
+        well = (line["status"], line["stdout"].encode())
+        is_well = lambda status, out, well=well: (status, out) in (well, (4, b""))
+        yield line["expression"], [PROGRAM, "eval", "--", line["expression"]], well, is_well
+    for test in TESTS:
+        is_well = lambda status, out: status == 0 and b"test result: ok" in out
+        yield test, [ROWS, test], None, is_well
+
+
+def sweep(library, name, words, well, is_well):
+    """How many of a case's allocations were refused, and what went wrong."""
+    whys = []
+    for number in range(1, MOST):
+        environment = {"LD_PRELOAD": str(library), "REFUSED": str(number)}
+        ran = subprocess.run(words, env=environment, stdin=subprocess.DEVNULL, capture_output=True, timeout=60)
+        if ran.returncode == OVER:
+            if well and ran.stdout != well[1]:
+                whys.append(f"{name!r} with all its memory: {ran.stdout!r}")
+            return number - 1, whys
+        if not is_well(ran.returncode, ran.stdout):
+            whys.append(f"{name!r} with allocation {number} refused: {ran.stdout!r}, status {ran.returncode}")
+    return MOST, whys + [f"{name!r}: it has not ended at {MOST} allocations"]
 
 
 def main():
-    counts = [refuse_each(crate) for crate in CRATES]
-    passed = sum(passed for passed, _ in counts)
-    failed = sum(failed for _, failed in counts)
-    print(f"{passed} passed, {failed} failed")
-    return 1 if failed else 0
+    folder = tempfile.mkdtemp()
+    try:
+        library = preloaded(folder)
+        with ThreadPoolExecutor(os.cpu_count()) as pool:
+            swept = list(pool.map(lambda case: sweep(library, *case), cases()))
+    finally:
+        shutil.rmtree(folder)
+    refused = sum(count for count, _ in swept)
+    whys = [why for _, found in swept for why in found]
+    whys += ["a case makes no allocation" for count, _ in swept if not count]
+    for why in whys:
+        print(why)
+    print(f"refused memory: {len(swept)} cases, {refused} allocations")
+    print(f"{refused - len(whys)} passed, {len(whys)} failed")
+    return 1 if whys else 0
 
 
 sys.exit(main())

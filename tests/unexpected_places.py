@@ -13,7 +13,7 @@ from concurrent.futures import ThreadPoolExecutor
 from pathlib import Path
 
 TOP = Path(__file__).resolve().parent.parent
-PROGRAM = TOP / "crates/vap_cli/out/vap_cli"
+PROGRAM = TOP / "crates/vap/out/vap"
 TEXTS = 600
 
 # Each part with the ways in which it is written; what is no part is a kind of token.

@@ -11,7 +11,7 @@ from concurrent.futures import ThreadPoolExecutor
 from pathlib import Path
 
 TOP = Path(__file__).resolve().parent.parent
-PROGRAM = TOP / "crates/vap_cli/out/vap_cli"
+PROGRAM = TOP / "crates/vap/out/vap"
 
 # What each command is given of a line.
 WORDS = {"eval": lambda line: ["eval", "--", line["expression"]]}

@@ -21,6 +21,21 @@ pub enum EvalError {
     OutOfMemory,
 }
 
+impl EvalError {
+    ghost use Rattle.std.specs.Prelude.{◌≡◌};
+    ghost use Rattle.vap_cli.specs.Status.{status_without};
+
+    /// How the program ends where an answer is not told.
+    pub fn status(self) -> Status
+        ensures { result ≡ status_without self }
+    {
+        match self {
+            EvalError::Write => Status::Stream,
+            EvalError::OutOfMemory => Status::OutOfMemory,
+        }
+    }
+}
+
 impl From<AllocError> for EvalError {
     ghost from_gives = { λ _ e. e ≡ OutOfMemory };
 

@@ -1,11 +1,7 @@
-use crate::counted::Counted;
-use crate::eval::{EvalError, eval_to};
-use crate::evaluation::one_outcome;
-use crate::status::Status;
-use std::alloc::Global;
 use std::io;
-use std::io::{Cursor, ErrorKind, Read, Write};
+use std::io::{ErrorKind, Read, Write};
 use std::test::Fail;
+use vap_cli::{Counted, EvalError, Status, eval_to, one_outcome};
 
 const FIRST_ROW: &str = "1 + 2 * 3 == 7 && !(4 < 3)";
 
@@ -132,36 +128,6 @@ fn what_is_too_long_is_refused(rt: HostRuntime) -> Result<(), Fail> {
     Ok(())
 }
 
-/// What the first row writes on a page that takes no memory.
-fn first_row(alloc: Global) -> (Result<Status, EvalError>, [u8; 8]) {
-    let mut out = Counted::new(Cursor::new([0u8; 8]));
-    let result = eval_to(alloc, FIRST_ROW, &mut out);
-    (result, out.into_inner().into_inner())
-}
-
-#[test]
-fn the_first_row_is_true(rt: HostRuntime) {
-    let (result, page) = first_row(rt.alloc());
-    assert_eq!(rt; result, Ok(Status::Done));
-    assert_eq!(rt; page, *b"true\n\0\0\0");
-}
-
-// This and the test above are run with each allocation refused in turn.
-#[test]
-fn the_first_row_is_true_or_out_of_memory(rt: HostRuntime) {
-    let (result, page) = first_row(rt.alloc());
-    match result {
-        Ok(status) => {
-            assert_eq!(rt; status, Status::Done);
-            assert_eq!(rt; page, *b"true\n\0\0\0");
-        }
-        Err(error) => {
-            assert_eq!(rt; error, EvalError::OutOfMemory);
-            assert_eq!(rt; page, [0; 8]);
-        }
-    }
-}
-
 #[test]
 fn a_failed_write_is_counted(rt: HostRuntime) {
     for refusal in [
@@ -195,4 +161,20 @@ fn a_failed_read_is_counted(rt: HostRuntime) -> Result<(), Fail> {
     assert!(rt; input.read(&mut bytes).is_err());
     assert_eq!(rt; input.failures(), 2);
     Ok(())
+}
+
+#[test]
+fn statuses_have_their_numbers(rt: HostRuntime) {
+    let rows = [
+        (Status::Done, 0),
+        (Status::Fault, 1),
+        (Status::BadCommandLine, 2),
+        (Status::Stream, 3),
+        (Status::OutOfMemory, 4),
+        (EvalError::Write.status(), 3),
+        (EvalError::OutOfMemory.status(), 4),
+    ];
+    for (status, code) in rows {
+        assert_eq!(rt; status.code(), code);
+    }
 }

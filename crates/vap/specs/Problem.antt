@@ -1,0 +1,23 @@
+-- How the program ends where it prints no answer.
+use Rattle.clap.specs.Values.{kind_of}
+use Rattle.clap.specs.declared.error.kind.ErrorKind.{ErrorKind}
+use Rattle.clap.specs.declared.error.kind.ErrorKind.TheVariants.{DisplayHelp, DisplayVersion}
+use Rattle.vap_cli.specs.declared.status.Status.{Status}
+use Rattle.vap_cli.specs.declared.status.Status.TheVariants.{Done, BadCommandLine}
+use Rattle.vap_cli.specs.Status.{status_without}
+use Rattle.vap.specs.declared.problem.Problem.{Problem}
+use Rattle.vap.specs.declared.problem.Problem.TheVariants.{Words, Minus, NoExpression, NotText, Unanswered}
+
+-- help and the version are asked for; all else is a mistake
+abbrev pub status_of_kind : ErrorKind → Status
+status_of_kind DisplayHelp = Done
+status_of_kind DisplayVersion = Done
+status_of_kind _ = BadCommandLine
+
+-- the status for each problem
+abbrev pub status_of : Problem → Status
+status_of (Words error) = status_of_kind (kind_of error)
+status_of Minus = BadCommandLine
+status_of NoExpression = BadCommandLine
+status_of NotText = BadCommandLine
+status_of (Unanswered error) = status_without error

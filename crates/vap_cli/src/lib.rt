@@ -1,0 +1,19 @@
+//! What the commands of the program write, over any reader and writer.
+//!
+//! [`eval_to`] writes the line for an expression's value, error or refusal, and tells the status with which the
+//! program then ends; [`Status::code`] is its number, and [`EvalError::status`] the status where nothing is told.
+//! [`one_outcome`] is the law that a text comes to one value or error at most. [`Counted`] counts the reads, writes
+//! and flushes that failed.
+#![tactic(auto)]
+
+mod answer;
+mod counted;
+mod eval;
+mod evaluation;
+mod status;
+
+pub use answer::{Answer, Refusal};
+pub use counted::Counted;
+pub use eval::{EvalError, eval_to};
+pub use evaluation::one_outcome;
+pub use status::Status;
