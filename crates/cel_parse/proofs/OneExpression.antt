@@ -3,20 +3,21 @@ use Rattle.std.proofs.Common.{◌≡◌, ℕ, List, [], length, refl, sym, ap, s
 use Rattle.cel_lex.specs.declared.token.Token.{Token}
 use Rattle.cel_lex.specs.declared.fault.LexFault.{LexFault}
 use Rattle.cel_parse.specs.declared.expr.Expr.{Expr}
-use Rattle.cel_parse.specs.declared.fault.ParseFault.{ParseFault}
-use Rattle.cel_parse.specs.declared.fault.ParseFault.TheVariants.{Lex, Unexpected}
-use Rattle.cel_parse.specs.declared.tree.Tree.{Tree}
+use Rattle.cel_grammar.specs.declared.fault.ParseFault.{ParseFault}
+use Rattle.cel_grammar.specs.declared.fault.ParseFault.TheVariants.{Lex, Unexpected}
+use Rattle.cel_grammar.specs.declared.tree.Tree.{Tree}
 use Rattle.cel_lex.specs.Lexis.{IsCut}
 use Rattle.cel_parse.specs.Macros.{first_wrong}
 use Rattle.cel_parse.specs.Expansion.{expanded}
 use Rattle.cel_parse.proofs.FewTokens.{few_tokens}
-use Rattle.cel_parse.specs.Parsing.{IsTree, IsUnexpected, HasNoTree, unexpected, too_deep, IsParsed, IsRefused, no_cut, no_tree, bad_macro, no_expression}
+use Rattle.cel_grammar.specs.Trees.{IsTree, IsUnexpected, HasNoTree, unexpected, too_deep}
+use Rattle.cel_parse.specs.Parsing.{IsParsed, IsRefused, no_cut, no_tree, bad_macro, no_expression}
 use Rattle.cel_lex.proofs.Cutting.{one_cut, one_refusal, no_refusal}
-use Rattle.cel_parse.specs.Grammar.{Derives, Expression}
-use Rattle.cel_parse.proofs.Stages.{agrees_self}
+use Rattle.cel_grammar.specs.Grammar.{Derives, Expression}
+use Rattle.cel_grammar.proofs.Stages.{agrees_self}
 use Rattle.cel_parse.proofs.Ranges.{expanded_lexical}
-use Rattle.cel_parse.proofs.OnePlace.{one_place}
-use Rattle.cel_parse.proofs.Answered.{one_tree}
+use Rattle.cel_grammar.proofs.OnePlace.{one_place}
+use Rattle.cel_grammar.proofs.Answered.{one_tree}
 
 same_tokens : {text : List ℕ} {ts us : List Token} → IsCut text ts → IsCut text us → ts ≡ us
 same_tokens p q = one_cut p.cut q.cut

@@ -3,16 +3,15 @@
 ghost use Rattle.std.specs.Prelude.{◌≡◌, ℕ, List, IfOk, IsErrOf};
 ghost use Rattle.cel_lex.specs.declared.fault.LexFault.{LexFault};
 ghost use Rattle.cel_parse.specs.declared.expr.Expr.{Expr};
-ghost use Rattle.cel_parse.specs.declared.fault.ParseFault.{ParseFault};
-ghost use Rattle.cel_parse.specs.declared.fault.ParseFault.TheVariants.{Lex, Unexpected};
-ghost use Rattle.cel_parse.specs.declared.fault.ParseError.TheVariants as errors;
+ghost use Rattle.cel_grammar.specs.declared.fault.ParseFault.{ParseFault};
+ghost use Rattle.cel_grammar.specs.declared.fault.ParseFault.TheVariants.{Lex, Unexpected};
+ghost use Rattle.cel_grammar.specs.declared.fault.ParseError.TheVariants as errors;
 ghost use Rattle.cel_parse.specs.Parsing.{IsParsed, IsRefused};
 
-use crate::descent::tree_of;
 use crate::expansion::expand;
 use crate::expr::Expr;
-use crate::fault::{ParseError, ParseFault};
 use crate::macros::first_wrong;
+use cel_grammar::{ParseError, ParseFault, tree_of};
 use cel_lex::tokens;
 use std::alloc::Global;
 
