@@ -1,3 +1,4 @@
 pub mod Macros
 pub mod Expansion
 pub mod Parsing
+pub mod Total
