@@ -10,7 +10,7 @@ use Rattle.cel_value.specs.Join.{IsAbove}
 use Rattle.cel_value.proofs.Above.{join-above}
 use Rattle.cel_value.proofs.Reflexive.{assignable-refl}
 use Rattle.cel_code.proofs.Opened.{bool_fits, int_fits}
-use Rattle.cel_parse.specs.declared.expr.Entry.{Entry}
+use Rattle.cel_grammar.specs.declared.tree.Entry.{Entry}
 use Rattle.cel_parse.specs.declared.expr.Expr.{Expr, roll-Expr}
 use Rattle.cel_parse.specs.declared.expr.Expr.TheOpen.{Expr-F}
 use Rattle.cel_parse.specs.declared.expr.Expr.TheFolds.{map-Expr, fold-roll-Expr, ind-Expr}

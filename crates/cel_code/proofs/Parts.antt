@@ -1,7 +1,7 @@
 -- What checking gives at a form whose parts stand in a list.
 use Rattle.std.proofs.Common.{◌≡◌, ℕ, List, ap, sym, subst, ◌∙◌}
 use Rattle.std.specs.Prelude.{Result, Ok}
-use Rattle.cel_parse.specs.declared.expr.Entry.{Entry}
+use Rattle.cel_grammar.specs.declared.tree.Entry.{Entry}
 use Rattle.cel_parse.specs.declared.expr.Expr.{Expr, out-Expr}
 use Rattle.cel_parse.specs.declared.expr.Expr.TheFolds.{map-Expr, fold_out-Expr}
 use Rattle.cel_parse.specs.declared.expr.Syntax.{Syntax}

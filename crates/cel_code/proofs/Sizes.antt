@@ -1,7 +1,7 @@
 -- The depth of an expression of each form that has parts in a list, and how many nodes it has.
 use Rattle.std.proofs.Common.{◌≡◌, ℕ, ◌+◌, List, [], ◌∷◌, map, ap, refl, ◌∙◌}
 use Rattle.std.specs.Prelude.{max}
-use Rattle.cel_parse.specs.declared.expr.Entry.{Entry}
+use Rattle.cel_grammar.specs.declared.tree.Entry.{Entry}
 use Rattle.cel_parse.specs.declared.expr.Expr.{Expr, out-Expr}
 use Rattle.cel_parse.specs.declared.expr.Expr.TheOpen.{Expr-F}
 use Rattle.cel_parse.specs.declared.expr.Expr.TheFolds.{map-Expr, fold_out-Expr}

@@ -5,11 +5,11 @@ use Rattle.cel_value.specs.declared.value.Value as value
 use Rattle.cel_value.specs.declared.cel_type.CelType.{CelType}
 use Rattle.cel_value.specs.declared.cel_type.CelType as type
 use Rattle.cel_value.specs.CelType.{join}
-use Rattle.cel_parse.specs.declared.expr.UnaryOperator.{UnaryOperator}
-use Rattle.cel_parse.specs.declared.expr.UnaryOperator.TheVariants as unary_operator
+use Rattle.cel_grammar.specs.declared.tree.UnaryOperator.{UnaryOperator}
+use Rattle.cel_grammar.specs.declared.tree.UnaryOperator.TheVariants as unary_operator
 use Rattle.cel_parse.specs.declared.expr.BinaryOperator.{BinaryOperator}
 use Rattle.cel_parse.specs.declared.expr.BinaryOperator.TheVariants as binary_operator
-use Rattle.cel_parse.specs.declared.expr.Entry.{Entry}
+use Rattle.cel_grammar.specs.declared.tree.Entry.{Entry}
 use Rattle.cel_parse.specs.declared.expr.Expr.{Expr, fold-Expr}
 use Rattle.cel_parse.specs.declared.expr.Syntax.{Syntax}
 use Rattle.cel_parse.specs.declared.expr.Syntax.TheVariants as syntax

@@ -16,3 +16,4 @@ pub mod LiteralParts
 pub mod NextRead
 pub mod Spelled
 pub mod WorkedRows
+pub mod Total

@@ -8,3 +8,4 @@ pub mod Spelling
 pub mod Lexis
 pub mod Together
 pub mod Scan
+pub mod Total

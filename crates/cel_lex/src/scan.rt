@@ -6,6 +6,7 @@ ghost use Rattle.cel_lex.specs.declared.fault.LexFault.{LexFault};
 ghost use Rattle.cel_lex.specs.declared.fault.LexError.TheVariants as errors;
 ghost use Rattle.cel_lex.specs.Lexis.{IsCut, Refuses};
 ghost use Rattle.cel_lex.specs.Together.{IsTogether};
+ghost use Rattle.cel_lex.specs.Total.{HasAnswer};
 
 use crate::fault::{LexError, LexFault, LexFaultKind};
 use crate::piece::{Piece, longest};
@@ -55,4 +56,5 @@ pub fn one_answer()
     ensures cuts { (bytes : List ℕ) (ts us : List Token) → IsCut bytes ts → IsCut bytes us → ts ≡ us }
     ensures faults { (bytes : List ℕ) (f g : LexFault) → Refuses bytes f → Refuses bytes g → f ≡ g }
     ensures either { (bytes : List ℕ) (ts : List Token) (f : LexFault) → IsCut bytes ts → Refuses bytes f → ⊥ }
+    ensures some { (bytes : List ℕ) → HasAnswer bytes }
 {}

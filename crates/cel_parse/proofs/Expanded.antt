@@ -1,17 +1,17 @@
 -- The expression of each node whose parts are a list.
 use Rattle.std.proofs.Common.{◌≡◌, ℕ, List, ◌++◌, Result, Ok, Err, sym, ap, subst, ◌∙◌}
 use Rattle.cel_parse.specs.declared.expr.Expr.{Expr}
-use Rattle.cel_parse.specs.declared.expr.Entry.{Entry}
+use Rattle.cel_grammar.specs.declared.tree.Entry.{Entry}
 use Rattle.cel_parse.specs.declared.expr.Syntax.TheVariants as syntax
-use Rattle.cel_parse.specs.declared.fault.ParseFault.{ParseFault}
-use Rattle.cel_parse.specs.declared.fault.ParseError.{ParseError}
-use Rattle.cel_parse.specs.declared.fault.ParseError.TheVariants as errors
-use Rattle.cel_parse.specs.declared.tree.Tree.{Tree, roll-Tree, Call as call, Method as method, List as list, Map as map_tree}
-use Rattle.cel_parse.specs.declared.tree.Tree.TheOpen.{Tree-F}
-use Rattle.cel_parse.specs.declared.tree.Tree.TheVariants.{rolls-Call, rolls-Method, rolls-List, rolls-Map}
-use Rattle.cel_parse.specs.declared.tree.Tree.TheFolds.{map-Tree, fold-roll-Tree}
-use Rattle.cel_parse.specs.Views.{same, Fails, Gives}
-use Rattle.cel_parse.specs.Descent.{◌>>=◌}
+use Rattle.cel_grammar.specs.declared.fault.ParseFault.{ParseFault}
+use Rattle.cel_grammar.specs.declared.fault.ParseError.{ParseError}
+use Rattle.cel_grammar.specs.declared.fault.ParseError.TheVariants as errors
+use Rattle.cel_grammar.specs.declared.tree.Tree.{Tree, roll-Tree, Call as call, Method as method, List as list, Map as map_tree}
+use Rattle.cel_grammar.specs.declared.tree.Tree.TheOpen.{Tree-F}
+use Rattle.cel_grammar.specs.declared.tree.Tree.TheVariants.{rolls-Call, rolls-Method, rolls-List, rolls-Map}
+use Rattle.cel_grammar.specs.declared.tree.Tree.TheFolds.{map-Tree, fold-roll-Tree}
+use Rattle.cel_grammar.specs.Views.{same, Fails, Gives}
+use Rattle.cel_grammar.specs.Descent.{◌>>=◌}
 use Rattle.cel_parse.specs.Expansion.{expr, Expanded, Expansion, each, each_entry, call_of, method_of, expanded_at, role_at, expansion, expansions, entry_expansions, expanded}
 
 -- behind the expressions that are there already

@@ -3,20 +3,21 @@ use Rattle.std.proofs.Common.{◌≡◌, ℕ, List, [], length, refl, sym, ap, s
 use Rattle.cel_lex.specs.declared.token.Token.{Token}
 use Rattle.cel_lex.specs.declared.fault.LexFault.{LexFault}
 use Rattle.cel_parse.specs.declared.expr.Expr.{Expr}
-use Rattle.cel_parse.specs.declared.fault.ParseFault.{ParseFault}
-use Rattle.cel_parse.specs.declared.fault.ParseFault.TheVariants.{Lex, Unexpected}
-use Rattle.cel_parse.specs.declared.tree.Tree.{Tree}
+use Rattle.cel_grammar.specs.declared.fault.ParseFault.{ParseFault}
+use Rattle.cel_grammar.specs.declared.fault.ParseFault.TheVariants.{Lex, Unexpected, BadMacro}
+use Rattle.cel_grammar.specs.declared.tree.Tree.{Tree}
 use Rattle.cel_lex.specs.Lexis.{IsCut}
 use Rattle.cel_parse.specs.Macros.{first_wrong}
 use Rattle.cel_parse.specs.Expansion.{expanded}
 use Rattle.cel_parse.proofs.FewTokens.{few_tokens}
-use Rattle.cel_parse.specs.Parsing.{IsTree, IsUnexpected, HasNoTree, unexpected, too_deep, IsParsed, IsRefused, no_cut, no_tree, bad_macro, no_expression}
+use Rattle.cel_grammar.specs.Trees.{IsTree, IsUnexpected, HasNoTree, unexpected, too_deep}
+use Rattle.cel_parse.specs.Parsing.{IsParsed, IsRefused, no_cut, no_tree, bad_macro, no_expression}
 use Rattle.cel_lex.proofs.Cutting.{one_cut, one_refusal, no_refusal}
-use Rattle.cel_parse.specs.Grammar.{Derives, Expression}
-use Rattle.cel_parse.proofs.Stages.{agrees_self}
+use Rattle.cel_grammar.specs.Grammar.{Derives, Expression}
+use Rattle.cel_grammar.proofs.Stages.{agrees_self}
 use Rattle.cel_parse.proofs.Ranges.{expanded_lexical}
-use Rattle.cel_parse.proofs.OnePlace.{one_place}
-use Rattle.cel_parse.proofs.Answered.{one_tree}
+use Rattle.cel_grammar.proofs.OnePlace.{one_place}
+use Rattle.cel_grammar.proofs.Answered.{one_tree}
 
 same_tokens : {text : List ℕ} {ts us : List Token} → IsCut text ts → IsCut text us → ts ≡ us
 same_tokens p q = one_cut p.cut q.cut
@@ -88,3 +89,20 @@ unexpected_place text f g p q (no_tree {ts = ts} c n) (no_tree {ts = us} d m) h 
 
 pub one_unexpected : (text : List ℕ) (p q : ℕ) → IsRefused text (Unexpected p) → IsRefused text (Unexpected q) → p ≡ q
 one_unexpected text p q r s = unexpected_place text (Unexpected p) (Unexpected q) p q r s refl refl
+
+macro_none : {text : List ℕ} {ts : List Token} {g : ParseFault} {p : ℕ} → HasNoTree text ts g → g ≡ BadMacro p → ⊥
+macro_none (unexpected u) h = cc
+macro_none (too_deep d) h = cc
+
+-- a macro that is wrong is the only fault
+first_macro : (text : List ℕ) (p : ℕ) (g h : ParseFault) → IsRefused text h → IsRefused text g → h ≡ BadMacro p → g ≡ h
+first_macro text p g h (no_cut r) s q = absurd cc
+first_macro text p g h (no_tree c n) s q = absurd (macro_none n q)
+first_macro text p g h (no_expression {e = e} c t m x) s q = absurd (let l = expanded_lexical text e h x in let k = l.1 in cc)
+first_macro text p g h (bad_macro c t w) (no_cut r) q = absurd (no_refusal text _ _ c r)
+first_macro text p g h (bad_macro c t w) (no_tree d n) q = absurd (tree_or_none d c n t)
+first_macro text p g h (bad_macro c t w) (bad_macro d u v) q = let e = ap (first_wrong text) (same_tree c d t u) in cc
+first_macro text p g h (bad_macro c t w) (no_expression d u m y) q = let e = ap (first_wrong text) (same_tree c d t u) in absurd cc
+
+pub only_macro : (text : List ℕ) (p : ℕ) (g : ParseFault) → IsRefused text (BadMacro p) → IsRefused text g → g ≡ BadMacro p
+only_macro text p g r s = first_macro text p g (BadMacro p) r s refl

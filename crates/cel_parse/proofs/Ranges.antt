@@ -3,16 +3,17 @@ use Rattle.std.proofs.Common.{◌≡◌, ℕ, Bool, true, false, cond, List, [],
 use Rattle.std.specs.Prelude.{map}
 use Rattle.cel_lex.specs.declared.fault.LexFault.{LexFault}
 use Rattle.cel_parse.specs.declared.expr.Expr.{Expr}
-use Rattle.cel_parse.specs.declared.expr.Entry.{Entry}
+use Rattle.cel_grammar.specs.declared.tree.Entry.{Entry}
 use Rattle.cel_parse.specs.declared.expr.Loop.{Loop}
 use Rattle.cel_parse.specs.declared.expr.Loop.TheVariants as loop
-use Rattle.cel_parse.specs.declared.fault.ParseFault.{ParseFault}
-use Rattle.cel_parse.specs.declared.fault.ParseFault.TheVariants.{Lex}
-use Rattle.cel_parse.specs.declared.tree.Tree.{Tree, roll-Tree}
-use Rattle.cel_parse.specs.declared.tree.Tree.TheOpen.{Tree-F}
-use Rattle.cel_parse.specs.declared.tree.Tree.TheFolds.{map-Tree, fold-roll-Tree, ind-Tree}
-use Rattle.cel_parse.specs.Words.{is_has, loop_of, word_at}
-use Rattle.cel_parse.specs.Descent.{◌>>=◌}
+use Rattle.cel_grammar.specs.declared.fault.ParseFault.{ParseFault}
+use Rattle.cel_grammar.specs.declared.fault.ParseFault.TheVariants.{Lex}
+use Rattle.cel_grammar.specs.declared.tree.Tree.{Tree, roll-Tree}
+use Rattle.cel_grammar.specs.declared.tree.Tree.TheOpen.{Tree-F}
+use Rattle.cel_grammar.specs.declared.tree.Tree.TheFolds.{map-Tree, fold-roll-Tree, ind-Tree}
+use Rattle.cel_grammar.specs.Words.{is_has, word_at}
+use Rattle.cel_parse.specs.Macros.{loop_of}
+use Rattle.cel_grammar.specs.Descent.{◌>>=◌}
 use Rattle.cel_parse.specs.Expansion.{Expanded, Role, names, selects, other, Expansion, each, each_entry, plain_call, has_by, has_of, plain_method, loop_by, where_by, loop_of_kind, method_by, is_in_range, expanded_at, role_at, expansion, expanded}
 
 -- a fault, if there is one, is the lexer's

@@ -4,17 +4,18 @@ use Rattle.cel_lex.specs.declared.token.Token.{Token}
 use Rattle.cel_lex.specs.declared.fault.LexFault.{LexFault}
 use Rattle.cel_lex.specs.declared.fault.LexError.{LexError}
 use Rattle.cel_lex.specs.declared.fault.LexError.TheVariants as lexing
-use Rattle.cel_parse.specs.declared.fault.ParseFault.{ParseFault}
-use Rattle.cel_parse.specs.declared.fault.ParseFault.TheVariants.{BadMacro}
-use Rattle.cel_parse.specs.declared.fault.ParseError.{ParseError}
-use Rattle.cel_parse.specs.declared.fault.ParseError.TheVariants as errors
-use Rattle.cel_parse.specs.declared.tree.Tree.{Tree}
+use Rattle.cel_grammar.specs.declared.fault.ParseFault.{ParseFault}
+use Rattle.cel_grammar.specs.declared.fault.ParseFault.TheVariants.{BadMacro}
+use Rattle.cel_grammar.specs.declared.fault.ParseError.{ParseError}
+use Rattle.cel_grammar.specs.declared.fault.ParseError.TheVariants as errors
+use Rattle.cel_grammar.specs.declared.tree.Tree.{Tree}
 use Rattle.cel_lex.specs.Lexis.{IsCut, Refuses}
-use Rattle.cel_parse.specs.Faults.{from_lexing}
-use Rattle.cel_parse.specs.Views.{Fails}
+use Rattle.cel_grammar.specs.Faults.{from_lexing}
+use Rattle.cel_grammar.specs.Views.{Fails}
 use Rattle.cel_parse.specs.Macros.{first_wrong}
 use Rattle.cel_parse.specs.Expansion.{expanded}
-use Rattle.cel_parse.specs.Parsing.{IsTree, HasNoTree, IsRefused, no_cut, no_tree, bad_macro, no_expression}
+use Rattle.cel_grammar.specs.Trees.{IsTree, HasNoTree}
+use Rattle.cel_parse.specs.Parsing.{IsRefused, no_cut, no_tree, bad_macro, no_expression}
 
 pub refused_cut : (text : List ℕ) (l : LexError) (f : ParseFault) → from_lexing l ≡ errors.Fault f → ((g : LexFault) → l ≡ lexing.Fault g → Refuses text g) → IsRefused text f
 refused_cut text lexing.OutOfMemory f e h = absurd cc

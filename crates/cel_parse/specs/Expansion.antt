@@ -5,18 +5,19 @@ use Rattle.cel_lex.specs.declared.fault.LexFaultKind.TheVariants.{IntRange}
 use Rattle.cel_parse.specs.declared.expr.BinaryOperator.TheVariants as binary
 use Rattle.cel_parse.specs.declared.expr.Loop.{Loop}
 use Rattle.cel_parse.specs.declared.expr.Loop.TheVariants as loop
-use Rattle.cel_parse.specs.declared.expr.Entry.{Entry}
+use Rattle.cel_grammar.specs.declared.tree.Entry.{Entry}
 use Rattle.cel_parse.specs.declared.expr.Syntax.{Syntax}
 use Rattle.cel_parse.specs.declared.expr.Syntax.TheVariants as syntax
 use Rattle.cel_parse.specs.declared.expr.Expr.{Expr, roll-Expr}
-use Rattle.cel_parse.specs.declared.fault.ParseFault.{ParseFault}
-use Rattle.cel_parse.specs.declared.fault.ParseFault.TheVariants.{Lex}
-use Rattle.cel_parse.specs.declared.tree.Joint.{Joint}
-use Rattle.cel_parse.specs.declared.tree.Joint.TheVariants as joint
-use Rattle.cel_parse.specs.declared.tree.Tree.{Tree, fold-Tree}
-use Rattle.cel_parse.specs.declared.tree.Tree.TheOpen.{Tree-F}
-use Rattle.cel_parse.specs.Words.{word_at, is_has, loop_of}
-use Rattle.cel_parse.specs.Descent.{◌>>=◌}
+use Rattle.cel_grammar.specs.declared.fault.ParseFault.{ParseFault}
+use Rattle.cel_grammar.specs.declared.fault.ParseFault.TheVariants.{Lex}
+use Rattle.cel_grammar.specs.declared.tree.Joint.{Joint}
+use Rattle.cel_grammar.specs.declared.tree.Joint.TheVariants as joint
+use Rattle.cel_grammar.specs.declared.tree.Tree.{Tree, fold-Tree}
+use Rattle.cel_grammar.specs.declared.tree.Tree.TheOpen.{Tree-F}
+use Rattle.cel_grammar.specs.Words.{word_at, is_has}
+use Rattle.cel_parse.specs.Macros.{loop_of}
+use Rattle.cel_grammar.specs.Descent.{◌>>=◌}
 
 -- an expression at a place
 abbrev pub expr : ℕ → Syntax Expr → Expr

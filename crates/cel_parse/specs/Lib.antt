@@ -1,9 +1,4 @@
-pub mod Faults
-pub mod Words
-pub mod Grammar
-pub mod Limits
-pub mod Descent
-pub mod Views
 pub mod Macros
 pub mod Expansion
 pub mod Parsing
+pub mod Total

@@ -1,13 +1,24 @@
 -- Calls of macros whose arguments are wrong (cel-spec, "Macros").
-use Rattle.std.specs.Prelude.{ℕ, min, Bool, true, false, ◌&&◌, not, List, [], ◌∷◌, map, Option, Some, None}
+use Rattle.std.specs.Prelude.{ℕ, min, Bool, true, false, ◌&&◌, not, List, [], ◌∷◌, map, Option, Some, None, if◌then◌else◌, codes}
+use Rattle.std.specs.Str.{bytes_eq}
 use Rattle.cel_parse.specs.declared.expr.Loop.{Loop}
 use Rattle.cel_parse.specs.declared.expr.Loop.TheVariants as loop
-use Rattle.cel_parse.specs.declared.expr.Entry.{Entry}
+use Rattle.cel_grammar.specs.declared.tree.Entry.{Entry}
 use Rattle.cel_parse.specs.declared.macros.Shape.{Shape}
 use Rattle.cel_parse.specs.declared.macros.Shape.TheVariants as shape
-use Rattle.cel_parse.specs.declared.tree.Tree.{Tree, fold-Tree}
-use Rattle.cel_parse.specs.declared.tree.Tree.TheOpen.{Tree-F}
-use Rattle.cel_parse.specs.Words.{word_at, is_has, loop_of}
+use Rattle.cel_grammar.specs.declared.tree.Tree.{Tree, fold-Tree}
+use Rattle.cel_grammar.specs.declared.tree.Tree.TheOpen.{Tree-F}
+use Rattle.cel_grammar.specs.Words.{word_at, is_has}
+
+-- the macros on a list or map (cel-spec, "Macros")
+unfoldable pub loop_of : List ℕ → Option Loop
+loop_of word =
+    if bytes_eq word (codes "all") then Some loop.All
+    else (if bytes_eq word (codes "exists") then Some loop.Exists
+    else (if bytes_eq word (codes "exists_one") then Some loop.ExistsOne
+    else (if bytes_eq word (codes "filter") then Some loop.Filter
+    else (if bytes_eq word (codes "map") then Some loop.Map
+    else None))))
 
 -- what a macro wants to know of a tree, and the least place of a wrong macro in it
 pub record Mark : Type 0 where

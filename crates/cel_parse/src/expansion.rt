@@ -2,14 +2,13 @@
 
 ghost use Rattle.std.specs.Prelude.{◌≡◌, ℕ, List, IfOk, Ok};
 ghost use Rattle.cel_parse.specs.declared.expr.Expr.{Expr};
-ghost use Rattle.cel_parse.specs.Views.{same, Gives};
-ghost use Rattle.cel_parse.specs.Words.{word_at};
+ghost use Rattle.cel_grammar.specs.Views.{same, Gives};
+ghost use Rattle.cel_grammar.specs.Words.{word_at};
 ghost use Rattle.cel_parse.specs.Expansion.{expr, after, number_of, form_of, each, each_entry, plain_call, has_of, call_of, name_in, loop_name, plain_method, loop_of_kind, method_of, expansion, expansions, entry_expansions, expanded};
 
-use crate::expr::{BinaryOperator, Entry, Expr, Loop, Syntax, UnaryOperator};
-use crate::fault::{ParseError, ParseFault};
-use crate::tree::{Joint, Tree};
-use crate::word::{is_has, loop_at, word_at};
+use crate::expr::{BinaryOperator, Expr, Loop, Syntax};
+use crate::macros::loop_at;
+use cel_grammar::{Entry, Joint, ParseError, ParseFault, Tree, is_has, word_at};
 use cel_lex::{Infix, LexFault, LexFaultKind};
 use plain::{Boxed, Items, Text};
 use std::alloc::{AllocError, Global};

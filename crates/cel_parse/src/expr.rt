@@ -1,13 +1,7 @@
 //! Expressions, as they are written, with the macros expanded.
 
+use cel_grammar::{Entry, UnaryOperator};
 use plain::{Boxed, Items, Text};
-
-/// An operator before one operand.
-#[derive(Clone, Copy, Debug, PartialEq, Eq)]
-pub enum UnaryOperator {
-    Not,
-    Negate,
-}
 
 /// An operator between two operands that are both evaluated.
 #[derive(Clone, Copy, Debug, PartialEq, Eq)]
@@ -41,15 +35,8 @@ pub enum Loop {
     Map,
 }
 
-/// A key and the value under it.
-#[derive(Debug, Drop)]
-pub struct Entry<T> {
-    pub key: T,
-    pub value: T,
-}
-
 /// One level of an expression, over what stands for the expressions inside.
-#[derive(Debug, Drop)]
+#[derive(Drop)]
 pub enum Syntax<T> {
     Null,
     Bool(bool),
@@ -80,7 +67,7 @@ pub enum Syntax<T> {
 
 /// An expression and its place: the byte at which its operator, name, selector, opening bracket or `?` begins, else its
 /// first token.
-#[derive(Debug, Drop)]
+#[derive(Drop)]
 pub struct Expr {
     pub place: usize,
     pub form: Syntax<Expr>,

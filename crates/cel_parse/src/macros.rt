@@ -1,15 +1,35 @@
 //! Calls of macros whose arguments are wrong.
 
 ghost use Rattle.std.specs.Prelude.{◌≡◌, ℕ, List, map, not, ◌&&◌};
-ghost use Rattle.cel_parse.specs.Macros.{lesser, mark, wrong_if, suits_has, suits_loop, wrong_method, least, least_entry, first_wrong, marks};
-ghost use Rattle.cel_parse.specs.Words.{is_has, loop_of, word_at};
+ghost use Rattle.cel_parse.specs.Macros.{loop_of, lesser, mark, wrong_if, suits_has, suits_loop, wrong_method, least, least_entry, first_wrong, marks};
+ghost use Rattle.cel_grammar.specs.Words.{is_has, word_at};
 
-use crate::expr::{Entry, Loop};
-use crate::tree::Tree;
-use crate::word::{is_has, loop_at};
+use crate::expr::Loop;
+use cel_grammar::{Entry, Tree, is_has, word_at};
+
+/// The loop that the word at a place is the macro of, if there is one.
+#[tactic(auto, unfolding(crate::specs::Macros::loop_of))]
+pub fn loop_at(text: &str, place: usize) -> Option<Loop>
+    ensures { result ≡ loop_of (word_at text.now place) }
+{
+    let word = word_at(text, place).as_bytes();
+    if word == b"all".as_slice() {
+        Some(Loop::All)
+    } else if word == b"exists".as_slice() {
+        Some(Loop::Exists)
+    } else if word == b"exists_one".as_slice() {
+        Some(Loop::ExistsOne)
+    } else if word == b"filter".as_slice() {
+        Some(Loop::Filter)
+    } else if word == b"map".as_slice() {
+        Some(Loop::Map)
+    } else {
+        None
+    }
+}
 
 /// What a macro wants to know of an argument.
-#[derive(Clone, Copy, Debug, PartialEq, Eq)]
+#[derive(Clone, Copy, PartialEq, Eq)]
 pub enum Shape {
     Name,
     Select,

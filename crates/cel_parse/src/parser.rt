@@ -3,16 +3,16 @@
 ghost use Rattle.std.specs.Prelude.{◌≡◌, ℕ, List, IfOk, IsErrOf};
 ghost use Rattle.cel_lex.specs.declared.fault.LexFault.{LexFault};
 ghost use Rattle.cel_parse.specs.declared.expr.Expr.{Expr};
-ghost use Rattle.cel_parse.specs.declared.fault.ParseFault.{ParseFault};
-ghost use Rattle.cel_parse.specs.declared.fault.ParseFault.TheVariants.{Lex, Unexpected};
-ghost use Rattle.cel_parse.specs.declared.fault.ParseError.TheVariants as errors;
+ghost use Rattle.cel_grammar.specs.declared.fault.ParseFault.{ParseFault};
+ghost use Rattle.cel_grammar.specs.declared.fault.ParseFault.TheVariants.{Lex, Unexpected, BadMacro};
+ghost use Rattle.cel_grammar.specs.declared.fault.ParseError.TheVariants as errors;
 ghost use Rattle.cel_parse.specs.Parsing.{IsParsed, IsRefused};
+ghost use Rattle.cel_parse.specs.Total.{IsAnswered};
 
-use crate::descent::tree_of;
 use crate::expansion::expand;
 use crate::expr::Expr;
-use crate::fault::{ParseError, ParseFault};
 use crate::macros::first_wrong;
+use cel_grammar::{ParseError, ParseFault, tree_of};
 use cel_lex::tokens;
 use std::alloc::Global;
 
@@ -32,11 +32,13 @@ pub fn parse(alloc: Global, text: &str) -> Result<Expr, ParseError>
     Ok(expand(alloc, text, tree)?.into_inner())
 }
 
-/// A text spells one expression or is refused, and not both. Where a character or a number refuses it, nothing else
-/// does, and no token is unexpected but one.
+/// A text spells one expression or is refused, and not both. Where a character, a number or a macro refuses it, nothing
+/// else does, and no token is unexpected but one.
 pub fn one_expression()
     ensures expressions { (text : List ℕ) (a b : Expr) → IsParsed text a → IsParsed text b → a ≡ b }
     ensures either { (text : List ℕ) (e : Expr) (f : ParseFault) → IsParsed text e → IsRefused text f → ⊥ }
     ensures lexing { (text : List ℕ) (f : LexFault) (g : ParseFault) → IsRefused text (Lex f) → IsRefused text g → g ≡ Lex f }
     ensures places { (text : List ℕ) (p q : ℕ) → IsRefused text (Unexpected p) → IsRefused text (Unexpected q) → p ≡ q }
+    ensures macros { (text : List ℕ) (p : ℕ) (g : ParseFault) → IsRefused text (BadMacro p) → IsRefused text g → g ≡ BadMacro p }
+    ensures some { (text : List ℕ) → IsAnswered text }
 {}

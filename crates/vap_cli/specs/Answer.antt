@@ -6,8 +6,8 @@ use Rattle.cel_value.specs.declared.value.Value.TheOpen.{Value-F}
 use Rattle.cel_value.specs.Names.{error_name}
 use Rattle.cel_lex.specs.declared.fault.LexFaultKind.{LexFaultKind}
 use Rattle.cel_lex.specs.declared.fault.LexFaultKind.TheVariants.{BadChar, Unterminated, BadEscape, IntRange, TooLong}
-use Rattle.cel_parse.specs.declared.fault.ParseFault.{ParseFault}
-use Rattle.cel_parse.specs.declared.fault.ParseFault.TheVariants.{Lex, Unexpected, BadMacro, TooDeep}
+use Rattle.cel_grammar.specs.declared.fault.ParseFault.{ParseFault}
+use Rattle.cel_grammar.specs.declared.fault.ParseFault.TheVariants.{Lex, Unexpected, BadMacro, TooDeep}
 use Rattle.cel_code.specs.declared.cel_check.fault.TypeRule.{TypeRule}
 use Rattle.cel_code.specs.declared.cel_check.fault.TypeRule.TheVariants.{UnknownName, NoOverload, Mixed, TooLarge}
 use Rattle.vap_cli.specs.declared.answer.Refusal.{Refusal}

@@ -1,8 +1,8 @@
 -- What an expression comes to, by the definitions of its parts.
 use Rattle.std.specs.Prelude.{◌≡◌, ℕ, List, [], Some, Ok, Err}
 use Rattle.cel_parse.specs.declared.expr.Expr.{Expr}
-use Rattle.cel_parse.specs.declared.fault.ParseError.{ParseError}
-use Rattle.cel_parse.specs.declared.fault.ParseError.TheVariants as parsing
+use Rattle.cel_grammar.specs.declared.fault.ParseError.{ParseError}
+use Rattle.cel_grammar.specs.declared.fault.ParseError.TheVariants as parsing
 use Rattle.cel_parse.specs.Parsing.{IsParsed, IsRefused}
 use Rattle.cel_code.specs.declared.cel_check.fault.CheckError.{CheckError}
 use Rattle.cel_code.specs.declared.cel_check.fault.CheckError.TheVariants as checking

@@ -1,7 +1,7 @@
 //! From the text of an expression to what it comes to.
 
 ghost use Rattle.std.specs.Prelude.{◌≡◌, ℕ, List, [], Some, Err, IfOk, IsErrOf};
-ghost use Rattle.cel_parse.specs.declared.fault.ParseFault.{ParseFault};
+ghost use Rattle.cel_grammar.specs.declared.fault.ParseFault.{ParseFault};
 ghost use Rattle.cel_parse.specs.Parsing.{IsRefused};
 ghost use Rattle.cel_code.specs.declared.cel_check.fault.TypeFault.{TypeFault};
 ghost use Rattle.cel_code.specs.Meaning.{value_of};

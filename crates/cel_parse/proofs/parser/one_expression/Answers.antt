@@ -1,4 +1,5 @@
-use Rattle.cel_parse.proofs.OneExpression.{same_expression, not_both, only_fault, one_unexpected}
+use Rattle.cel_parse.proofs.OneExpression.{same_expression, not_both, only_fault, one_unexpected, only_macro}
+use Rattle.cel_parse.proofs.Total.{is_answered}
 use Rattle.cel_parse.proofs.parser.one_expression.Goals as goal
 
 pub returns-clause-expressions : goal.returns-clause-expressions
@@ -12,3 +13,9 @@ returns-clause-lexing c = only_fault
 
 pub returns-clause-places : goal.returns-clause-places
 returns-clause-places c = one_unexpected
+
+pub returns-clause-macros : goal.returns-clause-macros
+returns-clause-macros c = only_macro
+
+pub returns-clause-some : goal.returns-clause-some
+returns-clause-some c = is_answered

@@ -1,8 +1,8 @@
 use Rattle.std.proofs.Common.{◌≡◌, sym, ◌∙◌}
 use Rattle.std.proofs.lemmas.Result.{err_from_is_err_and}
-use Rattle.cel_parse.specs.declared.fault.ParseError.TheVariants as errors
-use Rattle.cel_parse.specs.declared.fault.ParseFault.TheVariants.{BadMacro}
-use Rattle.cel_parse.specs.Faults.{from_lexing}
+use Rattle.cel_grammar.specs.declared.fault.ParseError.TheVariants as errors
+use Rattle.cel_grammar.specs.declared.fault.ParseFault.TheVariants.{BadMacro}
+use Rattle.cel_grammar.specs.Faults.{from_lexing}
 use Rattle.cel_parse.proofs.FewTokens.{few_of}
 use Rattle.cel_parse.proofs.Refusals.{refused_cut, refused_tree, refused_macro, refused_expression}
 use Rattle.cel_parse.proofs.parser.parse.Goals as goal

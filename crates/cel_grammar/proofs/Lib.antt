@@ -1,0 +1,16 @@
+pub mod WordCut
+pub mod Rows
+pub mod Turns
+pub mod Depths
+pub mod Steps
+pub mod Spans
+pub mod Told
+pub mod RowsTold
+pub mod Readers
+pub mod Fronts
+pub mod Complete
+pub mod Stages
+pub mod Goings
+pub mod Answered
+pub mod OnePlace
+pub mod WorkedRows

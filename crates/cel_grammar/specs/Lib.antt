@@ -1,0 +1,7 @@
+pub mod Faults
+pub mod Words
+pub mod Grammar
+pub mod Limits
+pub mod Descent
+pub mod Trees
+pub mod Views

@@ -1,0 +1,42 @@
+-- What the code's values stand for.
+use Rattle.std.specs.Prelude.{◌≡◌, ℕ, List, Option, option_map, Result, Ok, Err}
+use Rattle.std.specs.Borrow.{Bor}
+use Rattle.cel_lex.specs.declared.token.Token.{Token}
+use Rattle.cel_grammar.specs.declared.fault.ParseFault.{ParseFault}
+use Rattle.cel_grammar.specs.declared.fault.ParseError.{ParseError}
+use Rattle.cel_grammar.specs.declared.fault.ParseError.TheVariants as errors
+use Rattle.cel_grammar.specs.declared.heads.Step.{Step}
+use Rattle.cel_grammar.specs.declared.heads.Step.TheVariants as step
+use Rattle.cel_grammar.specs.declared.nodes.Taken.{Taken}
+use Rattle.cel_grammar.specs.Descent.{Found, Move, stop, go_on}
+
+-- a failure is the fault that reading gives, unless memory ran out
+abbrev pub Fails : {Y : Type 0} → ParseError → Result Y ParseFault → Type 0
+Fails errors.OutOfMemory read = Unit {0}
+Fails (errors.Fault f) read = read ≡ Err f
+
+-- what a function returned, seen by view, is what reading gives, unless memory ran out
+abbrev pub Gives : {X Y : Type 0} → (X → Y) → Result X ParseError → Result Y ParseFault → Type 0
+Gives view (Ok x) read = read ≡ Ok (view x)
+Gives view (Err e) read = Fails e read
+
+-- a value as it is
+abbrev pub same : {X : Type 0} → X → X
+same x = x
+
+-- what was taken from the tokens
+abbrev pub seen : {A : Type 0} → Taken A → Found A
+seen t = record { what = t.what; deep = t.depth; rest = t.rest.now }
+
+-- what stands first, and the tokens after it
+abbrev pub seen_head : Option (ℕ × Bor (List Token)) → Option (ℕ × List Token)
+seen_head o = option_map (λ x. (x.0, x.1.now)) o
+
+-- what stands between two operands or goes on a member, its place, and the tokens after it
+abbrev pub seen_operator : {A : Type 0} → Option (A × ℕ × Bor (List Token)) → Option (A × ℕ × List Token)
+seen_operator o = option_map (λ x. (x.0, x.1, x.2.now)) o
+
+-- what stands behind an item
+abbrev pub seen_step : Step → Move
+seen_step (step.End ts) = stop ts.now
+seen_step (step.More ts) = go_on ts.now

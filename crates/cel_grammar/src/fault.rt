@@ -1,0 +1,59 @@
+//! Why a text is not parsed.
+
+ghost use Rattle.std.specs.Prelude.{◌≡◌};
+ghost use Rattle.cel_grammar.specs.declared.fault.ParseError.TheVariants.{OutOfMemory};
+ghost use Rattle.cel_grammar.specs.Faults.{from_lexing};
+
+use cel_lex::{LexError, LexFault};
+use std::alloc::{AllocError, AllocFailed};
+use thiserror::Error;
+
+#[derive(Clone, Copy, Debug, PartialEq, Eq, Error)]
+pub enum ParseFault {
+    /// A fault of the lexer, or a number that only a minus right in front of it would bring into range.
+    #[error("{0}")]
+    Lex(LexFault),
+    /// No text of the grammar goes on with the token that starts here, or ends here.
+    #[error("not expected at {place}")]
+    Unexpected { place: usize },
+    /// A macro, whose name begins here, with another number or form of arguments than it takes.
+    #[error("a macro's arguments are wrong at {place}")]
+    BadMacro { place: usize },
+    #[error("too deep")]
+    TooDeep,
+}
+
+#[derive(Debug, Drop, Error)]
+pub enum ParseError {
+    #[error("out of memory")]
+    OutOfMemory,
+    #[error("{0}")]
+    Fault(ParseFault),
+}
+
+impl From<AllocError> for ParseError {
+    ghost from_gives = { λ _ e. e ≡ OutOfMemory };
+
+    fn from(_e: AllocError) -> ParseError {
+        ParseError::OutOfMemory
+    }
+}
+
+impl<T: Drop> From<AllocFailed<T>> for ParseError {
+    ghost from_gives = { λ _ e. e ≡ OutOfMemory };
+
+    fn from(_e: AllocFailed<T>) -> ParseError {
+        ParseError::OutOfMemory
+    }
+}
+
+impl From<LexError> for ParseError {
+    ghost from_gives = { λ l e. e ≡ from_lexing l };
+
+    fn from(error: LexError) -> ParseError {
+        match error {
+            LexError::OutOfMemory => ParseError::OutOfMemory,
+            LexError::Fault(fault) => ParseError::Fault(ParseFault::Lex(fault)),
+        }
+    }
+}
