@@ -14,8 +14,6 @@ mod number;
 mod piece;
 mod scan;
 mod symbol;
-#[cfg(test)]
-mod tests;
 mod token;
 mod word;
 

@@ -14,8 +14,6 @@ mod cel_type;
 mod equality;
 mod fitting;
 mod joining;
-#[cfg(test)]
-mod tests;
 mod text_length;
 mod value;
 

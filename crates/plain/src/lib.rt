@@ -5,8 +5,6 @@
 //! [`Boxed`] as the value inside.
 #![tactic(auto)]
 
-#[cfg(test)]
-mod tests;
 mod text;
 mod text_map;
 

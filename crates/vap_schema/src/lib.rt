@@ -12,8 +12,6 @@ mod keywords;
 mod path;
 mod schema;
 mod schema_fault;
-#[cfg(test)]
-mod tests;
 
 pub use fit_fault::{FitError, FitFault, FitFaultKind};
 pub use fitting::fit;

@@ -1,5 +1,9 @@
-use crate::{Infix, LexError, LexFault, LexFaultKind, TokenKind, one_answer, text_meaning, tokens};
-use std::alloc::Global;
+//! The tokens of texts, and the faults of texts that are not cut.
+
+use cel_lex::{
+    Infix, LexError, LexFault, LexFaultKind, Token, TokenKind, one_answer, text_meaning, tokens,
+};
+use std::alloc::{AllocError, Global};
 use std::test::Fail;
 
 fn infix_name(operator: Infix) -> &'static str {
@@ -41,38 +45,37 @@ fn mark_name(kind: &TokenKind) -> &'static str {
     }
 }
 
-// What a token with these bytes is, in words.
-fn described(alloc: Global, kind: &TokenKind, word: &str) -> Result<String, Fail> {
-    Ok(match kind {
-        TokenKind::Int(n) => format!(in alloc; "int {n}")?,
-        TokenKind::Uint(n) => format!(in alloc; "uint {n}")?,
-        TokenKind::Text(text) => format!(in alloc; "text {}", text.as_str())?,
-        TokenKind::Name => format!(in alloc; "name {word}")?,
-        TokenKind::Reserved => format!(in alloc; "reserved {word}")?,
-        TokenKind::Operator(operator) => String::from_str(alloc, infix_name(*operator))?,
-        other => String::from_str(alloc, mark_name(other))?,
-    })
+/// What a token with these bytes is, in words.
+fn described(alloc: Global, kind: &TokenKind, word: &str) -> Result<String, AllocError> {
+    match kind {
+        TokenKind::Int(n) => format!(in alloc; "int {n}"),
+        TokenKind::Uint(n) => format!(in alloc; "uint {n}"),
+        TokenKind::Text(text) => format!(in alloc; "text {}", text.as_str()),
+        TokenKind::Name => format!(in alloc; "name {word}"),
+        TokenKind::Reserved => format!(in alloc; "reserved {word}"),
+        TokenKind::Operator(operator) => String::from_str(alloc, infix_name(*operator)),
+        other => String::from_str(alloc, mark_name(other)),
+    }
 }
 
-// The tokens with their places, or the fault.
-fn shown(alloc: Global, text: &str) -> Result<String, Fail> {
+/// The tokens of a text with their places.
+fn cut(alloc: Global, text: &str, found: &[Token]) -> Result<String, AllocError> {
     let mut out = String::new(alloc);
-    match tokens(alloc, text) {
-        Ok(cut) => {
-            for token in &cut {
-                let word = text.get(token.start..token.end).unwrap_or("");
-                let kind = described(alloc, &token.kind, word)?;
-                let part = format!(in alloc; "{kind} {}..{};", token.start, token.end)?;
-                out.push_str(part.as_str())?;
-            }
-        }
-        Err(LexError::Fault(fault)) => {
-            let part = format!(in alloc; "{:?} at {}", fault.kind, fault.place)?;
-            out.push_str(part.as_str())?;
-        }
-        Err(LexError::OutOfMemory) => out.push_str("out of memory")?,
+    for token in found {
+        let word = text.get(token.start..token.end).unwrap_or("");
+        let kind = described(alloc, &token.kind, word)?;
+        write!(out, "{kind} {}..{};", token.start, token.end)?;
     }
     Ok(out)
+}
+
+/// The tokens of a text with their places, or its fault.
+fn shown(alloc: Global, text: &str) -> Result<String, AllocError> {
+    match tokens(alloc, text) {
+        Ok(found) => cut(alloc, text, found.as_slice()),
+        Err(LexError::Fault(fault)) => format!(in alloc; "{:?} at {}", fault.kind, fault.place),
+        Err(LexError::OutOfMemory) => Err(AllocError),
+    }
 }
 
 #[test]
@@ -222,11 +225,34 @@ fn long_texts(rt: HostRuntime) -> Result<(), Fail> {
     text.push(' ')?;
     let longer = shown(rt.alloc(), text.as_str())?;
     assert_eq!(rt; longer.as_str(), "TooLong at 0");
-    let fault = LexFault {
-        kind: LexFaultKind::BadEscape,
-        place: 3,
-    };
-    let told = format!(in rt.alloc(); "{fault}")?;
-    assert_eq!(rt; told.as_str(), "a backslash that begins no escape at 3");
+    Ok(())
+}
+
+#[test]
+fn faults_have_their_numbers_and_words(rt: HostRuntime) -> Result<(), Fail> {
+    for (kind, number, wanted) in [
+        (
+            LexFaultKind::BadChar,
+            1,
+            "a character that begins no token at 3",
+        ),
+        (
+            LexFaultKind::Unterminated,
+            2,
+            "a text that is not closed at 3",
+        ),
+        (
+            LexFaultKind::BadEscape,
+            3,
+            "a backslash that begins no escape at 3",
+        ),
+        (LexFaultKind::IntRange, 4, "a number out of range at 3"),
+        (LexFaultKind::TooLong, 5, "a text that is too long at 3"),
+    ] {
+        assert_eq!(rt; kind as u8, number);
+        let fault = LexFault { kind, place: 3 };
+        let told = format!(in rt.alloc(); "{fault}")?;
+        assert_eq!(rt; told.as_str(), wanted);
+    }
     Ok(())
 }
