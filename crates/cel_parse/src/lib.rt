@@ -12,8 +12,6 @@ mod heads;
 mod macros;
 mod nodes;
 mod parser;
-#[cfg(test)]
-mod tests;
 mod tree;
 mod word;
 
