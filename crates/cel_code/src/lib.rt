@@ -7,8 +7,6 @@ pub mod cel_check;
 mod compiler;
 mod image;
 mod instr;
-#[cfg(test)]
-mod tests;
 
 pub use compiler::compile;
 pub use image::{Image, Target};

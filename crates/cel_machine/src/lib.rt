@@ -12,8 +12,6 @@ mod operate;
 mod slots;
 mod stack;
 mod step;
-#[cfg(test)]
-mod tests;
 
 pub use ended::Run;
 pub use machine::run;

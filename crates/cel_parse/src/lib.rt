@@ -8,8 +8,6 @@ mod expansion;
 mod expr;
 mod macros;
 mod parser;
-#[cfg(test)]
-mod tests;
 
 pub use cel_grammar::{Entry, ParseError, ParseFault, UnaryOperator};
 pub use expr::{BinaryOperator, Expr, Loop, Syntax};

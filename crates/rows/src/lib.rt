@@ -9,9 +9,13 @@ mod evaluation;
 #[cfg(test)]
 mod images;
 #[cfg(test)]
+mod kinds;
+#[cfg(test)]
 mod programs;
 #[cfg(test)]
 mod schemas;
+#[cfg(test)]
+mod shown;
 #[cfg(test)]
 mod tokens;
 #[cfg(test)]

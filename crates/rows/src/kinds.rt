@@ -1,0 +1,66 @@
+//! Types, constants and instructions of the rows, by names that hold no memory, and how what is made of them is shown.
+
+use cel_code::Instr;
+use cel_value::{CelType, Value};
+use std::alloc::{AllocError, Global};
+
+#[derive(Clone, Copy)]
+pub enum Kind {
+    Never,
+    Truth,
+    Whole,
+    /// Texts of at most 3 code points.
+    Text,
+}
+
+#[derive(Clone, Copy)]
+pub enum Constant {
+    Truth(bool),
+    Whole(i64),
+}
+
+pub fn type_of(kind: Kind) -> CelType {
+    match kind {
+        Kind::Never => CelType::Never,
+        Kind::Truth => CelType::Bool,
+        Kind::Whole => CelType::Int,
+        Kind::Text => CelType::Text { max: 3 },
+    }
+}
+
+pub fn type_name(cel_type: &CelType) -> &'static str {
+    match cel_type {
+        CelType::Bool => "bool",
+        CelType::Int => "int",
+        _ => "of another type",
+    }
+}
+
+pub fn value_of(constant: Constant) -> Value {
+    match constant {
+        Constant::Truth(truth) => Value::Bool(truth),
+        Constant::Whole(number) => Value::Int(number),
+    }
+}
+
+pub fn value_text(alloc: Global, value: &Value) -> Result<String, AllocError> {
+    match value {
+        Value::Bool(truth) => format!(in alloc; "{truth}"),
+        Value::Int(number) => format!(in alloc; "{number}"),
+        _ => String::from_str(alloc, "another value"),
+    }
+}
+
+pub fn instr_text(alloc: Global, instr: Instr) -> Result<String, AllocError> {
+    match instr {
+        Instr::Const(number) => format!(in alloc; "const {number}"),
+        Instr::Op(code) => format!(in alloc; "op {code}"),
+        Instr::AndTest(to) => format!(in alloc; "and_test {to}"),
+        Instr::OrTest(to) => format!(in alloc; "or_test {to}"),
+        Instr::And => String::from_str(alloc, "and"),
+        Instr::Or => String::from_str(alloc, "or"),
+        Instr::Cond(if_false, if_error) => format!(in alloc; "cond {if_false} {if_error}"),
+        Instr::Jump(to) => format!(in alloc; "jump {to}"),
+        Instr::End => String::from_str(alloc, "end"),
+    }
+}

@@ -1,0 +1,397 @@
+//! Images that the verifier refuses, and runs of those that it accepts.
+
+use crate::kinds::{Constant, Kind, type_of, value_of, value_text};
+use cel_code::{Image, Instr, Target};
+use cel_machine::cel_verify::{Program, VerifyRule, verify};
+use cel_machine::{Run, Slots, run, slots_fit};
+use cel_value::{CelError, CelType, Value};
+use plain::Items;
+use std::alloc::{AllocError, Global};
+use std::test::Fail;
+
+/// An image as a row writes it, where a target has one type at most.
+#[derive(Clone, Copy)]
+struct Written<'a> {
+    result: Kind,
+    slots: &'a [Kind],
+    constants: &'a [Constant],
+    targets: &'a [(usize, Option<Kind>)],
+    code: &'a [Instr],
+}
+
+fn types_of(alloc: Global, kinds: &[Kind]) -> Result<Items<CelType>, AllocError> {
+    let mut types = Items::new(alloc);
+    for kind in kinds {
+        types.push(type_of(*kind))?;
+    }
+    Ok(types)
+}
+
+fn constants_of(alloc: Global, constants: &[Constant]) -> Result<Items<Value>, AllocError> {
+    let mut values = Items::new(alloc);
+    for constant in constants {
+        values.push(value_of(*constant))?;
+    }
+    Ok(values)
+}
+
+fn target_of(alloc: Global, at: usize, kind: Option<Kind>) -> Result<Target, AllocError> {
+    let mut types = Items::new(alloc);
+    if let Some(kind) = kind {
+        types.push(type_of(kind))?;
+    }
+    Ok(Target { at, types })
+}
+
+fn targets_of(
+    alloc: Global,
+    targets: &[(usize, Option<Kind>)],
+) -> Result<Items<Target>, AllocError> {
+    let mut made = Items::new(alloc);
+    for (at, kind) in targets {
+        made.push(target_of(alloc, *at, *kind)?)?;
+    }
+    Ok(made)
+}
+
+fn image_of(alloc: Global, written: Written) -> Result<Image, AllocError> {
+    Ok(Image {
+        slots: types_of(alloc, written.slots)?,
+        constants: constants_of(alloc, written.constants)?,
+        targets: targets_of(alloc, written.targets)?,
+        result: type_of(written.result),
+        code: Items::from_slice(alloc, written.code)?,
+    })
+}
+
+// The verifier's fault, and how many instructions the image has that comes back.
+fn verdict(alloc: Global, image: Image) -> Result<String, AllocError> {
+    match verify(alloc, image) {
+        Ok(_) => String::from_str(alloc, "accepted"),
+        Err((error, back)) => format!(in alloc; "{error} of {}", back.code.len()),
+    }
+}
+
+fn verdict_of(alloc: Global, written: Written) -> Result<String, AllocError> {
+    verdict(alloc, image_of(alloc, written)?)
+}
+
+fn run_text(alloc: Global, ended: &Run) -> Result<String, AllocError> {
+    let text = match &ended.outcome {
+        Ok(value) => value_text(alloc, value)?,
+        Err(error) => String::from_str(alloc, error.name())?,
+    };
+    format!(in alloc;
+        "{text}: {} charged in {} steps",
+        ended.charged, ended.steps
+    )
+}
+
+fn outcomes(
+    alloc: Global,
+    held: &[Result<Constant, CelError>],
+) -> Result<Vec<Result<Value, CelError>>, AllocError> {
+    let mut values = Vec::new(alloc);
+    for outcome in held {
+        match outcome {
+            Ok(constant) => values.push(Ok(value_of(*constant)))?,
+            Err(error) => values.push(Err(*error))?,
+        }
+    }
+    Ok(values)
+}
+
+fn run_with(
+    alloc: Global,
+    program: &Program,
+    values: Vec<Result<Value, CelError>>,
+) -> Result<String, AllocError> {
+    if !slots_fit(program, &values) {
+        return String::from_str(alloc, "does not fit");
+    }
+    let slots = Slots::new(program, values);
+    let ended = run(alloc, program, &slots)?;
+    run_text(alloc, &ended)
+}
+
+fn program_of(alloc: Global, written: Written) -> Result<Program, Fail> {
+    match verify(alloc, image_of(alloc, written)?) {
+        Ok(program) => Ok(program),
+        Err(_) => Err(Fail::from("refused")),
+    }
+}
+
+fn run_of(
+    alloc: Global,
+    written: Written,
+    held: &[Result<Constant, CelError>],
+) -> Result<String, Fail> {
+    let program = program_of(alloc, written)?;
+    Ok(run_with(alloc, &program, outcomes(alloc, held)?)?)
+}
+
+#[test]
+fn a_run_is_charged_by_its_nodes(rt: HostRuntime) -> Result<(), Fail> {
+    let rows = [
+        // `21 + 21`
+        (
+            Written {
+                result: Kind::Whole,
+                slots: &[],
+                constants: &[Constant::Whole(21)],
+                targets: &[],
+                code: &[Instr::Const(0), Instr::Const(0), Instr::Op(2), Instr::End],
+            },
+            "42: 1 charged in 4 steps",
+        ),
+        // `1 + 2 * 3 == 7 && !(4 < 3)`
+        (
+            Written {
+                result: Kind::Truth,
+                slots: &[],
+                constants: &[
+                    Constant::Whole(1),
+                    Constant::Whole(2),
+                    Constant::Whole(3),
+                    Constant::Whole(7),
+                    Constant::Whole(4),
+                ],
+                targets: &[(13, Some(Kind::Truth))],
+                code: &[
+                    Instr::Const(0),
+                    Instr::Const(1),
+                    Instr::Const(2),
+                    Instr::Op(8),
+                    Instr::Op(2),
+                    Instr::Const(3),
+                    Instr::Op(14),
+                    Instr::AndTest(13),
+                    Instr::Const(4),
+                    Instr::Const(2),
+                    Instr::Op(16),
+                    Instr::Op(0),
+                    Instr::And,
+                    Instr::End,
+                ],
+            },
+            "true: 6 charged in 14 steps",
+        ),
+        // `1/0 > 1 || true`: an error that is absorbed is charged.
+        (
+            Written {
+                result: Kind::Truth,
+                slots: &[],
+                constants: &[
+                    Constant::Whole(1),
+                    Constant::Whole(0),
+                    Constant::Truth(true),
+                ],
+                targets: &[(8, Some(Kind::Truth))],
+                code: &[
+                    Instr::Const(0),
+                    Instr::Const(1),
+                    Instr::Op(10),
+                    Instr::Const(0),
+                    Instr::Op(18),
+                    Instr::OrTest(8),
+                    Instr::Const(2),
+                    Instr::Or,
+                    Instr::End,
+                ],
+            },
+            "true: 3 charged in 9 steps",
+        ),
+        // `false && 1/0 == 1`: a false left ends it.
+        (
+            Written {
+                result: Kind::Truth,
+                slots: &[],
+                constants: &[
+                    Constant::Truth(false),
+                    Constant::Whole(1),
+                    Constant::Whole(0),
+                ],
+                targets: &[(8, Some(Kind::Truth))],
+                code: &[
+                    Instr::Const(0),
+                    Instr::AndTest(8),
+                    Instr::Const(1),
+                    Instr::Const(2),
+                    Instr::Op(10),
+                    Instr::Const(1),
+                    Instr::Op(14),
+                    Instr::And,
+                    Instr::End,
+                ],
+            },
+            "false: 1 charged in 3 steps",
+        ),
+        // `1/0 == 1 ? 1 : 0`: an error of a condition goes behind both branches.
+        (
+            Written {
+                result: Kind::Whole,
+                slots: &[],
+                constants: &[Constant::Whole(1), Constant::Whole(0)],
+                targets: &[(8, None), (9, Some(Kind::Whole))],
+                code: &[
+                    Instr::Const(0),
+                    Instr::Const(1),
+                    Instr::Op(10),
+                    Instr::Const(0),
+                    Instr::Op(14),
+                    Instr::Cond(8, 9),
+                    Instr::Const(0),
+                    Instr::Jump(9),
+                    Instr::Const(1),
+                    Instr::End,
+                ],
+            },
+            "DivideByZero: 3 charged in 7 steps",
+        ),
+    ];
+    for (written, ended) in rows {
+        let own = run_of(rt.alloc(), written, &[])?;
+        assert_eq!(rt; own.as_str(), ended);
+    }
+    Ok(())
+}
+
+/// The image of a constant alone, with other constants, targets and code in some rows.
+const ALONE: Written<'static> = Written {
+    result: Kind::Whole,
+    slots: &[],
+    constants: &[Constant::Whole(1)],
+    targets: &[],
+    code: &[Instr::Const(0), Instr::End],
+};
+
+#[test]
+fn a_fault_is_told_with_its_instruction(rt: HostRuntime) -> Result<(), Fail> {
+    let rows = [
+        // A missing operand.
+        (
+            Written {
+                code: &[Instr::Const(0), Instr::Op(2), Instr::End],
+                ..ALONE
+            },
+            "Underflow at 1 of 3",
+        ),
+        // Operands of another kind.
+        (
+            Written {
+                constants: &[Constant::Truth(true)],
+                code: &[Instr::Const(0), Instr::Const(0), Instr::Op(2), Instr::End],
+                ..ALONE
+            },
+            "WrongKind at 2 of 4",
+        ),
+        // An outcome of another kind.
+        (
+            Written {
+                result: Kind::Truth,
+                ..ALONE
+            },
+            "WrongKind at 1 of 2",
+        ),
+        // END is last and alone.
+        (
+            Written {
+                constants: &[],
+                code: &[],
+                ..ALONE
+            },
+            "BadTarget at 0 of 0",
+        ),
+        (
+            Written {
+                code: &[Instr::Const(0), Instr::Const(0)],
+                ..ALONE
+            },
+            "BadTarget at 1 of 2",
+        ),
+        (
+            Written {
+                code: &[Instr::Const(0), Instr::End, Instr::Const(0), Instr::End],
+                ..ALONE
+            },
+            "BadTarget at 1 of 4",
+        ),
+        // A target without a jump, in the code and past it.
+        (
+            Written {
+                targets: &[(1, Some(Kind::Whole))],
+                ..ALONE
+            },
+            "BadTarget at 1 of 2",
+        ),
+        (
+            Written {
+                targets: &[(7, Some(Kind::Whole))],
+                ..ALONE
+            },
+            "BadTarget at 7 of 2",
+        ),
+        // A jump back.
+        (
+            Written {
+                code: &[Instr::Const(0), Instr::Jump(0), Instr::End],
+                ..ALONE
+            },
+            "BadTarget at 1 of 3",
+        ),
+        // A constant that is not there.
+        (
+            Written {
+                code: &[Instr::Const(1), Instr::End],
+                ..ALONE
+            },
+            "BadConstant at 0 of 2",
+        ),
+        (ALONE, "accepted"),
+    ];
+    for (written, fault) in rows {
+        let own = verdict_of(rt.alloc(), written)?;
+        assert_eq!(rt; own.as_str(), fault);
+    }
+    Ok(())
+}
+
+#[test]
+fn rules_have_their_numbers(rt: HostRuntime) {
+    let rows = [
+        (VerifyRule::Underflow, 1),
+        (VerifyRule::WrongKind, 2),
+        (VerifyRule::BadTarget, 3),
+        (VerifyRule::BadNesting, 4),
+        (VerifyRule::BadConstant, 5),
+        (VerifyRule::TooDeep, 6),
+        (VerifyRule::OverBudget, 7),
+    ];
+    for (rule, number) in rows {
+        assert_eq!(rt; rule as u8, number);
+    }
+}
+
+const TAKING: Written<'static> = Written {
+    slots: &[Kind::Whole, Kind::Truth],
+    ..ALONE
+};
+
+fn constants_in(alloc: Global, written: Written) -> Result<usize, Fail> {
+    let program = program_of(alloc, written)?;
+    Ok(program.image().constants.len())
+}
+
+#[test]
+fn slots_hold_values_of_their_types_and_errors(rt: HostRuntime) -> Result<(), Fail> {
+    let one = Ok(Constant::Whole(1));
+    let fitting = [one, Err(CelError::Overflow)];
+    let own = run_of(rt.alloc(), TAKING, &fitting)?;
+    assert_eq!(rt; own.as_str(), "1: 0 charged in 2 steps");
+    let own = run_of(rt.alloc(), TAKING, &[one, one])?;
+    assert_eq!(rt; own.as_str(), "does not fit");
+    let own = run_of(rt.alloc(), TAKING, &[one])?;
+    assert_eq!(rt; own.as_str(), "does not fit");
+    assert_eq!(rt; constants_in(rt.alloc(), TAKING)?, 1);
+    Ok(())
+}
