@@ -6,7 +6,7 @@ use plain::{Boxed, Keyed, TextMap};
 use std::alloc::{AllocError, Global};
 
 /// A field of an object type.
-#[derive(Debug, Drop)]
+#[derive(Drop)]
 pub struct Field<T> {
     /// Whether each object has it.
     pub required: bool,
@@ -14,7 +14,7 @@ pub struct Field<T> {
 }
 
 /// The type of an expression, with the limits of its values (cel-spec, "Types").
-#[derive(Debug, Drop)]
+#[derive(Drop)]
 pub enum CelType {
     /// No value has this type: it is the type of what is known to be an error, and of the items of `[]`.
     Never,
