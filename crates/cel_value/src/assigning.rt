@@ -1,6 +1,6 @@
 ghost use Rattle.std.specs.Prelude.{◌≡◌, ◌≤◌, IsTrue};
 ghost use Rattle.cel_value.specs.Fits.{fits};
-ghost use Rattle.cel_value.specs.Greatest.{greatest_of};
+ghost use Rattle.cel_value.specs.Greatest.{greatest_of, greatest_length_of};
 ghost use Rattle.cel_value.specs.declared.value.Value.{Value};
 ghost use Rattle.cel_value.specs.Assignable.{assignable, fields_take, takers_of};
 
@@ -8,11 +8,12 @@ use crate::cel_type::{CelType, Field};
 use plain::TextMap;
 
 /// Whether what has the first type may stand where the second is asked: it then fits the second too, whose limits
-/// allow no lesser weight.
+/// allow no lesser weight and no lesser length.
 pub fn assignable(from: &CelType, to: &CelType) -> bool
     ensures exact { result ≡ assignable from.now to.now }
     ensures sound { IsTrue result → (value : Value) → IsTrue (fits value from.now) → IsTrue (fits value to.now) }
     ensures limits { IsTrue result → greatest_of from.now ≤ greatest_of to.now }
+    ensures lengths { IsTrue result → greatest_length_of from.now ≤ greatest_length_of to.now }
 {
     takes(to, from)
 }

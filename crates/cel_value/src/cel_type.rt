@@ -1,12 +1,12 @@
 ghost use Rattle.std.specs.Prelude.{◌≡◌, min, IfOk};
-ghost use Rattle.cel_value.specs.Greatest.{greatest_of, fields_greatest_of};
+ghost use Rattle.cel_value.specs.Greatest.{greatest_of, fields_greatest_of, greatest_length_of};
 
 use crate::text_length::{tenths, text_weight};
 use plain::{Boxed, Keyed, TextMap};
 use std::alloc::{AllocError, Global};
 
 /// A field of an object type.
-#[derive(Debug, Drop)]
+#[derive(Drop)]
 pub struct Field<T> {
     /// Whether each object has it.
     pub required: bool,
@@ -14,7 +14,7 @@ pub struct Field<T> {
 }
 
 /// The type of an expression, with the limits of its values (cel-spec, "Types").
-#[derive(Debug, Drop)]
+#[derive(Drop)]
 pub enum CelType {
     /// No value has this type: it is the type of what is known to be an error, and of the items of `[]`.
     Never,
@@ -79,6 +79,22 @@ fn fields_max_weight(fields: &TextMap<Field<CelType>>) -> u64
             .saturating_add(max_weight(&field.value.cel_type));
     }
     total
+}
+
+/// The greatest length of a type's values. A type of no values and that of null have none.
+pub fn max_length(cel_type: &CelType) -> u64
+    ensures { result ≡ greatest_length_of cel_type.now }
+{
+    match cel_type {
+        CelType::Never => 0,
+        CelType::Null => 0,
+        CelType::Text { max } => u64::from(*max),
+        CelType::List { max, .. } => u64::from(*max),
+        CelType::Map { max, .. } => u64::from(*max),
+        CelType::Object { fields } => fields.len() as u64,
+        CelType::Nullable(item) => max_length(item.get()),
+        _ => 1,
+    }
 }
 
 impl CelType {

@@ -1,7 +1,7 @@
 ghost use Rattle.std.specs.Prelude.{◌≡◌, ◌≤◌, ◌&&◌, nat_le, IsTrue};
 ghost use Rattle.std.specs.List.{list_all};
-ghost use Rattle.cel_value.specs.Value.{code_points, weight_of};
-ghost use Rattle.cel_value.specs.Greatest.{greatest_of};
+ghost use Rattle.cel_value.specs.Value.{code_points, length_of, weight_of};
+ghost use Rattle.cel_value.specs.Greatest.{greatest_of, greatest_length_of};
 ghost use Rattle.cel_value.specs.Fits.{fits, object_fits, admitted_by, DecidesObjects, HasEntriesInOrder, HasFieldsInOrder};
 
 use crate::cel_type::{CelType, Field};
@@ -10,10 +10,11 @@ use crate::value::Value;
 use plain::{Keyed, TextMap};
 
 /// Whether a value is one of a type's, within its limits at every level; what fits weighs at most what the type
-/// allows. An object fits where each entry has a field that it fits, and each required field has its entry.
+/// allows, and is no longer than it allows. An object fits where each entry has a field that it fits, and each required field has its entry.
 pub fn fits(value: &Value, cel_type: &CelType) -> bool
     ensures exact { result ≡ fits value.now cel_type.now }
     ensures bounded { IsTrue result → weight_of value.now ≤ greatest_of cel_type.now }
+    ensures no_longer { IsTrue result → length_of value.now ≤ greatest_length_of cel_type.now }
     ensures objects { DecidesObjects value.now cel_type.now result }
 {
     has_entries_in_order(value);

@@ -19,9 +19,9 @@ mod value;
 
 pub use assigning::assignable;
 pub use cel_error::CelError;
-pub use cel_type::{CelType, Field, copy_types, max_weight};
+pub use cel_type::{CelType, Field, copy_types, max_length, max_weight};
 pub use equality::equal;
 pub use fitting::fits;
 pub use joining::join;
 pub use text_length::{code_points, tenths};
-pub use value::{Value, weight};
+pub use value::{Value, length, weight};
