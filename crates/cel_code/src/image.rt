@@ -3,7 +3,7 @@ use cel_value::{CelType, Value};
 use plain::Items;
 
 /// The types of the operand stack where jumps arrive, the bottom first.
-#[derive(Debug, Drop)]
+#[derive(Drop)]
 pub struct Target {
     /// The number of the instruction.
     pub at: usize,
@@ -11,7 +11,7 @@ pub struct Target {
 }
 
 /// Code for the machine.
-#[derive(Debug, Drop)]
+#[derive(Drop)]
 pub struct Image {
     /// The types of the slots, which the caller fills.
     pub slots: Items<CelType>,

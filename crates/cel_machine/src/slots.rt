@@ -6,7 +6,7 @@ use cel_value::{CelError, CelType, Value, fits};
 use std::marker::Model;
 
 /// What the slots of a program hold, which contracts see as a list.
-#[derive(Debug, Drop)]
+#[derive(Drop)]
 pub struct Slots {
     values: Vec<Result<Value, CelError>>,
 }

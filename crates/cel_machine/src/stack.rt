@@ -6,7 +6,7 @@ use std::alloc::{AllocError, Global};
 use std::marker::Model;
 
 /// The operands, which contracts see as a list with the top first.
-#[derive(Debug, Drop)]
+#[derive(Drop)]
 pub struct Stack {
     items: Vec<Result<Value, CelError>>,
 }

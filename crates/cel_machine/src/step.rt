@@ -14,7 +14,7 @@ use cel_value::{CelError, Value};
 use std::alloc::{AllocError, Global};
 
 /// Where one instruction leads.
-#[derive(Debug, Drop)]
+#[derive(Drop)]
 pub enum Move {
     /// To an instruction, for a charge.
     GoesTo(u64, usize),

@@ -95,7 +95,5 @@ impl Problem {
 }
 
 fn bad_words(rt: &impl Eprint, what: &str) -> io::Result<()> {
-    eprintln!(rt;
-        "error: {what}\n\nUsage: vap eval <EXPR>\n\nFor more information, try '--help'."
-    )
+    eprintln!(rt; "error: {what}\n\nUsage: vap eval <EXPR>\n\nFor more information, try '--help'.")
 }

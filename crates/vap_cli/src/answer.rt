@@ -21,7 +21,7 @@ pub enum Refusal {
 }
 
 /// What an expression comes to.
-#[derive(Debug, Drop)]
+#[derive(Drop)]
 pub enum Answer {
     Value(Value),
     Error(CelError),

@@ -16,7 +16,7 @@ use std::alloc::Global;
 use std::marker::Model;
 
 /// The schema of a kind, which contracts see as the type of the kind's objects.
-#[derive(Debug, Drop)]
+#[derive(Drop)]
 pub struct Schema {
     object_type: CelType,
 }

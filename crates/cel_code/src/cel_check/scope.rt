@@ -6,7 +6,7 @@ use std::alloc::Global;
 
 /// The names that an expression may use, with their types, in the order of the slots. Of two of one name the first
 /// counts.
-#[derive(Debug, Drop)]
+#[derive(Drop)]
 pub struct Scope {
     pub names: Items<Keyed<CelType>>,
 }

@@ -3,7 +3,7 @@ use cel_value::{CelType, Value};
 use plain::Boxed;
 
 /// One level of a typed expression.
-#[derive(Debug, Drop)]
+#[derive(Drop)]
 pub enum Form<T> {
     Literal(Value),
     Unary(Operator, Boxed<T>),
@@ -14,7 +14,7 @@ pub enum Form<T> {
 }
 
 /// An expression whose operators are chosen, each node with its type.
-#[derive(Debug, Drop)]
+#[derive(Drop)]
 pub struct TypedTree {
     pub cel_type: CelType,
     pub form: Form<TypedTree>,

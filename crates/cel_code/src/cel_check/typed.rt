@@ -7,7 +7,7 @@ use cel_value::CelType;
 use plain::{Boxed, Items};
 
 /// A well typed expression, and the types of the slots that its names stand for.
-#[derive(Debug, Drop)]
+#[derive(Drop)]
 pub struct Typed {
     pub slots: Items<CelType>,
     pub tree: Boxed<TypedTree>,

@@ -19,7 +19,7 @@ const MAX_COUNT: usize = 65_536;
 const BUDGET: u64 = 10_000_000;
 
 /// An image that was accepted.
-#[derive(Debug, Drop)]
+#[derive(Drop)]
 pub struct Program {
     image: Image,
 }
