@@ -132,12 +132,3 @@ pub record Run (image : Image) (slots : List Outcome) (outcome : Outcome) (charg
   pub gets : Gets image slots (on 0 [] []) last charged before
   pub ends : step image slots last ≡ Ends outcome
   pub count : steps ≡ before + 1
-
--- the machine is stuck at an instruction, after a charge and so many steps
-pub record IsStuck (image : Image) (slots : List Outcome) (at : ℕ) : Type 0 where
-  pub last : State
-  pub charged : ℕ
-  pub before : ℕ
-  pub gets : Gets image slots (on 0 [] []) last charged before
-  pub here : last.at ≡ at
-  pub stuck : step image slots last ≡ Stuck
