@@ -28,14 +28,14 @@ pub enum Operator {
 }
 
 /// An operator that takes certain operands, and the type of its answers.
-#[derive(Debug, Drop)]
+#[derive(Drop)]
 pub struct Overload {
     pub operator: Operator,
     pub cel_type: CelType,
 }
 
 /// What an operator answers, and what that charges.
-#[derive(Debug, Drop)]
+#[derive(Drop)]
 pub struct Made {
     pub outcome: Result<Value, CelError>,
     pub charge: u64,
