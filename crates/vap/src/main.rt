@@ -25,7 +25,7 @@ fn run<R: Env + Print + Eprint + AllocGlobal>(rt: &R) -> Status {
 
 /// Does what the words of the command line ask for.
 fn obey<R: Env + Print + AllocGlobal>(rt: &R) -> Result<Status, Problem> {
-    let words = env::args(rt)?.collect(rt.alloc())?;
+    let words: Vec<String> = env::args(rt)?.collect(rt.alloc())?;
     let expression = command_line::expression(rt.alloc(), words.as_slice())?;
     let mut out = Counted::new(io::writer(rt));
     Ok(eval_to(rt.alloc(), expression, &mut out)?)
