@@ -77,25 +77,26 @@ fn image_in(alloc: Global, text: &str) -> Result<String, Fail> {
     image_of(alloc, expr.get())
 }
 
+static IMAGES: [(&str, &str); 3] = [
+    (
+        "true",
+        "bool | slots | constants true | targets | code const 0; end;",
+    ),
+    (
+        "1 + 1 == 2",
+        "bool | slots | constants 1 2 | targets | code const 0; const 0; op 2; const 1; op 14; end;",
+    ),
+    (
+        "true ? 1 : 2",
+        "int | slots | constants true 1 2 | targets 4:; 5: int; | code const 0; cond 4 5; const 1; jump 5; const 2; end;",
+    ),
+];
+
 // Constants stand in the order of their first use, each once. Jumps of a conditional arrive at its second branch with
 // nothing, and behind it with a value.
 #[test]
 fn an_image_is_the_expressions(rt: HostRuntime) -> Result<(), Fail> {
-    let rows = [
-        (
-            "true",
-            "bool | slots | constants true | targets | code const 0; end;",
-        ),
-        (
-            "1 + 1 == 2",
-            "bool | slots | constants 1 2 | targets | code const 0; const 0; op 2; const 1; op 14; end;",
-        ),
-        (
-            "true ? 1 : 2",
-            "int | slots | constants true 1 2 | targets 4:; 5: int; | code const 0; cond 4 5; const 1; jump 5; const 2; end;",
-        ),
-    ];
-    for (text, image) in rows {
+    for &(text, image) in &IMAGES {
         let own = image_in(rt.alloc(), text)?;
         assert_eq!(rt; own.as_str(), image, "{text}");
     }
@@ -143,24 +144,25 @@ fn a_tree_past_depth_100_is_too_large(rt: HostRuntime) -> Result<(), Fail> {
     Ok(())
 }
 
+static OPERATORS: [(Operator, usize); 13] = [
+    (Operator::Not, 0),
+    (Operator::Negate, 1),
+    (Operator::Add, 2),
+    (Operator::Subtract, 6),
+    (Operator::Multiply, 8),
+    (Operator::Divide, 10),
+    (Operator::Remainder, 12),
+    (Operator::Equal, 14),
+    (Operator::NotEqual, 15),
+    (Operator::Less, 16),
+    (Operator::AtMost, 17),
+    (Operator::Greater, 18),
+    (Operator::AtLeast, 19),
+];
+
 #[test]
 fn operators_have_their_numbers(rt: HostRuntime) {
-    let rows = [
-        (Operator::Not, 0),
-        (Operator::Negate, 1),
-        (Operator::Add, 2),
-        (Operator::Subtract, 6),
-        (Operator::Multiply, 8),
-        (Operator::Divide, 10),
-        (Operator::Remainder, 12),
-        (Operator::Equal, 14),
-        (Operator::NotEqual, 15),
-        (Operator::Less, 16),
-        (Operator::AtMost, 17),
-        (Operator::Greater, 18),
-        (Operator::AtLeast, 19),
-    ];
-    for (operator, code) in rows {
+    for &(operator, code) in &OPERATORS {
         assert_eq!(rt; operator.code(), code);
         assert_eq!(rt; Operator::from_code(code), Some(operator));
     }

@@ -54,7 +54,7 @@ fn targets_of(
     Ok(made)
 }
 
-fn image_of(alloc: Global, written: Written) -> Result<Image, AllocError> {
+fn image_of(alloc: Global, written: &Written) -> Result<Image, AllocError> {
     Ok(Image {
         slots: types_of(alloc, written.slots)?,
         constants: constants_of(alloc, written.constants)?,
@@ -64,25 +64,18 @@ fn image_of(alloc: Global, written: Written) -> Result<Image, AllocError> {
     })
 }
 
-// The verifier's fault, and how many instructions the image has that comes back.
-fn verdict(alloc: Global, image: Image) -> Result<String, AllocError> {
-    match verify(alloc, image) {
-        Ok(_) => String::from_str(alloc, "accepted"),
-        Err((error, back)) => format!(in alloc; "{error} of {}", back.code.len()),
+fn outcome_text(alloc: Global, outcome: &Result<Value, CelError>) -> Result<String, AllocError> {
+    match outcome {
+        Ok(value) => value_text(alloc, value),
+        Err(error) => String::from_str(alloc, error.name()),
     }
 }
 
-fn verdict_of(alloc: Global, written: Written) -> Result<String, AllocError> {
-    verdict(alloc, image_of(alloc, written)?)
-}
-
-fn run_text(alloc: Global, ended: &Run) -> Result<String, AllocError> {
-    let text = match &ended.outcome {
-        Ok(value) => value_text(alloc, value)?,
-        Err(error) => String::from_str(alloc, error.name())?,
-    };
+fn run_text(alloc: Global, program: &Program, ended: &Run) -> Result<String, AllocError> {
+    let text = outcome_text(alloc, &ended.outcome)?;
+    let constants = program.image().constants.len();
     format!(in alloc;
-        "{text}: {} charged in {} steps",
+        "{text}, charged {}, steps {}, constants {constants}",
         ended.charged, ended.steps
     )
 }
@@ -104,154 +97,161 @@ fn outcomes(
 fn run_with(
     alloc: Global,
     program: &Program,
-    values: Vec<Result<Value, CelError>>,
+    held: &[Result<Constant, CelError>],
 ) -> Result<String, AllocError> {
+    let values = outcomes(alloc, held)?;
     if !slots_fit(program, &values) {
         return String::from_str(alloc, "does not fit");
     }
     let slots = Slots::new(program, values);
     let ended = run(alloc, program, &slots)?;
-    run_text(alloc, &ended)
+    run_text(alloc, program, &ended)
 }
 
-fn program_of(alloc: Global, written: Written) -> Result<Program, Fail> {
-    match verify(alloc, image_of(alloc, written)?) {
-        Ok(program) => Ok(program),
-        Err(_) => Err(Fail::from("refused")),
+// What a run comes to, what it charges, its steps and the constants of its program. Where the image is refused: the
+// verifier's fault, and the number of instructions of the image that comes back.
+fn run_image(
+    alloc: Global,
+    image: Image,
+    held: &[Result<Constant, CelError>],
+) -> Result<String, AllocError> {
+    match verify(alloc, image) {
+        Ok(program) => run_with(alloc, &program, held),
+        Err((error, back)) => format!(in alloc; "{error} of {}", back.code.len()),
     }
 }
 
 fn run_of(
     alloc: Global,
-    written: Written,
+    written: &Written,
     held: &[Result<Constant, CelError>],
-) -> Result<String, Fail> {
-    let program = program_of(alloc, written)?;
-    Ok(run_with(alloc, &program, outcomes(alloc, held)?)?)
+) -> Result<String, AllocError> {
+    run_image(alloc, image_of(alloc, written)?, held)
 }
+
+static RUNS: [(Written<'static>, &str); 5] = [
+    // `21 + 21`
+    (
+        Written {
+            result: Kind::Whole,
+            slots: &[],
+            constants: &[Constant::Whole(21)],
+            targets: &[],
+            code: &[Instr::Const(0), Instr::Const(0), Instr::Op(2), Instr::End],
+        },
+        "42, charged 1, steps 4, constants 1",
+    ),
+    // `1 + 2 * 3 == 7 && !(4 < 3)`
+    (
+        Written {
+            result: Kind::Truth,
+            slots: &[],
+            constants: &[
+                Constant::Whole(1),
+                Constant::Whole(2),
+                Constant::Whole(3),
+                Constant::Whole(7),
+                Constant::Whole(4),
+            ],
+            targets: &[(13, Some(Kind::Truth))],
+            code: &[
+                Instr::Const(0),
+                Instr::Const(1),
+                Instr::Const(2),
+                Instr::Op(8),
+                Instr::Op(2),
+                Instr::Const(3),
+                Instr::Op(14),
+                Instr::AndTest(13),
+                Instr::Const(4),
+                Instr::Const(2),
+                Instr::Op(16),
+                Instr::Op(0),
+                Instr::And,
+                Instr::End,
+            ],
+        },
+        "true, charged 6, steps 14, constants 5",
+    ),
+    // `1/0 > 1 || true`: an error that is absorbed is charged.
+    (
+        Written {
+            result: Kind::Truth,
+            slots: &[],
+            constants: &[
+                Constant::Whole(1),
+                Constant::Whole(0),
+                Constant::Truth(true),
+            ],
+            targets: &[(8, Some(Kind::Truth))],
+            code: &[
+                Instr::Const(0),
+                Instr::Const(1),
+                Instr::Op(10),
+                Instr::Const(0),
+                Instr::Op(18),
+                Instr::OrTest(8),
+                Instr::Const(2),
+                Instr::Or,
+                Instr::End,
+            ],
+        },
+        "true, charged 3, steps 9, constants 3",
+    ),
+    // `false && 1/0 == 1`: a false left ends it.
+    (
+        Written {
+            result: Kind::Truth,
+            slots: &[],
+            constants: &[
+                Constant::Truth(false),
+                Constant::Whole(1),
+                Constant::Whole(0),
+            ],
+            targets: &[(8, Some(Kind::Truth))],
+            code: &[
+                Instr::Const(0),
+                Instr::AndTest(8),
+                Instr::Const(1),
+                Instr::Const(2),
+                Instr::Op(10),
+                Instr::Const(1),
+                Instr::Op(14),
+                Instr::And,
+                Instr::End,
+            ],
+        },
+        "false, charged 1, steps 3, constants 3",
+    ),
+    // `1/0 == 1 ? 1 : 0`: an error of a condition goes behind both branches.
+    (
+        Written {
+            result: Kind::Whole,
+            slots: &[],
+            constants: &[Constant::Whole(1), Constant::Whole(0)],
+            targets: &[(8, None), (9, Some(Kind::Whole))],
+            code: &[
+                Instr::Const(0),
+                Instr::Const(1),
+                Instr::Op(10),
+                Instr::Const(0),
+                Instr::Op(14),
+                Instr::Cond(8, 9),
+                Instr::Const(0),
+                Instr::Jump(9),
+                Instr::Const(1),
+                Instr::End,
+            ],
+        },
+        "DivideByZero, charged 3, steps 7, constants 2",
+    ),
+];
 
 #[test]
 fn a_run_is_charged_by_its_nodes(rt: HostRuntime) -> Result<(), Fail> {
-    let rows = [
-        // `21 + 21`
-        (
-            Written {
-                result: Kind::Whole,
-                slots: &[],
-                constants: &[Constant::Whole(21)],
-                targets: &[],
-                code: &[Instr::Const(0), Instr::Const(0), Instr::Op(2), Instr::End],
-            },
-            "42: 1 charged in 4 steps",
-        ),
-        // `1 + 2 * 3 == 7 && !(4 < 3)`
-        (
-            Written {
-                result: Kind::Truth,
-                slots: &[],
-                constants: &[
-                    Constant::Whole(1),
-                    Constant::Whole(2),
-                    Constant::Whole(3),
-                    Constant::Whole(7),
-                    Constant::Whole(4),
-                ],
-                targets: &[(13, Some(Kind::Truth))],
-                code: &[
-                    Instr::Const(0),
-                    Instr::Const(1),
-                    Instr::Const(2),
-                    Instr::Op(8),
-                    Instr::Op(2),
-                    Instr::Const(3),
-                    Instr::Op(14),
-                    Instr::AndTest(13),
-                    Instr::Const(4),
-                    Instr::Const(2),
-                    Instr::Op(16),
-                    Instr::Op(0),
-                    Instr::And,
-                    Instr::End,
-                ],
-            },
-            "true: 6 charged in 14 steps",
-        ),
-        // `1/0 > 1 || true`: an error that is absorbed is charged.
-        (
-            Written {
-                result: Kind::Truth,
-                slots: &[],
-                constants: &[
-                    Constant::Whole(1),
-                    Constant::Whole(0),
-                    Constant::Truth(true),
-                ],
-                targets: &[(8, Some(Kind::Truth))],
-                code: &[
-                    Instr::Const(0),
-                    Instr::Const(1),
-                    Instr::Op(10),
-                    Instr::Const(0),
-                    Instr::Op(18),
-                    Instr::OrTest(8),
-                    Instr::Const(2),
-                    Instr::Or,
-                    Instr::End,
-                ],
-            },
-            "true: 3 charged in 9 steps",
-        ),
-        // `false && 1/0 == 1`: a false left ends it.
-        (
-            Written {
-                result: Kind::Truth,
-                slots: &[],
-                constants: &[
-                    Constant::Truth(false),
-                    Constant::Whole(1),
-                    Constant::Whole(0),
-                ],
-                targets: &[(8, Some(Kind::Truth))],
-                code: &[
-                    Instr::Const(0),
-                    Instr::AndTest(8),
-                    Instr::Const(1),
-                    Instr::Const(2),
-                    Instr::Op(10),
-                    Instr::Const(1),
-                    Instr::Op(14),
-                    Instr::And,
-                    Instr::End,
-                ],
-            },
-            "false: 1 charged in 3 steps",
-        ),
-        // `1/0 == 1 ? 1 : 0`: an error of a condition goes behind both branches.
-        (
-            Written {
-                result: Kind::Whole,
-                slots: &[],
-                constants: &[Constant::Whole(1), Constant::Whole(0)],
-                targets: &[(8, None), (9, Some(Kind::Whole))],
-                code: &[
-                    Instr::Const(0),
-                    Instr::Const(1),
-                    Instr::Op(10),
-                    Instr::Const(0),
-                    Instr::Op(14),
-                    Instr::Cond(8, 9),
-                    Instr::Const(0),
-                    Instr::Jump(9),
-                    Instr::Const(1),
-                    Instr::End,
-                ],
-            },
-            "DivideByZero: 3 charged in 7 steps",
-        ),
-    ];
-    for (written, ended) in rows {
+    for (written, ended) in &RUNS {
         let own = run_of(rt.alloc(), written, &[])?;
-        assert_eq!(rt; own.as_str(), ended);
+        assert_eq!(rt; own.as_str(), *ended);
     }
     Ok(())
 }
@@ -265,133 +265,137 @@ const ALONE: Written<'static> = Written {
     code: &[Instr::Const(0), Instr::End],
 };
 
+static FAULTS: [(Written<'static>, &str); 11] = [
+    // A missing operand.
+    (
+        Written {
+            code: &[Instr::Const(0), Instr::Op(2), Instr::End],
+            ..ALONE
+        },
+        "Underflow at 1 of 3",
+    ),
+    // Operands of another kind.
+    (
+        Written {
+            constants: &[Constant::Truth(true)],
+            code: &[Instr::Const(0), Instr::Const(0), Instr::Op(2), Instr::End],
+            ..ALONE
+        },
+        "WrongKind at 2 of 4",
+    ),
+    // An outcome of another kind.
+    (
+        Written {
+            result: Kind::Truth,
+            ..ALONE
+        },
+        "WrongKind at 1 of 2",
+    ),
+    // END is last and alone.
+    (
+        Written {
+            constants: &[],
+            code: &[],
+            ..ALONE
+        },
+        "BadTarget at 0 of 0",
+    ),
+    (
+        Written {
+            code: &[Instr::Const(0), Instr::Const(0)],
+            ..ALONE
+        },
+        "BadTarget at 1 of 2",
+    ),
+    (
+        Written {
+            code: &[Instr::Const(0), Instr::End, Instr::Const(0), Instr::End],
+            ..ALONE
+        },
+        "BadTarget at 1 of 4",
+    ),
+    // A target without a jump, in the code and past it.
+    (
+        Written {
+            targets: &[(1, Some(Kind::Whole))],
+            ..ALONE
+        },
+        "BadTarget at 1 of 2",
+    ),
+    (
+        Written {
+            targets: &[(7, Some(Kind::Whole))],
+            ..ALONE
+        },
+        "BadTarget at 7 of 2",
+    ),
+    // A jump back.
+    (
+        Written {
+            code: &[Instr::Const(0), Instr::Jump(0), Instr::End],
+            ..ALONE
+        },
+        "BadTarget at 1 of 3",
+    ),
+    // A constant that is not there.
+    (
+        Written {
+            code: &[Instr::Const(1), Instr::End],
+            ..ALONE
+        },
+        "BadConstant at 0 of 2",
+    ),
+    (ALONE, "1, charged 0, steps 2, constants 1"),
+];
+
 #[test]
 fn a_fault_is_told_with_its_instruction(rt: HostRuntime) -> Result<(), Fail> {
-    let rows = [
-        // A missing operand.
-        (
-            Written {
-                code: &[Instr::Const(0), Instr::Op(2), Instr::End],
-                ..ALONE
-            },
-            "Underflow at 1 of 3",
-        ),
-        // Operands of another kind.
-        (
-            Written {
-                constants: &[Constant::Truth(true)],
-                code: &[Instr::Const(0), Instr::Const(0), Instr::Op(2), Instr::End],
-                ..ALONE
-            },
-            "WrongKind at 2 of 4",
-        ),
-        // An outcome of another kind.
-        (
-            Written {
-                result: Kind::Truth,
-                ..ALONE
-            },
-            "WrongKind at 1 of 2",
-        ),
-        // END is last and alone.
-        (
-            Written {
-                constants: &[],
-                code: &[],
-                ..ALONE
-            },
-            "BadTarget at 0 of 0",
-        ),
-        (
-            Written {
-                code: &[Instr::Const(0), Instr::Const(0)],
-                ..ALONE
-            },
-            "BadTarget at 1 of 2",
-        ),
-        (
-            Written {
-                code: &[Instr::Const(0), Instr::End, Instr::Const(0), Instr::End],
-                ..ALONE
-            },
-            "BadTarget at 1 of 4",
-        ),
-        // A target without a jump, in the code and past it.
-        (
-            Written {
-                targets: &[(1, Some(Kind::Whole))],
-                ..ALONE
-            },
-            "BadTarget at 1 of 2",
-        ),
-        (
-            Written {
-                targets: &[(7, Some(Kind::Whole))],
-                ..ALONE
-            },
-            "BadTarget at 7 of 2",
-        ),
-        // A jump back.
-        (
-            Written {
-                code: &[Instr::Const(0), Instr::Jump(0), Instr::End],
-                ..ALONE
-            },
-            "BadTarget at 1 of 3",
-        ),
-        // A constant that is not there.
-        (
-            Written {
-                code: &[Instr::Const(1), Instr::End],
-                ..ALONE
-            },
-            "BadConstant at 0 of 2",
-        ),
-        (ALONE, "accepted"),
-    ];
-    for (written, fault) in rows {
-        let own = verdict_of(rt.alloc(), written)?;
-        assert_eq!(rt; own.as_str(), fault);
+    for (written, fault) in &FAULTS {
+        let own = run_of(rt.alloc(), written, &[])?;
+        assert_eq!(rt; own.as_str(), *fault);
     }
     Ok(())
 }
 
+static RULES: [(VerifyRule, u8); 7] = [
+    (VerifyRule::Underflow, 1),
+    (VerifyRule::WrongKind, 2),
+    (VerifyRule::BadTarget, 3),
+    (VerifyRule::BadNesting, 4),
+    (VerifyRule::BadConstant, 5),
+    (VerifyRule::TooDeep, 6),
+    (VerifyRule::OverBudget, 7),
+];
+
 #[test]
 fn rules_have_their_numbers(rt: HostRuntime) {
-    let rows = [
-        (VerifyRule::Underflow, 1),
-        (VerifyRule::WrongKind, 2),
-        (VerifyRule::BadTarget, 3),
-        (VerifyRule::BadNesting, 4),
-        (VerifyRule::BadConstant, 5),
-        (VerifyRule::TooDeep, 6),
-        (VerifyRule::OverBudget, 7),
-    ];
-    for (rule, number) in rows {
+    for &(rule, number) in &RULES {
         assert_eq!(rt; rule as u8, number);
     }
 }
 
-const TAKING: Written<'static> = Written {
+static TAKING: Written<'static> = Written {
     slots: &[Kind::Whole, Kind::Truth],
     ..ALONE
 };
 
-fn constants_in(alloc: Global, written: Written) -> Result<usize, Fail> {
-    let program = program_of(alloc, written)?;
-    Ok(program.image().constants.len())
-}
+static SLOTS: [(&[Result<Constant, CelError>], &str); 3] = [
+    (
+        &[Ok(Constant::Whole(1)), Err(CelError::Overflow)],
+        "1, charged 0, steps 2, constants 1",
+    ),
+    (
+        &[Ok(Constant::Whole(1)), Ok(Constant::Whole(1))],
+        "does not fit",
+    ),
+    (&[Ok(Constant::Whole(1))], "does not fit"),
+];
 
 #[test]
 fn slots_hold_values_of_their_types_and_errors(rt: HostRuntime) -> Result<(), Fail> {
-    let one = Ok(Constant::Whole(1));
-    let fitting = [one, Err(CelError::Overflow)];
-    let own = run_of(rt.alloc(), TAKING, &fitting)?;
-    assert_eq!(rt; own.as_str(), "1: 0 charged in 2 steps");
-    let own = run_of(rt.alloc(), TAKING, &[one, one])?;
-    assert_eq!(rt; own.as_str(), "does not fit");
-    let own = run_of(rt.alloc(), TAKING, &[one])?;
-    assert_eq!(rt; own.as_str(), "does not fit");
-    assert_eq!(rt; constants_in(rt.alloc(), TAKING)?, 1);
+    for (held, ended) in &SLOTS {
+        let own = run_of(rt.alloc(), &TAKING, *held)?;
+        assert_eq!(rt; own.as_str(), *ended);
+    }
     Ok(())
 }

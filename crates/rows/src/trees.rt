@@ -30,13 +30,53 @@ fn binary_of(operator: BinaryOperator) -> &'static str {
     }
 }
 
-fn loop_name(kind: Loop) -> &'static str {
+fn loop_of(kind: Loop) -> &'static str {
     match kind {
-        Loop::All => "all",
-        Loop::Exists => "exists",
-        Loop::ExistsOne => "exists_one",
-        Loop::Filter => "filter",
-        Loop::Map => "map",
+        Loop::All => "all ",
+        Loop::Exists => "exists ",
+        Loop::ExistsOne => "exists_one ",
+        Loop::Filter => "filter ",
+        Loop::Map => "map ",
+    }
+}
+
+// What a node is, where it is no number.
+fn front(form: &Syntax<Expr>) -> &'static str {
+    match form {
+        Syntax::Null => "null",
+        Syntax::Bool(true) => "true",
+        Syntax::Bool(false) => "false",
+        Syntax::Text(_) => "text ",
+        Syntax::Select(_, _) => ".",
+        Syntax::Has(_, _) => "has ",
+        Syntax::Call(_, _) => "call ",
+        Syntax::Method(_, _, _) => "method ",
+        Syntax::Index(_, _) => "index",
+        Syntax::List(_) => "list",
+        Syntax::Map(_) => "map",
+        Syntax::Unary(operator, _) => unary_of(*operator),
+        Syntax::Binary(operator, _, _) => binary_of(*operator),
+        Syntax::And(_, _) => "&&",
+        Syntax::Or(_, _) => "||",
+        Syntax::Conditional(_, _, _) => "?",
+        Syntax::Loop(kind, _, _, _) => loop_of(*kind),
+        Syntax::MapWhere(_, _, _, _) => "map where ",
+        Syntax::Name(_) | Syntax::Int(_) | Syntax::Uint(_) => "",
+    }
+}
+
+// The text or the name in a node.
+fn name(form: &Syntax<Expr>) -> &str {
+    match form {
+        Syntax::Text(name)
+        | Syntax::Name(name)
+        | Syntax::Select(_, name)
+        | Syntax::Has(_, name)
+        | Syntax::Call(name, _)
+        | Syntax::Method(_, name, _)
+        | Syntax::Loop(_, _, name, _)
+        | Syntax::MapWhere(_, name, _, _) => name.as_str(),
+        _ => "",
     }
 }
 
@@ -44,31 +84,16 @@ fn loop_name(kind: Loop) -> &'static str {
 fn label(alloc: Global, expr: &Expr) -> Result<String, AllocError> {
     let place = expr.place;
     match &expr.form {
-        Syntax::Null => format!(in alloc; "null@{place}"),
-        Syntax::Bool(value) => format!(in alloc; "{value}@{place}"),
         Syntax::Int(value) => format!(in alloc; "{value}@{place}"),
         Syntax::Uint(value) => format!(in alloc; "{value}u@{place}"),
-        Syntax::Text(value) => format!(in alloc; "'{}'@{place}", value.as_str()),
-        Syntax::Name(name) => format!(in alloc; "{}@{place}", name.as_str()),
-        Syntax::Select(_, field) => format!(in alloc; ".{}@{place}", field.as_str()),
-        Syntax::Has(_, field) => format!(in alloc; "has {}@{place}", field.as_str()),
-        Syntax::Call(name, _) => format!(in alloc; "call {}@{place}", name.as_str()),
-        Syntax::Method(_, name, _) => format!(in alloc; "method {}@{place}", name.as_str()),
-        Syntax::Index(_, _) => format!(in alloc; "index@{place}"),
-        Syntax::List(_) => format!(in alloc; "list@{place}"),
-        Syntax::Map(_) => format!(in alloc; "map@{place}"),
-        Syntax::Unary(operator, _) => format!(in alloc; "{}@{place}", unary_of(*operator)),
-        Syntax::Binary(operator, _, _) => format!(in alloc; "{}@{place}", binary_of(*operator)),
-        Syntax::And(_, _) => format!(in alloc; "&&@{place}"),
-        Syntax::Or(_, _) => format!(in alloc; "||@{place}"),
-        Syntax::Conditional(_, _, _) => format!(in alloc; "?@{place}"),
-        Syntax::Loop(kind, _, name, _) => {
-            format!(in alloc; "{} {}@{place}", loop_name(*kind), name.as_str())
-        }
-        Syntax::MapWhere(_, name, _, _) => {
-            format!(in alloc; "map where {}@{place}", name.as_str())
-        }
+        form => format!(in alloc; "{}{}@{place}", front(form), name(form)),
     }
+}
+
+fn write_label(out: &mut String, alloc: Global, expr: &Expr) -> Result<(), AllocError> {
+    let name = label(alloc, expr)?;
+    out.push_str(" (")?;
+    out.push_str(name.as_str())
 }
 
 #[cycle(shown)]
@@ -94,9 +119,7 @@ fn write_entries(
 
 #[cycle(shown)]
 fn write_shown(out: &mut String, alloc: Global, expr: &Expr) -> Result<(), AllocError> {
-    out.push_str(" (")?;
-    let name = label(alloc, expr)?;
-    out.push_str(name.as_str())?;
+    write_label(out, alloc, expr)?;
     match &expr.form {
         Syntax::Null
         | Syntax::Bool(_)
@@ -185,125 +208,129 @@ fn depth_of(
     Ok(depth(tree.as_str()))
 }
 
+static TREES: [(&str, &str); 31] = [
+    ("1 + 2 * 3", " (+@2 (1@0) (*@6 (2@4) (3@8)))"),
+    ("1 - 2 - 3", " (-@6 (-@2 (1@0) (2@4)) (3@8))"),
+    ("a || b && c", " (||@2 (a@0) (&&@7 (b@5) (c@10)))"),
+    ("a && b || c", " (||@7 (&&@2 (a@0) (b@5)) (c@10))"),
+    (
+        "1 in [2] == true",
+        " (==@9 (in@2 (1@0) (list@5 (2@6))) (true@12))",
+    ),
+    (
+        "c ? a : b ? 1 : 2",
+        " (?@2 (c@0) (a@4) (?@10 (b@8) (1@12) (2@16)))",
+    ),
+    ("-1[0]", " (-@0 (index@2 (1@1) (0@3)))"),
+    ("-1.f()", " (-@0 (method f@3 (1@1)))"),
+    ("-1", " (-1@0)"),
+    ("- 5", " (-5@0)"),
+    ("--5", " (-@0 (-5@1))"),
+    ("-(5)", " (-@0 (5@2))"),
+    ("!!a", " (!@0 (!@1 (a@2)))"),
+    ("!a.b", " (!@0 (.b@3 (a@1)))"),
+    ("null", " (null@0)"),
+    ("0x1Fu", " (31u@0)"),
+    ("'a\\u00e9'", " (text aé@0)"),
+    ("a.b.for", " (.for@4 (.b@2 (a@0)))"),
+    ("x.for()", " (method for@2 (x@0))"),
+    ("f()", " (call f@0)"),
+    ("f(1, g(2))", " (call f@0 (1@2) (call g@5 (2@7)))"),
+    (
+        "s.contains('x')[0]",
+        " (index@15 (method contains@2 (s@0) (text x@11)) (0@16))",
+    ),
+    ("[]", " (list@0)"),
+    ("[,]", " (list@0)"),
+    ("[1,]", " (list@0 (1@1))"),
+    ("[1, [2]]", " (list@0 (1@1) (list@4 (2@5)))"),
+    ("{}", " (map@0)"),
+    ("{,}", " (map@0)"),
+    ("{'a': 1,}", " (map@0 (text a@1) (1@6))"),
+    (
+        "{'a': 1, b: c ? 2 : 3}",
+        " (map@0 (text a@1) (1@6) (b@9) (?@14 (c@12) (2@16) (3@20)))",
+    ),
+    ("(a)", " (a@1)"),
+];
+
 #[test]
 fn a_tree_is_the_grammars(rt: HostRuntime) -> Result<(), Fail> {
-    let rows = [
-        ("1 + 2 * 3", " (+@2 (1@0) (*@6 (2@4) (3@8)))"),
-        ("1 - 2 - 3", " (-@6 (-@2 (1@0) (2@4)) (3@8))"),
-        ("a || b && c", " (||@2 (a@0) (&&@7 (b@5) (c@10)))"),
-        ("a && b || c", " (||@7 (&&@2 (a@0) (b@5)) (c@10))"),
-        (
-            "1 in [2] == true",
-            " (==@9 (in@2 (1@0) (list@5 (2@6))) (true@12))",
-        ),
-        (
-            "c ? a : b ? 1 : 2",
-            " (?@2 (c@0) (a@4) (?@10 (b@8) (1@12) (2@16)))",
-        ),
-        ("-1[0]", " (-@0 (index@2 (1@1) (0@3)))"),
-        ("-1.f()", " (-@0 (method f@3 (1@1)))"),
-        ("-1", " (-1@0)"),
-        ("- 5", " (-5@0)"),
-        ("--5", " (-@0 (-5@1))"),
-        ("-(5)", " (-@0 (5@2))"),
-        ("!!a", " (!@0 (!@1 (a@2)))"),
-        ("!a.b", " (!@0 (.b@3 (a@1)))"),
-        ("null", " (null@0)"),
-        ("0x1Fu", " (31u@0)"),
-        ("'a\\u00e9'", " ('aé'@0)"),
-        ("a.b.for", " (.for@4 (.b@2 (a@0)))"),
-        ("x.for()", " (method for@2 (x@0))"),
-        ("f()", " (call f@0)"),
-        ("f(1, g(2))", " (call f@0 (1@2) (call g@5 (2@7)))"),
-        (
-            "s.contains('x')[0]",
-            " (index@15 (method contains@2 (s@0) ('x'@11)) (0@16))",
-        ),
-        ("[]", " (list@0)"),
-        ("[,]", " (list@0)"),
-        ("[1,]", " (list@0 (1@1))"),
-        ("[1, [2]]", " (list@0 (1@1) (list@4 (2@5)))"),
-        ("{}", " (map@0)"),
-        ("{,}", " (map@0)"),
-        ("{'a': 1,}", " (map@0 ('a'@1) (1@6))"),
-        (
-            "{'a': 1, b: c ? 2 : 3}",
-            " (map@0 ('a'@1) (1@6) (b@9) (?@14 (c@12) (2@16) (3@20)))",
-        ),
-        ("(a)", " (a@1)"),
-    ];
-    for (text, tree) in rows {
+    for &(text, tree) in &TREES {
         let own = shown(rt.alloc(), text)?;
         assert_eq!(rt; own.as_str(), tree, "{text}");
     }
     Ok(())
 }
+
+static NUMBERS: [(&str, &str); 6] = [
+    ("007", " (7@0)"),
+    ("9223372036854775807", " (9223372036854775807@0)"),
+    ("-9223372036854775808", " (-9223372036854775808@0)"),
+    ("- 9223372036854775808", " (-9223372036854775808@0)"),
+    ("(-9223372036854775808)", " (-9223372036854775808@1)"),
+    ("-0", " (0@0)"),
+];
 
 #[test]
 fn a_number_is_one_node(rt: HostRuntime) -> Result<(), Fail> {
-    let rows = [
-        ("007", " (7@0)"),
-        ("9223372036854775807", " (9223372036854775807@0)"),
-        ("-9223372036854775808", " (-9223372036854775808@0)"),
-        ("- 9223372036854775808", " (-9223372036854775808@0)"),
-        ("(-9223372036854775808)", " (-9223372036854775808@1)"),
-        ("-0", " (0@0)"),
-    ];
-    for (text, tree) in rows {
+    for &(text, tree) in &NUMBERS {
         let own = shown(rt.alloc(), text)?;
         assert_eq!(rt; own.as_str(), tree, "{text}");
     }
     Ok(())
 }
 
+static MACROS: [(&str, &str); 14] = [
+    ("has(a.b)", " (has b@0 (a@4))"),
+    ("has((a.b.c))", " (has c@0 (.b@7 (a@5)))"),
+    ("has(has(a.b).c)", " (has c@0 (has b@4 (a@8)))"),
+    ("l.all(x, x > 1)", " (all x@2 (l@0) (>@11 (x@9) (1@13)))"),
+    ("l.exists((x), true)", " (exists x@2 (l@0) (true@14))"),
+    ("l.exists_one(x, p)", " (exists_one x@2 (l@0) (p@16))"),
+    ("l.filter(x, p)", " (filter x@2 (l@0) (p@12))"),
+    ("l.map(x, t)", " (map x@2 (l@0) (t@9))"),
+    ("l.map(x, p, t)", " (map where x@2 (l@0) (p@9) (t@12))"),
+    ("has", " (has@0)"),
+    ("a.all", " (.all@2 (a@0))"),
+    ("all(x, p)", " (call all@0 (x@4) (p@7))"),
+    ("a.has(b.c)", " (method has@2 (a@0) (.c@8 (b@6)))"),
+    ("a.alls(x, p)", " (method alls@2 (a@0) (x@7) (p@10))"),
+];
+
 #[test]
 fn macros_are_expanded(rt: HostRuntime) -> Result<(), Fail> {
-    let rows = [
-        ("has(a.b)", " (has b@0 (a@4))"),
-        ("has((a.b.c))", " (has c@0 (.b@7 (a@5)))"),
-        ("has(has(a.b).c)", " (has c@0 (has b@4 (a@8)))"),
-        ("l.all(x, x > 1)", " (all x@2 (l@0) (>@11 (x@9) (1@13)))"),
-        ("l.exists((x), true)", " (exists x@2 (l@0) (true@14))"),
-        ("l.exists_one(x, p)", " (exists_one x@2 (l@0) (p@16))"),
-        ("l.filter(x, p)", " (filter x@2 (l@0) (p@12))"),
-        ("l.map(x, t)", " (map x@2 (l@0) (t@9))"),
-        ("l.map(x, p, t)", " (map where x@2 (l@0) (p@9) (t@12))"),
-        ("has", " (has@0)"),
-        ("a.all", " (.all@2 (a@0))"),
-        ("all(x, p)", " (call all@0 (x@4) (p@7))"),
-        ("a.has(b.c)", " (method has@2 (a@0) (.c@8 (b@6)))"),
-        ("a.alls(x, p)", " (method alls@2 (a@0) (x@7) (p@10))"),
-    ];
-    for (text, tree) in rows {
+    for &(text, tree) in &MACROS {
         let own = shown(rt.alloc(), text)?;
         assert_eq!(rt; own.as_str(), tree, "{text}");
     }
     Ok(())
 }
+
+static DEEPEST: [(usize, &str, &str, &str, usize); 17] = [
+    (100, "(", "true", ")", 1),
+    (99, "!", "true", "", 100),
+    (100, "-", "1", "", 100),
+    (99, "-", "a", "", 100),
+    (99, "1 + ", "1", "", 100),
+    (99, "true && ", "true", "", 100),
+    (99, "true ? 1 : ", "1", "", 100),
+    (99, "", "1", " < 1", 100),
+    (99, "", "a", ".f", 100),
+    (99, "", "a", "[0]", 100),
+    (99, "", "a", ".f()", 100),
+    (99, "f(", "1", ")", 100),
+    (99, "[", "1", "]", 100),
+    (100, "[", "", "]", 100),
+    (99, "{1: ", "1", "}", 100),
+    (99, "has(", "a", ".f)", 100),
+    (99, "[1, ", "1", ", 1]", 100),
+];
 
 // The texts with one copy more are too deep: they stand in tests/vectors/eval-rows.jsonl.
 #[test]
 fn trees_are_at_most_100_deep(rt: HostRuntime) -> Result<(), Fail> {
-    let rows = [
-        (100, "(", "true", ")", 1),
-        (99, "!", "true", "", 100),
-        (100, "-", "1", "", 100),
-        (99, "-", "a", "", 100),
-        (99, "1 + ", "1", "", 100),
-        (99, "true && ", "true", "", 100),
-        (99, "true ? 1 : ", "1", "", 100),
-        (99, "", "1", " < 1", 100),
-        (99, "", "a", ".f", 100),
-        (99, "", "a", "[0]", 100),
-        (99, "", "a", ".f()", 100),
-        (99, "f(", "1", ")", 100),
-        (99, "[", "1", "]", 100),
-        (100, "[", "", "]", 100),
-        (99, "{1: ", "1", "}", 100),
-        (99, "has(", "a", ".f)", 100),
-        (99, "[1, ", "1", ", 1]", 100),
-    ];
-    for (count, front, middle, back, deep) in rows {
+    for &(count, front, middle, back, deep) in &DEEPEST {
         let own = depth_of(rt.alloc(), count, front, middle, back)?;
         assert_eq!(rt; own, deep, "{count} {front}{back}");
     }
