@@ -6,7 +6,6 @@ use Rattle.std.specs.Str.{bytes_eq}
 use Rattle.std.proofs.Math.Bool.{and_comm}
 use Rattle.std.proofs.Math.Nat.{max_comm}
 use Rattle.std.proofs.lemmas.Bool.{cases_Bool}
-use Rattle.std.proofs.lemmas.Simd.{map-map}
 use Rattle.std.proofs.lemmas.Slice.Eq.{bytes_eq-Decides}
 use Rattle.plain.specs.declared.text.Keyed.{Keyed}
 use Rattle.plain.specs.Keys.{keys_in}
@@ -16,10 +15,10 @@ use Rattle.cel_value.specs.declared.cel_type.CelType.{CelType, Never, Null, Null
 use Rattle.cel_value.specs.declared.cel_type.CelType.TheVariants.{rolls-Never, rolls-Null, rolls-Nullable, rolls-Text, rolls-List, rolls-Map, rolls-Object}
 use Rattle.cel_value.specs.declared.cel_type.CelType.TheOpen.{CelType-F}
 use Rattle.cel_value.specs.declared.cel_type.CelType.TheFolds.{ind-CelType, map-CelType}
-use Rattle.cel_value.specs.Join.{Joiner, join, join_kinds}
+use Rattle.cel_value.specs.Join.{join, join_kinds}
 use Rattle.cel_value.specs.JoinRules.{Fields, IsBare, are_of_one_kind, joined_field, joined_fields, same_kind_at}
 use Rattle.cel_value.specs.Joining.{joiner_of}
-use Rattle.cel_value.proofs.Joins.{IsBareLevel, bare_roll, join-Never, join-Never-left, join-Null-Null, join-Null-Nullable, join-Null-bare, join-bare-Null, join-Nullable-Null, join-Nullable-Nullable, join-Nullable-bare, join-bare-Nullable, join-bare-bare, join_rolled, joined_fields-is}
+use Rattle.cel_value.proofs.Joins.{IsBareLevel, bare_roll, join-Never, join-Never-left, join-Null-Nullable, join-Null-bare, join-bare-Null, join-Nullable-Null, join-Nullable-Nullable, join-Nullable-bare, join-bare-Nullable, join-bare-bare, join_rolled, joined_fields-is}
 use Rattle.cel_value.proofs.Levels.{at_levels, roll_out}
 
 -- two types that are levels rolled up

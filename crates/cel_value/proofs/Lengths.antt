@@ -1,8 +1,7 @@
 -- A value is no longer than its type allows, and what takes a type allows no lesser length.
-use Rattle.std.proofs.Common.{◌≡◌, ℕ, ◌≤◌, Bool, true, not, nat_le, ◌&&◌, ◌||◌, List, [], ◌∷◌, length, map, ap, sym, ◌∙◌, subst, refl, arith, true≢false, inl, inr, ◌⊎◌}
+use Rattle.std.proofs.Common.{◌≡◌, ℕ, ◌≤◌, Bool, true, not, nat_le, ◌&&◌, ◌||◌, List, [], ◌∷◌, length, ap, sym, ◌∙◌, subst, arith, true≢false, inl, inr, ◌⊎◌}
 use Rattle.std.proofs.lemmas.Bool.{and_parts, cases_Bool, leb-true, or_cases}
 use Rattle.std.proofs.lemmas.List.{length-map}
-use Rattle.std.proofs.lemmas.Simd.{map-map}
 use Rattle.std.specs.List.{list_all}
 use Rattle.std.specs.Str.{bytes_eq}
 use Rattle.plain.specs.declared.text.Keyed.{Keyed}
