@@ -1,8 +1,7 @@
 -- A value is no longer than its type allows, and what takes a type allows no lesser length.
-use Rattle.std.proofs.Common.{◌≡◌, ℕ, ◌≤◌, Bool, true, not, nat_le, ◌&&◌, ◌||◌, List, [], ◌∷◌, length, map, ap, sym, ◌∙◌, subst, refl, arith, true≢false, inl, inr, ◌⊎◌}
+use Rattle.std.proofs.Common.{◌≡◌, ℕ, ◌≤◌, Bool, true, not, nat_le, ◌&&◌, ◌||◌, List, [], ◌∷◌, length, ap, sym, ◌∙◌, subst, arith, true≢false, inl, inr, ◌⊎◌}
 use Rattle.std.proofs.lemmas.Bool.{and_parts, cases_Bool, leb-true, or_cases}
 use Rattle.std.proofs.lemmas.List.{length-map}
-use Rattle.std.proofs.lemmas.Simd.{map-map}
 use Rattle.std.specs.List.{list_all}
 use Rattle.std.specs.Str.{bytes_eq}
 use Rattle.plain.specs.declared.text.Keyed.{Keyed}
@@ -16,7 +15,7 @@ use Rattle.cel_value.specs.Value.{code_points, length_at, length_of}
 use Rattle.cel_value.specs.Greatest.{greatest_length_of, greatest_length_step}
 use Rattle.cel_value.specs.Fits.{fits, fits_at, fits_step, object_fits, is_null}
 use Rattle.cel_value.specs.Assignable.{assignable, takes_at, takes_step, fields_take}
-use Rattle.cel_value.proofs.Soundness.{out_roll}
+use Rattle.cel_value.proofs.Levels.{fused, out_roll-Value}
 
 abbrev FitsWithin : CelType → Type 0
 FitsWithin t = (v : Value) → fits v t ≡ true → length_of v ≤ greatest_length_of t
@@ -57,7 +56,7 @@ fields_within (f ∷ fs) (g ∷ gs) h =
 nullable : (t : Such) (o : Value-F Value) → (is_null o ≡ true) ⊎ (fits (roll-Value o) t.0 ≡ true) → length_at o ≤ greatest_length_of t.0
 nullable t Value-F.Null h = omega arith
 nullable t o (inl h) = absurd (true≢false (sym h))
-nullable t o (inr h) = omega (arith, t.1.0 (roll-Value o) h, ap length_at (out_roll o))
+nullable t o (inr h) = omega (arith, t.1.0 (roll-Value o) h, ap length_at (out_roll-Value o))
 
 -- one level of a type and a value
 fits_level : (y : CelType-F Such) (o : Value-F Value) → fits_at (map-CelType _ _ (λ e v. fits v e.0) y) o ≡ true → length_at o ≤ greatest_at y
@@ -94,26 +93,22 @@ takes_level (CelType-F.Nullable t) (CelType-F.Nullable s) h = t.1.1 s h
 takes_level (CelType-F.Nullable t) o h = omega (arith, t.1.1 (roll-CelType o) h, fold-roll-CelType ℕ greatest_length_step o)
 takes_level _ _ h = absurd (true≢false (sym h))
 
-fused : (A : Type 0) (f : CelType → A) (y : CelType-F Such) → map-CelType _ _ f (map-CelType _ _ (λ e. e.0) y) ≡ map-CelType _ _ (λ e. f e.0) y
-fused A f (CelType-F.Object fs) = ap CelType-F.Object (map-map _ _ fs)
-fused A f y = refl
-
 abbrev bare : CelType-F Such → CelType
 bare y = roll-CelType (map-CelType _ _ (λ e. e.0) y)
 
 greatest_is : (y : CelType-F Such) → greatest_length_of (bare y) ≡ greatest_at y
-greatest_is y = fold-roll-CelType ℕ greatest_length_step (map-CelType _ _ (λ e. e.0) y) ∙ ap greatest_length_step (fused ℕ greatest_length_of y)
+greatest_is y = fold-roll-CelType ℕ greatest_length_step (map-CelType _ _ (λ e. e.0) y) ∙ ap greatest_length_step (fused ℕ y (λ e. e.0) greatest_length_of)
 
 fits_step_within : (y : CelType-F Such) → FitsWithin (bare y)
 fits_step_within y = λ v h.
     let one : fits v (bare y) ≡ fits_at (map-CelType _ _ (λ e w. fits w e.0) y) (out-Value v) =
-    ap (λ t. t v) (fold-roll-CelType (Value → Bool) fits_step (map-CelType _ _ (λ e. e.0) y) ∙ ap fits_step (fused (Value → Bool) (λ t w. fits w t) y)) in
+    ap (λ t. t v) (fold-roll-CelType (Value → Bool) fits_step (map-CelType _ _ (λ e. e.0) y) ∙ ap fits_step (fused (Value → Bool) y (λ e. e.0) (λ t w. fits w t))) in
     omega (arith, greatest_is y, fits_level y (out-Value v) (sym one ∙ h))
 
 takes_step_within : (y : CelType-F Such) → TakesWithin (bare y)
 takes_step_within y = λ s h.
     let one : assignable s (bare y) ≡ takes_at (map-CelType _ _ (λ e r. assignable r e.0) y) (out-CelType s) =
-    ap (λ t. t s) (fold-roll-CelType (CelType → Bool) takes_step (map-CelType _ _ (λ e. e.0) y) ∙ ap takes_step (fused (CelType → Bool) (λ t r. assignable r t) y)) in
+    ap (λ t. t s) (fold-roll-CelType (CelType → Bool) takes_step (map-CelType _ _ (λ e. e.0) y) ∙ ap takes_step (fused (CelType → Bool) y (λ e. e.0) (λ t r. assignable r t))) in
     omega (arith, greatest_is y, fold_out-CelType ℕ greatest_length_step s, takes_level y (out-CelType s) (sym one ∙ h))
 
 within : (t : CelType) → FitsWithin t × TakesWithin t

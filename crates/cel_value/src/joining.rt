@@ -1,27 +1,57 @@
-ghost use Rattle.std.specs.Prelude.{◌≡◌, ◌⊎◌, Some, IsTrue, IfOk, IfSome};
+ghost use Rattle.std.specs.Prelude.{◌≡◌, ◌⊎◌, ◌&&◌, ℕ, max, Bool, Some, None, IsTrue, IfOk, IfSome};
 ghost use Rattle.std.specs.Option.{option_map};
+ghost use Rattle.plain.specs.Keys.{keys_in};
 ghost use Rattle.cel_value.specs.declared.cel_type.CelType as T;
 ghost use Rattle.cel_value.specs.declared.cel_type.CelType.{CelType};
 ghost use Rattle.cel_value.specs.declared.value.Value.{Value};
 ghost use Rattle.cel_value.specs.Fits.{fits};
 ghost use Rattle.cel_value.specs.Assignable.{assignable};
-ghost use Rattle.cel_value.specs.Join.{join, join_bare, wrapped, IsInside, join_same_kind, join_fields, joiners_of};
+ghost use Rattle.cel_value.specs.Greatest.{AllowsAsMuch};
+ghost use Rattle.cel_value.specs.Join.{join};
+ghost use Rattle.cel_value.specs.JoinRules.{Fields, IsBare, are_of_one_kind, joined_fields};
+ghost use Rattle.cel_value.specs.Joining.{IsInside, join_same_kind, wrapped};
 
 use crate::cel_type::{CelType, Field};
 use plain::{Boxed, Keyed, TextMap};
 use std::alloc::{AllocError, Global};
 
-/// The type of what has one of two types, if there is one: each of the two may stand where it is asked, and what
-/// fits one of them fits it.
+/// The type of what has one of two types, if there is one: each of the two may stand where it is asked, what fits
+/// one of them fits it, and it allows as much as each.
 pub fn join(alloc: Global, left: &CelType, right: &CelType) -> Result<Option<CelType>, AllocError>
     ensures exact { IfOk result (λ joined. joined ≡ join left.now right.now) }
     ensures itself { left.now ≡ right.now → IfOk result (λ joined. joined ≡ Some left.now) }
     ensures takes_left { IfOk result (λ joined. IfSome joined (λ t. IsTrue (assignable left.now t))) }
     ensures takes_right { IfOk result (λ joined. IfSome joined (λ t. IsTrue (assignable right.now t))) }
-    ensures admits_both { IfOk result (λ joined. IfSome joined (λ t. (value : Value) → IsTrue (fits value left.now) ⊎ IsTrue (fits value right.now) → IsTrue (fits value t))) }
+    ensures admits_both { IfOk result (λ joined. IfSome joined (λ t.
+        (value : Value) → IsTrue (fits value left.now) ⊎ IsTrue (fits value right.now) → IsTrue (fits value t))) }
+    ensures left_limits { IfOk result (λ joined. IfSome joined (λ t. AllowsAsMuch left.now t)) }
+    ensures right_limits { IfOk result (λ joined. IfSome joined (λ t. AllowsAsMuch right.now t)) }
 {
     join_types(alloc, left, right)
 }
+
+/// The rules by which two types have a join: the first that fits them gives it, in either order.
+pub fn join_rules()
+    ensures either_order { (s t : CelType) → join s t ≡ join t s }
+    ensures never { (t : CelType) → join T.Never t ≡ Some t }
+    ensures itself { (t : CelType) → join t t ≡ Some t }
+    ensures null_and_nullable { (t : CelType) → join T.Null (T.Nullable t) ≡ Some (T.Nullable t) }
+    ensures null_and_other { (t : CelType) → IsBare t → join T.Null t ≡ Some (T.Nullable t) }
+    ensures both_nullable { (s t : CelType) → join (T.Nullable s) (T.Nullable t) ≡ option_map (λ u. T.Nullable u) (join s t) }
+    ensures one_nullable { (s t : CelType) → IsBare t → join (T.Nullable s) t ≡ option_map (λ u. T.Nullable u) (join s t) }
+    ensures texts { (m n : ℕ) → join (T.Text m) (T.Text n) ≡ Some (T.Text (max m n)) }
+    ensures lists { (m n : ℕ) (a b : Bool) (s t : CelType)
+        → join (T.List m a s) (T.List n b t) ≡ option_map (λ u. T.List (max m n) (a && b) u) (join s t) }
+    ensures maps { (m n i j : ℕ) (s t : CelType)
+        → join (T.Map m i s) (T.Map n j t) ≡ option_map (λ u. T.Map (max m n) (max i j) u) (join s t) }
+    ensures objects { (fs gs : Fields)
+        → join (T.Object fs) (T.Object gs) ≡ option_map (λ hs. T.Object hs) (joined_fields fs gs) }
+    ensures same_names { (fs gs hs : Fields)
+        → joined_fields fs gs ≡ Some hs → (keys_in hs ≡ keys_in fs) × (keys_in hs ≡ keys_in gs) }
+    ensures other_names { (fs gs : Fields)
+        → ¬ (keys_in fs ≡ keys_in gs) → join (T.Object fs) (T.Object gs) ≡ None }
+    ensures other_kinds { (s t : CelType) → IsBare s → IsBare t → ¬ IsTrue (are_of_one_kind s t) → join s t ≡ None }
+{}
 
 #[cycle(join_types)]
 fn join_types(alloc: Global, left: &CelType, right: &CelType) -> Result<Option<CelType>, AllocError>
@@ -54,7 +84,8 @@ fn join_types(alloc: Global, left: &CelType, right: &CelType) -> Result<Option<C
 /// Joins a type that is none of Never, Null and Nullable with any other.
 #[cycle(join_types)]
 fn join_bare(alloc: Global, left: &CelType, right: &CelType) -> Result<Option<CelType>, AllocError>
-    ensures { IfOk result (λ joined. joined ≡ join_bare left.now right.now) }
+    requires { IsBare left.now }
+    ensures { IfOk result (λ joined. joined ≡ join left.now right.now) }
 {
     let inside = innermost(right);
     match inside {
@@ -184,7 +215,7 @@ fn join_objects(
     fields: &TextMap<Field<CelType>>,
     others: &TextMap<Field<CelType>>,
 ) -> Result<Option<CelType>, AllocError>
-    ensures { IfOk result (λ joined. joined ≡ option_map (λ hs. T.Object hs) (join_fields (joiners_of fields.now) others.now)) }
+    ensures { IfOk result (λ joined. joined ≡ option_map (λ hs. T.Object hs) (joined_fields fields.now others.now)) }
 {
     match join_fields(alloc, fields, others)? {
         Some(fields) => Ok(Some(CelType::Object { fields })),
@@ -199,7 +230,7 @@ fn join_fields(
     fields: &TextMap<Field<CelType>>,
     others: &TextMap<Field<CelType>>,
 ) -> Result<Option<TextMap<Field<CelType>>>, AllocError>
-    ensures { IfOk result (λ joined. joined ≡ join_fields (joiners_of fields.now) others.now) }
+    ensures { IfOk result (λ joined. joined ≡ joined_fields fields.now others.now) }
 {
     let mut joined = Vec::new(alloc);
     let mut rest = others.as_slice();

@@ -22,6 +22,6 @@ pub use cel_error::CelError;
 pub use cel_type::{CelType, Field, copy_types, max_length, max_weight};
 pub use equality::equal;
 pub use fitting::fits;
-pub use joining::join;
+pub use joining::{join, join_rules};
 pub use text_length::{code_points, tenths};
 pub use value::{Value, length, weight};
