@@ -1,5 +1,5 @@
 -- The typed tree of an expression in a scope of names, or its first fault in post-order.
-use Rattle.std.specs.Prelude.{ℕ, ◌+◌, max, Bool, ◌&&◌, ◌||◌, nat_lt, List, [], ◌∷◌, map, Option, Some, None, Result, Ok, Err, if◌then◌else◌, ◌≡◌}
+use Rattle.std.specs.Prelude.{ℕ, ◌+◌, Bool, ◌&&◌, ◌||◌, nat_lt, List, [], ◌∷◌, map, Option, Some, None, Result, Ok, Err, if◌then◌else◌, ◌≡◌}
 use Rattle.plain.specs.declared.text.Keyed.{Keyed}
 use Rattle.cel_value.specs.declared.value.Value as value
 use Rattle.cel_value.specs.declared.cel_type.CelType.{CelType}
@@ -13,6 +13,7 @@ use Rattle.cel_grammar.specs.declared.tree.Entry.{Entry}
 use Rattle.cel_parse.specs.declared.expr.Expr.{Expr, fold-Expr}
 use Rattle.cel_parse.specs.declared.expr.Syntax.{Syntax}
 use Rattle.cel_parse.specs.declared.expr.Syntax.TheVariants as syntax
+use Rattle.cel_parse.specs.Depths.{depth_of}
 use Rattle.cel_code.specs.declared.cel_check.fault.TypeRule.{TypeRule}
 use Rattle.cel_code.specs.declared.cel_check.fault.TypeRule.TheVariants.{UnknownName, NoOverload, Mixed, TooLarge}
 use Rattle.cel_code.specs.declared.cel_check.fault.TypeFault.{TypeFault}
@@ -163,43 +164,6 @@ checked_at place (syntax.Conditional c a b) names = after (c names) (λ r. after
 abbrev pub checked : Expr → Names → Checked
 checked = fold-Expr (Names → Checked) (λ e. checked_at e.place e.form)
 
--- the depth of the deepest part
-abbrev pub deepest : List ℕ → ℕ
-deepest [] = 0
-deepest (n ∷ ns) = max n (deepest ns)
-
--- the depth of the deepest key or value
-abbrev pub deepest_entry : List (Entry ℕ) → ℕ
-deepest_entry [] = 0
-deepest_entry (e ∷ es) = max (max e.key e.value) (deepest_entry es)
-
--- how deep a node is: a leaf 1, else one more than its deepest part
-abbrev pub depth_at : Syntax ℕ → ℕ
-depth_at (syntax.Bool b) = 1
-depth_at (syntax.Int n) = 1
-depth_at (syntax.Name n) = 1
-depth_at syntax.Null = 1
-depth_at (syntax.Uint n) = 1
-depth_at (syntax.Text s) = 1
-depth_at (syntax.Select a f) = 1 + a
-depth_at (syntax.Has a f) = 1 + a
-depth_at (syntax.Call f ns) = 1 + deepest ns
-depth_at (syntax.Method a f ns) = 1 + max a (deepest ns)
-depth_at (syntax.Index a b) = 1 + max a b
-depth_at (syntax.List ns) = 1 + deepest ns
-depth_at (syntax.Map es) = 1 + deepest_entry es
-depth_at (syntax.Loop l a x b) = 1 + max a b
-depth_at (syntax.MapWhere a x p t) = 1 + max a (max p t)
-depth_at (syntax.Unary op a) = 1 + a
-depth_at (syntax.Binary op a b) = 1 + max a b
-depth_at (syntax.And a b) = 1 + max a b
-depth_at (syntax.Or a b) = 1 + max a b
-depth_at (syntax.Conditional c a b) = 1 + max c (max a b)
-
--- the depth of an expression
-abbrev pub depth_of : Expr → ℕ
-depth_of = fold-Expr ℕ (λ e. depth_at e.form)
-
 -- how many nodes the parts have
 abbrev pub total : List ℕ → ℕ
 total [] = 0
@@ -244,10 +208,6 @@ each_checked es = map checked es
 -- the checkings of keys and values
 abbrev pub entries_checked : List (Entry Expr) → List (Entry (Names → Checked))
 entries_checked es = map (λ e. record { key = checked e.key; value = checked e.value }) es
-
--- their depths
-abbrev pub entry_depths : List (Entry Expr) → List (Entry ℕ)
-entry_depths es = map (λ e. record { key = depth_of e.key; value = depth_of e.value }) es
 
 -- how many nodes they have
 abbrev pub entry_sizes : List (Entry Expr) → List (Entry ℕ)

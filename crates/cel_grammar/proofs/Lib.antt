@@ -2,6 +2,7 @@ pub mod WordCut
 pub mod Rows
 pub mod Turns
 pub mod Depths
+pub mod Levels
 pub mod Steps
 pub mod Spans
 pub mod Told

@@ -5,4 +5,5 @@ pub mod Total
 pub mod Refusals
 pub mod Marks
 pub mod Expanded
+pub mod ExpandedDepths
 pub mod WorkedRows

@@ -1,5 +1,5 @@
 -- A text spells one expression, or is refused.
-use Rattle.std.proofs.Common.{◌≡◌, ℕ, List, [], length, refl, sym, ap, subst}
+use Rattle.std.proofs.Common.{◌≡◌, ◌≤◌, ℕ, List, [], length, refl, sym, ap, subst, ◌∙◌}
 use Rattle.cel_lex.specs.declared.token.Token.{Token}
 use Rattle.cel_lex.specs.declared.fault.LexFault.{LexFault}
 use Rattle.cel_parse.specs.declared.expr.Expr.{Expr}
@@ -7,6 +7,8 @@ use Rattle.cel_grammar.specs.declared.fault.ParseFault.{ParseFault}
 use Rattle.cel_grammar.specs.declared.fault.ParseFault.TheVariants.{Lex, Unexpected, BadMacro}
 use Rattle.cel_grammar.specs.declared.tree.Tree.{Tree}
 use Rattle.cel_lex.specs.Lexis.{IsCut}
+use Rattle.cel_grammar.specs.Limits.{depth}
+use Rattle.cel_parse.specs.Depths.{depth_of}
 use Rattle.cel_parse.specs.Macros.{first_wrong}
 use Rattle.cel_parse.specs.Expansion.{expanded}
 use Rattle.cel_parse.proofs.FewTokens.{few_tokens}
@@ -16,6 +18,7 @@ use Rattle.cel_lex.proofs.Cutting.{one_cut, one_refusal, no_refusal}
 use Rattle.cel_grammar.specs.Grammar.{Derives, Expression}
 use Rattle.cel_grammar.proofs.Stages.{agrees_self}
 use Rattle.cel_parse.proofs.Ranges.{expanded_lexical}
+use Rattle.cel_parse.proofs.ExpandedDepths.{expanded_depth}
 use Rattle.cel_grammar.proofs.OnePlace.{one_place}
 use Rattle.cel_grammar.proofs.Answered.{one_tree}
 
@@ -106,3 +109,10 @@ first_macro text p g h (bad_macro c t w) (no_expression d u m y) q = let e = ap 
 
 pub only_macro : (text : List ℕ) (p : ℕ) (g : ParseFault) → IsRefused text (BadMacro p) → IsRefused text g → g ≡ BadMacro p
 only_macro text p g r s = first_macro text p g (BadMacro p) r s refl
+
+-- the expression of a text is as deep as its tree, which is 100 at most
+pub parsed_depth : {text : List ℕ} {e : Expr} → IsParsed text e → (ts : List Token) (tree : Tree) → IsCut text ts → IsTree text ts tree → depth_of e ≡ depth text tree
+parsed_depth {text} {e} p ts tree c t = expanded_depth text p.tree e p.expanded ∙ ap (depth text) (same_tree p.cut c p.is_tree t)
+
+pub parsed_shallow : {text : List ℕ} {e : Expr} → IsParsed text e → depth_of e ≤ 100
+parsed_shallow {text} {e} p = subst (λ n. n ≤ 100) (sym (expanded_depth text p.tree e p.expanded)) p.is_tree.within.shallow

@@ -1,5 +1,5 @@
--- Why a text is refused, by the step that refuses it.
-use Rattle.std.proofs.Common.{◌≡◌, ℕ, List, Some, None, Err, sym, ap, subst, ◌∙◌}
+-- The expression of a text, and why it is refused, by the step that refuses it.
+use Rattle.std.proofs.Common.{◌≡◌, ℕ, List, Some, None, Ok, Err, sym, ap, subst, ◌∙◌}
 use Rattle.cel_lex.specs.declared.token.Token.{Token}
 use Rattle.cel_lex.specs.declared.fault.LexFault.{LexFault}
 use Rattle.cel_lex.specs.declared.fault.LexError.{LexError}
@@ -12,10 +12,11 @@ use Rattle.cel_grammar.specs.declared.tree.Tree.{Tree}
 use Rattle.cel_lex.specs.Lexis.{IsCut, Refuses}
 use Rattle.cel_grammar.specs.Faults.{from_lexing}
 use Rattle.cel_grammar.specs.Views.{Fails}
+use Rattle.cel_parse.specs.declared.expr.Expr.{Expr}
 use Rattle.cel_parse.specs.Macros.{first_wrong}
 use Rattle.cel_parse.specs.Expansion.{expanded}
 use Rattle.cel_grammar.specs.Trees.{IsTree, HasNoTree}
-use Rattle.cel_parse.specs.Parsing.{IsRefused, no_cut, no_tree, bad_macro, no_expression}
+use Rattle.cel_parse.specs.Parsing.{IsParsed, IsRefused, no_cut, no_tree, bad_macro, no_expression}
 
 pub refused_cut : (text : List ℕ) (l : LexError) (f : ParseFault) → from_lexing l ≡ errors.Fault f → ((g : LexFault) → l ≡ lexing.Fault g → Refuses text g) → IsRefused text f
 refused_cut text lexing.OutOfMemory f e h = absurd cc
@@ -37,3 +38,6 @@ module _ (text : List ℕ) (ts us : List Token) (tree boxed : Tree) (cut : IsCut
   refused_expression (errors.Fault k) f m g h =
       let q : k ≡ f = cc in
       no_expression cut tree_is m (g ∙ ap Err q)
+
+  pub parsed_by : (e x : Expr) → first_wrong text tree ≡ None → expanded text tree ≡ Ok x → e ≡ x → IsParsed text e
+  parsed_by e x m g h = record { tokens = us; cut = cut; tree = tree; is_tree = tree_is; macros = m; expanded = g ∙ ap Ok (sym h) }

@@ -1,4 +1,5 @@
 pub mod Macros
 pub mod Expansion
+pub mod Depths
 pub mod Parsing
 pub mod Total

@@ -1,11 +1,17 @@
 //! The expression of a text.
 
-ghost use Rattle.std.specs.Prelude.{◌≡◌, ℕ, List, IfOk, IsErrOf};
+ghost use Rattle.std.specs.Prelude.{◌≡◌, ◌≤◌, ℕ, List, IfOk, IsErrOf};
+ghost use Rattle.cel_lex.specs.declared.token.Token.{Token};
 ghost use Rattle.cel_lex.specs.declared.fault.LexFault.{LexFault};
 ghost use Rattle.cel_parse.specs.declared.expr.Expr.{Expr};
 ghost use Rattle.cel_grammar.specs.declared.fault.ParseFault.{ParseFault};
 ghost use Rattle.cel_grammar.specs.declared.fault.ParseFault.TheVariants.{Lex, Unexpected, BadMacro};
 ghost use Rattle.cel_grammar.specs.declared.fault.ParseError.TheVariants as errors;
+ghost use Rattle.cel_lex.specs.Lexis.{IsCut};
+ghost use Rattle.cel_grammar.specs.declared.tree.Tree.{Tree};
+ghost use Rattle.cel_grammar.specs.Limits.{depth};
+ghost use Rattle.cel_grammar.specs.Trees.{IsTree};
+ghost use Rattle.cel_parse.specs.Depths.{depth_of};
 ghost use Rattle.cel_parse.specs.Parsing.{IsParsed, IsRefused};
 ghost use Rattle.cel_parse.specs.Total.{IsAnswered};
 
@@ -22,6 +28,9 @@ pub fn parse(alloc: Global, text: &str) -> Result<Expr, ParseError>
     ensures parsed { IfOk result (λ e. IsParsed text.now e) }
     // A text is refused only for the fault that is answered.
     ensures refused { (f : ParseFault) → IsErrOf result (errors.Fault f) → IsRefused text.now f }
+    // The expression is as deep as the text's tree is counted, which is 100 at most.
+    ensures depth { IfOk result (λ e. (ts : List Token) (tree : Tree) → IsCut text.now ts → IsTree text.now ts tree → depth_of e ≡ depth text.now tree) }
+    ensures shallow { IfOk result (λ e. depth_of e ≤ 100) }
 {
     let cut = tokens(alloc, text)?;
     let boxed = tree_of(alloc, text, cut.as_slice())?;

@@ -4,7 +4,8 @@ use Rattle.cel_grammar.specs.declared.fault.ParseError.TheVariants as errors
 use Rattle.cel_grammar.specs.declared.fault.ParseFault.TheVariants.{BadMacro}
 use Rattle.cel_grammar.specs.Faults.{from_lexing}
 use Rattle.cel_parse.proofs.FewTokens.{few_of}
-use Rattle.cel_parse.proofs.Refusals.{refused_cut, refused_tree, refused_macro, refused_expression}
+use Rattle.cel_parse.proofs.OneExpression.{parsed_depth, parsed_shallow}
+use Rattle.cel_parse.proofs.Refusals.{parsed_by, refused_cut, refused_tree, refused_macro, refused_expression}
 use Rattle.cel_parse.proofs.parser.parse.Goals as goal
 
 pub tree_of-requires : goal.tree_of-requires
@@ -35,3 +36,11 @@ returns-in_err-expand-clause-refused c = λ f h.
     let e : c.in_err-expand.field-0.0 ≡ errors.Fault f = (let a = p.1 in let b = p.2 in cc) in
     refused_expression c.args.text.now _ _ c.get-tree.result.now c.in_ok-boxed.boxed c.in_ok-cut.ensures.cut c.as_slice.ensures.value c.get-tree.ensures c.in_ok-boxed.ensures.tree c.in_err-expand.field-0.0 f
     (sym c.first_wrong.ensures ∙ c.in_default.is) c.in_err-expand.ensures e
+
+pub returns-clause-depth : goal.returns-clause-depth
+returns-clause-depth c = parsed_depth (parsed_by c.args.text.now c.as_slice.result.now c.in_ok-cut.cut.items c.get-tree.result.now c.in_ok-boxed.boxed c.in_ok-cut.ensures.cut c.as_slice.ensures.value c.get-tree.ensures c.in_ok-boxed.ensures.tree
+    c.into_inner.result c.in_ok-expand.field-0 (sym c.first_wrong.ensures ∙ c.in_default.is) c.in_ok-expand.ensures c.into_inner.ensures)
+
+pub returns-clause-shallow : goal.returns-clause-shallow
+returns-clause-shallow c = parsed_shallow (parsed_by c.args.text.now c.as_slice.result.now c.in_ok-cut.cut.items c.get-tree.result.now c.in_ok-boxed.boxed c.in_ok-cut.ensures.cut c.as_slice.ensures.value c.get-tree.ensures c.in_ok-boxed.ensures.tree
+    c.into_inner.result c.in_ok-expand.field-0 (sym c.first_wrong.ensures ∙ c.in_default.is) c.in_ok-expand.ensures c.into_inner.ensures)
