@@ -45,7 +45,7 @@ module _ (s : Style) (is_escaped : Bool) (bytes : List ℕ) (i : ℕ) (total : O
   pub going_on : (not is_escaped && closes s (take (length bytes - i) (drop i bytes))) ≡ false → breaks s (get_or bytes i 0) ≡ false → option_map (λ n. i + 1 + n) (closed_at s (not is_escaped && escapes s (get_or bytes i 0)) (drop (i + 1) bytes)) ≡ total
   going_on e k = further rest ∙ sym (ap (shifted i) (stepped false e k)) ∙ kept
 
-closed_nil : (s : Style) (is_escaped : Bool) → closed_at s is_escaped [] ≡ None
+pub closed_nil : (s : Style) (is_escaped : Bool) → closed_at s is_escaped [] ≡ None
 unfolding closed_at
 closed_nil s is_escaped = refl
 

@@ -10,6 +10,7 @@ pub mod Cutting
 pub mod Turn
 pub mod Together
 pub mod Closings
+pub mod FirstClosing
 pub mod EscapeParts
 pub mod ContentTurn
 pub mod LiteralParts

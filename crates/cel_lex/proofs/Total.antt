@@ -1,12 +1,12 @@
 -- A text is cut, or has a fault.
-use Rattle.std.proofs.Common.{◌≡◌, ℕ, zero, suc, ◌+◌, ◌<◌, ◌≤◌, List, [], ◌∷◌, length, take, drop, Option, Some, None, refl, inl, inr, arith, length-drop}
+use Rattle.std.proofs.Common.{ℕ, zero, suc, ◌+◌, ◌<◌, ◌≤◌, List, [], ◌∷◌, length, drop, Option, Some, None, inl, inr, arith, length-drop}
 use Rattle.std.proofs.lemmas.Bool.{cases_lt}
 use Rattle.cel_lex.specs.declared.token.Token.{Token}
 use Rattle.cel_lex.specs.declared.token.TokenKind.{TokenKind}
 use Rattle.cel_lex.specs.declared.piece.Piece.{Piece}
 use Rattle.cel_lex.specs.declared.piece.Piece.TheVariants as piece
 use Rattle.cel_lex.specs.declared.fault.LexFault.{LexFault}
-use Rattle.cel_lex.specs.Lexis.{piece_of, IsNext, Cuts, Fails, IsCut, Refuses, too_long, first, end, blank, token, faulty, bad, after_blank, after_token}
+use Rattle.cel_lex.specs.Lexis.{IsNext, Cuts, Fails, too_long, first, end, blank, token, faulty, bad, after_blank, after_token}
 use Rattle.cel_lex.specs.Total.{HasAnswer, is_cut, is_refused}
 use Rattle.cel_lex.specs.Scan.{next_of, Reads}
 use Rattle.cel_lex.proofs.PieceNext.{next_reads}

@@ -4,6 +4,7 @@ pub mod Words
 pub mod Symbols
 pub mod Escapes
 pub mod Texts
+pub mod Closing
 pub mod Spelling
 pub mod Lexis
 pub mod Together

@@ -1,7 +1,9 @@
 //! Literal texts.
 
-ghost use Rattle.std.specs.Prelude.{false, not, ◌&&◌, ◌≡◌, ◌+◌, ◌<◌, ◌≤◌, length, drop, IfOk, IfSome, slice_index};
+ghost use Rattle.std.specs.Prelude.{false, not, ◌&&◌, ◌≡◌, ◌↔◌, ◌+◌, ◌<◌, ◌≤◌, ℕ, List, Some, None, IsTrue, length, drop, IfOk, IfSome, slice_index};
 ghost use Rattle.std.specs.Str.{IsCharBoundary};
+ghost use Rattle.cel_lex.specs.declared.literal.Style.{Style};
+ghost use Rattle.cel_lex.specs.Closing.{ClosesAt};
 ghost use Rattle.cel_lex.specs.Texts.{begins_with_two, style_of, closes, keeps, breaks, escapes, closed_at, quotes};
 ghost use Rattle.cel_lex.specs.Texts.{opening as opening_of, content_of, faulty};
 ghost use Rattle.cel_lex.specs.Bytes.{is_quote};
@@ -179,3 +181,12 @@ pub fn literal(
     let piece = content_piece(alloc, before, style, &text[place..place + count])?;
     Ok((before + count + quote_count(style), piece))
 }
+
+/// A text's content ends at the first closing quotes that no backslash escapes, and where there are none the text is not
+/// closed.
+pub fn text_closing()
+    ensures closed { (s : Style) (inside : List ℕ) (n : ℕ) → IsTrue (is_quote s.quote)
+        → closed_at s false inside ≡ Some n ↔ ClosesAt s inside n }
+    ensures unclosed { (s : Style) (inside : List ℕ) → IsTrue (is_quote s.quote)
+        → closed_at s false inside ≡ None ↔ ((n : ℕ) → ClosesAt s inside n → ⊥) }
+{}
