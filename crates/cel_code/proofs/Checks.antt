@@ -6,8 +6,7 @@ use Rattle.cel_value.specs.declared.value.Value as value
 use Rattle.cel_value.specs.declared.cel_type.CelType.{CelType}
 use Rattle.cel_value.specs.declared.cel_type.CelType as type
 use Rattle.cel_value.specs.CelType.{assignable, join}
-use Rattle.cel_value.specs.Join.{IsAbove}
-use Rattle.cel_value.proofs.Above.{join-above}
+use Rattle.cel_value.proofs.Above.{IsAbove, join-above}
 use Rattle.cel_value.proofs.Reflexive.{assignable-refl}
 use Rattle.cel_code.proofs.Opened.{bool_fits, int_fits}
 use Rattle.cel_grammar.specs.declared.tree.Entry.{Entry}
