@@ -373,6 +373,8 @@ pub fn tree_of(alloc: Global, source: &str, tokens: &[Token]) -> Result<Boxed<Tr
     requires few { length tokens.now ≤ 16384 }
     ensures tree { IfOk result (λ e. IsTree source.now tokens.now e) }
     ensures refused { (f : ParseFault) → IsErrOf result (errors.Fault f) → HasNoTree source.now tokens.now f }
+    // The answer is that of reading from left to right, which is a function of the tokens.
+    ensures read { Gives same result (all_of source.now tokens.now) }
 {
     read_all(alloc, source, tokens)
 }

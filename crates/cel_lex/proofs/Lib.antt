@@ -7,6 +7,7 @@ pub mod TextNext
 pub mod PieceNext
 pub mod Meaning
 pub mod Cutting
+pub mod Answering
 pub mod Turn
 pub mod Together
 pub mod Closings

@@ -9,4 +9,5 @@ pub mod Spelling
 pub mod Lexis
 pub mod Together
 pub mod Scan
+pub mod Answer
 pub mod Total

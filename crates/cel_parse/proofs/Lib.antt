@@ -1,8 +1,7 @@
 pub mod FewTokens
 pub mod Ranges
 pub mod OneExpression
-pub mod Total
-pub mod Refusals
+pub mod Parsed
 pub mod Marks
 pub mod Expanded
 pub mod ExpandedDepths

@@ -2,4 +2,5 @@ pub mod Macros
 pub mod Expansion
 pub mod Depths
 pub mod Parsing
+pub mod Parsed
 pub mod Total

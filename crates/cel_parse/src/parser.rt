@@ -1,6 +1,6 @@
 //! The expression of a text.
 
-ghost use Rattle.std.specs.Prelude.{◌≡◌, ◌≤◌, ℕ, List, IfOk, IsErrOf};
+ghost use Rattle.std.specs.Prelude.{◌≡◌, ◌≤◌, ◌↔◌, ℕ, List, Ok, Err, IfOk, IsErrOf};
 ghost use Rattle.cel_lex.specs.declared.token.Token.{Token};
 ghost use Rattle.cel_lex.specs.declared.fault.LexFault.{LexFault};
 ghost use Rattle.cel_parse.specs.declared.expr.Expr.{Expr};
@@ -11,7 +11,9 @@ ghost use Rattle.cel_lex.specs.Lexis.{IsCut};
 ghost use Rattle.cel_grammar.specs.declared.tree.Tree.{Tree};
 ghost use Rattle.cel_grammar.specs.Limits.{depth};
 ghost use Rattle.cel_grammar.specs.Trees.{IsTree};
+ghost use Rattle.cel_grammar.specs.Views.{same, Gives};
 ghost use Rattle.cel_parse.specs.Depths.{depth_of};
+ghost use Rattle.cel_parse.specs.Parsed.{parsed};
 ghost use Rattle.cel_parse.specs.Parsing.{IsParsed, IsRefused};
 ghost use Rattle.cel_parse.specs.Total.{IsAnswered};
 
@@ -22,15 +24,9 @@ use cel_grammar::{ParseError, ParseFault, tree_of};
 use cel_lex::tokens;
 use std::alloc::Global;
 
-/// The expression that a text spells.
-pub fn parse(alloc: Global, text: &str) -> Result<Expr, ParseError>
-    // The text spells the expression that is answered.
-    ensures parsed { IfOk result (λ e. IsParsed text.now e) }
-    // A text is refused only for the fault that is answered.
-    ensures refused { (f : ParseFault) → IsErrOf result (errors.Fault f) → IsRefused text.now f }
-    // The expression is as deep as the text's tree is counted, which is 100 at most.
-    ensures depth { IfOk result (λ e. (ts : List Token) (tree : Tree) → IsCut text.now ts → IsTree text.now ts tree → depth_of e ≡ depth text.now tree) }
-    ensures shallow { IfOk result (λ e. depth_of e ≤ 100) }
+// The expression of a text, or its fault, by a function of the text.
+fn read(alloc: Global, text: &str) -> Result<Expr, ParseError>
+    ensures { Gives same result (parsed text.now) }
 {
     let cut = tokens(alloc, text)?;
     let boxed = tree_of(alloc, text, cut.as_slice())?;
@@ -41,8 +37,24 @@ pub fn parse(alloc: Global, text: &str) -> Result<Expr, ParseError>
     Ok(expand(alloc, text, tree)?.into_inner())
 }
 
+/// The expression that a text spells.
+pub fn parse(alloc: Global, text: &str) -> Result<Expr, ParseError>
+    // The text spells the expression that is answered.
+    ensures parsed { IfOk result (λ e. IsParsed text.now e) }
+    // A text is refused only for the fault that is answered.
+    ensures refused { (f : ParseFault) → IsErrOf result (errors.Fault f) → IsRefused text.now f }
+    // The answer is a function of the text, so that its fault is one where the grammar leaves a choice, too.
+    ensures read { Gives same result (parsed text.now) }
+    // The expression is as deep as the text's tree is counted, which is 100 at most.
+    ensures depth { IfOk result (λ e. (ts : List Token) (tree : Tree) → IsCut text.now ts → IsTree text.now ts tree → depth_of e ≡ depth text.now tree) }
+    ensures shallow { IfOk result (λ e. depth_of e ≤ 100) }
+{
+    read(alloc, text)
+}
+
 /// A text spells one expression or is refused, and not both. Where a character, a number or a macro refuses it, nothing
-/// else does, and no token is unexpected but one.
+/// else does, and no token is unexpected but one. What [`parse`] answers as a function of the text is the expression
+/// that the text spells, or a fault for which it is refused.
 pub fn one_expression()
     ensures expressions { (text : List ℕ) (a b : Expr) → IsParsed text a → IsParsed text b → a ≡ b }
     ensures either { (text : List ℕ) (e : Expr) (f : ParseFault) → IsParsed text e → IsRefused text f → ⊥ }
@@ -50,4 +62,6 @@ pub fn one_expression()
     ensures places { (text : List ℕ) (p q : ℕ) → IsRefused text (Unexpected p) → IsRefused text (Unexpected q) → p ≡ q }
     ensures macros { (text : List ℕ) (p : ℕ) (g : ParseFault) → IsRefused text (BadMacro p) → IsRefused text g → g ≡ BadMacro p }
     ensures some { (text : List ℕ) → IsAnswered text }
+    ensures spelled { (text : List ℕ) (e : Expr) → IsParsed text e ↔ (parsed text ≡ Ok e) }
+    ensures told { (text : List ℕ) (f : ParseFault) → parsed text ≡ Err f → IsRefused text f }
 {}
