@@ -9,3 +9,6 @@ pub mod Runs
 mod WorkedRows
 mod Sizes
 mod Parts
+pub mod Jumped
+pub mod Unique
+pub mod Written

@@ -1,6 +1,6 @@
 -- Instructions stay where they were put.
 use Rattle.std.proofs.Common.{◌≡◌, ◌≢◌, ℕ, zero, suc, ◌+◌, ◌<◌, ◌≤◌, List, [], ◌∷◌, ◌++◌, length, Some, refl, sym, ap, ◌∙◌, subst, arith, length-append}
-use Rattle.std.specs.Prelude.{slice_get, slice_set}
+use Rattle.std.specs.Prelude.{slice_get, slice_set, Contains}
 use Rattle.std.proofs.Math.ListN.{length-set}
 use Rattle.cel_value.specs.declared.value.Value.{Value}
 use Rattle.cel_code.specs.declared.cel_check.operator.Operator.{Operator}
@@ -20,6 +20,16 @@ get_before (x ∷ xs) y (suc i) h = get_before xs y i (omega arith)
 pub get_last : {X : Type 0} (xs : List X) (y : X) → slice_get (xs ++ y ∷ []) (length xs) ≡ Some y
 get_last [] y = refl
 get_last (x ∷ xs) y = get_last xs y
+
+get_kept : {X : Type 0} (xs : List X) (y : X) (i : ℕ) (x : X) → slice_get xs i ≡ Some x → slice_get (xs ++ y ∷ []) i ≡ Some x
+get_kept [] y i x h = cc
+get_kept (x' ∷ xs) y zero x h = h
+get_kept (x' ∷ xs) y (suc i) x h = get_kept xs y i x h
+
+pub contains_at : (us : List Value) (k : ℕ) (v : Value) → slice_get us k ≡ Some v → Contains us v
+contains_at [] k v h = cc
+contains_at (u ∷ us) zero v h = (0, omega arith, cc)
+contains_at (u ∷ us) (suc k) v h = let (n, within, is) = contains_at us k v h in (suc n, omega arith, is)
 
 -- another element at a place
 get_set : {X : Type 0} (xs : List X) (m : ℕ) (y : X) → m < length xs → slice_get (slice_set xs m y) m ≡ Some y
@@ -107,6 +117,11 @@ keeps_patched a b m i le k =
 has_put : (c : Code) (i : Instr) → Has (with_instr c i) (length c.instrs) i
 has_put c i = record { is = get_last c.instrs i }
 
+pub interned : (old new : Code) (v w : Value) → w ≡ v → new.constants ≡ old.constants ++ w ∷ [] → new.instrs ≡ old.instrs → Interns old new v (length old.constants)
+interned old new v w same added code =
+    let added : new.constants ≡ old.constants ++ v ∷ [] = rw (sym same) added in
+    record { instrs = code; constant = rw added (get_last old.constants v); kept = λ k x h. rw added (get_kept old.constants v k x h) }
+
 keeps_interned : (old new : Code) (v : Value) (k : ℕ) → Interns old new v k → Keeps old new
 keeps_interned old new v k n =
     record { grows = omega (arith, ap length n.instrs); same = record { instr = λ i p q. ap (λ is. slice_get is i) n.instrs; constant = n.kept } }
@@ -165,21 +180,21 @@ two_sides old c1 c3 a b j last ea eb =
     let there : Has new n last = has_moved c4 new last n (m + 1) (n + 1) (has_put c3 last) (same_after c4 m (n + 1) (j to)) (omega (arith, l2, g)) (omega arith) in
     (record { m = m; n = n; left = moved c1 new a _ _ ea.stands (narrow c1 new 0 m _ _ s1 (omega arith) (omega arith)); test = here; right = moved c3 new b (m + 1) n sb s3; join = there; next = l5 ∙ l4 }, keeps_patched old c4 m (j to) ea.keeps.grows (keeps_on old c1 c4 ea.keeps (keeps_on c1 c2 c4 (keeps_put c1 (j 0)) (keeps_on c2 c3 c4 eb.keeps (keeps_put c3 last)))))
 
-pub emits_both : (old c1 c2 c3 c4 c5 new : Code) (e a b a' b' : TypedTree) (m to : ℕ) → (out-TypedTree e).form ≡ form.And a b → a' ≡ a → b' ≡ b → Emits old c1 a' → m ≡ length c1.instrs → c2 ≡ with_instr c1 (AndTest 0) → Emits c2 c3 b' → c4 ≡ with_instr c3 And → to ≡ length c4.instrs → c5 ≡ patched c4 m (AndTest to) → new ≡ c5 → Emits old new e
-emits_both old c1 c2 c3 c4 c5 new e a b a' b' m to is sa sb ea em e2 eb e4 et e5 en =
+pub emits_both : (old c1 c2 c3 c4 new : Code) (e a b a' b' : TypedTree) (m to : ℕ) → (out-TypedTree e).form ≡ form.And a b → a' ≡ a → b' ≡ b → Emits old c1 a' → m ≡ length c1.instrs → c2 ≡ with_instr c1 (AndTest 0) → Emits c2 c3 b' → c4 ≡ with_instr c3 And → to ≡ length c4.instrs → new ≡ patched c4 m (AndTest to) → Emits old new e
+emits_both old c1 c2 c3 c4 new e a b a' b' m to is sa sb ea em e2 eb e4 et e5 =
     let ea : Emits old c1 a = rw (sym sa) ea in
     let eb : Emits (with_instr c1 (AndTest 0)) c3 b = rw (sym sb, sym e2) eb in
     let r = two_sides old c1 c3 a b AndTest And ea eb in
     let s = r.0 in
-    rw (en, e5, em, et, e4) (record { stands = both a b s.m s.n (record { is = is }) s.left s.test s.right s.join s.next; keeps = r.1 })
+    rw (e5, em, et, e4) (record { stands = both a b s.m s.n (record { is = is }) s.left s.test s.right s.join s.next; keeps = r.1 })
 
-pub emits_either : (old c1 c2 c3 c4 c5 new : Code) (e a b a' b' : TypedTree) (m to : ℕ) → (out-TypedTree e).form ≡ form.Or a b → a' ≡ a → b' ≡ b → Emits old c1 a' → m ≡ length c1.instrs → c2 ≡ with_instr c1 (OrTest 0) → Emits c2 c3 b' → c4 ≡ with_instr c3 Or → to ≡ length c4.instrs → c5 ≡ patched c4 m (OrTest to) → new ≡ c5 → Emits old new e
-emits_either old c1 c2 c3 c4 c5 new e a b a' b' m to is sa sb ea em e2 eb e4 et e5 en =
+pub emits_either : (old c1 c2 c3 c4 new : Code) (e a b a' b' : TypedTree) (m to : ℕ) → (out-TypedTree e).form ≡ form.Or a b → a' ≡ a → b' ≡ b → Emits old c1 a' → m ≡ length c1.instrs → c2 ≡ with_instr c1 (OrTest 0) → Emits c2 c3 b' → c4 ≡ with_instr c3 Or → to ≡ length c4.instrs → new ≡ patched c4 m (OrTest to) → Emits old new e
+emits_either old c1 c2 c3 c4 new e a b a' b' m to is sa sb ea em e2 eb e4 et e5 =
     let ea : Emits old c1 a = rw (sym sa) ea in
     let eb : Emits (with_instr c1 (OrTest 0)) c3 b = rw (sym sb, sym e2) eb in
     let r = two_sides old c1 c3 a b OrTest Or ea eb in
     let s = r.0 in
-    rw (en, e5, em, et, e4) (record { stands = either a b s.m s.n (record { is = is }) s.left s.test s.right s.join s.next; keeps = r.1 })
+    rw (e5, em, et, e4) (record { stands = either a b s.m s.n (record { is = is }) s.left s.test s.right s.join s.next; keeps = r.1 })
 
 -- where a condition and its two branches stand, with both jumps patched
 record ThreeParts (new : Code) (c a b : TypedTree) (from : ℕ) : Type 0 where
@@ -224,22 +239,21 @@ three_parts old c1 c3 c5 c a b ec ea eb =
     let k5 = keeps_on old c1 c5 ec.keeps (keeps_on c1 c2 c5 (keeps_put c1 (Cond 0 0)) (keeps_on c2 c3 c5 ea.keeps (keeps_on c3 c4 c5 (keeps_put c3 (Jump 0)) eb.keeps))) in
     (record { m = m; n = n; condition = moved c1 new c _ _ ec.stands (narrow c1 new 0 m _ _ s1 (omega arith) (omega arith)); test = hm; yes = moved c3 new a (m + 1) n sa s3; jump = hn; no_branch = sb' }, keeps_patched old c6 n j (omega (arith, ec.keeps.grows, l2, ga)) (keeps_patched old c5 m i ec.keeps.grows k5))
 
-pub emits_conditional : (old c1 c2 c3 c4 c4' c5 c6 c7 new : Code) (e c a b c' a' b' : TypedTree) (m n to : ℕ) → (out-TypedTree e).form ≡ form.Conditional c a b → c' ≡ c → a' ≡ a → b' ≡ b → Emits old c1 c' → m ≡ length c1.instrs → c2 ≡ with_instr c1 (Cond 0 0) → Emits c2 c3 a' → n ≡ length c3.instrs → c4 ≡ with_instr c3 (Jump 0) → c4' ≡ c4 → Emits c4' c5 b' → to ≡ length c5.instrs → c6 ≡ patched c5 m (Cond (n + 1) to) → c7 ≡ patched c6 n (Jump to) → new ≡ c7 → Emits old new e
-emits_conditional old c1 c2 c3 c4 c4' c5 c6 c7 new e c a b c' a' b' m n to is sc sa sb ec em e2 ea en e4 e4' eb et e6 e7 e8 =
-    let ec : Emits old c1 c = rw (sym sc) ec in
-    let ea : Emits (with_instr c1 (Cond 0 0)) c3 a = rw (sym sa, sym e2) ea in
-    let eb : Emits (with_instr c3 (Jump 0)) c5 b = rw (sym sb, sym e4, sym e4') eb in
+pub emits_conditional : (old c1 c2 c3 c4 c4' c5 c6 new : Code) (e c a b : TypedTree) (m n to : ℕ) → (out-TypedTree e).form ≡ form.Conditional c a b → Emits old c1 c → m ≡ length c1.instrs → c2 ≡ with_instr c1 (Cond 0 0) → Emits c2 c3 a → n ≡ length c3.instrs → c4 ≡ with_instr c3 (Jump 0) → c4' ≡ c4 → Emits c4' c5 b → to ≡ length c5.instrs → c6 ≡ patched c5 m (Cond (n + 1) to) → new ≡ patched c6 n (Jump to) → Emits old new e
+emits_conditional old c1 c2 c3 c4 c4' c5 c6 new e c a b m n to is ec em e2 ea en e4 e4' eb et e6 e7 =
+    let ea : Emits (with_instr c1 (Cond 0 0)) c3 a = rw (sym e2) ea in
+    let eb : Emits (with_instr c3 (Jump 0)) c5 b = rw (sym e4, sym e4') eb in
     let r = three_parts old c1 c3 c5 c a b ec ea eb in
     let s = r.0 in
-    rw (e8, e7, e6, em, en, et) (record { stands = conditional c a b s.m s.n (record { is = is }) s.condition s.test s.yes s.jump s.no_branch; keeps = r.1 })
+    rw (e7, e6, em, en, et) (record { stands = conditional c a b s.m s.n (record { is = is }) s.condition s.test s.yes s.jump s.no_branch; keeps = r.1 })
 
--- an expression's instructions stand behind nothing, and End behind them
-pub record Whole (all : Code) (e : TypedTree) : Type 0 where
-  pub to : ℕ
-  pub stands : Stands all e 0 to
-  pub ends : Has all to End
+-- an expression's instructions stand behind nothing, and END behind them
+pub record Whole (all : Code) (e : TypedTree) (count : ℕ) : Type 0 where
+  pub stands : Stands all e 0 count
+  pub ends : Has all count End
+  pub whole : length all.instrs ≡ count + 1
 
-pub placed : (empty new all : Code) (e : TypedTree) → empty.instrs ≡ [] → Emits empty new e → all ≡ with_instr new End → Whole all e
-placed empty new all e e0 em e1 =
+pub placed : (empty new all : Code) (e : TypedTree) (count : ℕ) → empty.instrs ≡ [] → Emits empty new e → all ≡ with_instr new End → length new.instrs ≡ count → Whole all e count
+placed empty new all e count e0 em e1 size =
     let s : Stands new e 0 (length new.instrs) = subst (λ is. Stands new e (length is) (length new.instrs)) e0 em.stands in
-    rw e1 (record { to = length new.instrs; stands = moved new (with_instr new End) e 0 (length new.instrs) s (same_put new End); ends = has_put new End })
+    rw (e1, sym size) (record { stands = moved new (with_instr new End) e 0 (length new.instrs) s (same_put new End); ends = has_put new End; whole = length_put new End })

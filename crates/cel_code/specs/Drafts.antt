@@ -1,7 +1,28 @@
 -- Code that is being written.
+use Rattle.std.specs.Prelude.{◌≡◌, ℕ, ◌+◌, List, ◌++◌, length}
+use Rattle.cel_value.specs.declared.cel_type.CelType.{CelType}
+use Rattle.cel_value.specs.declared.value.Value.{Value}
+use Rattle.cel_code.specs.declared.cel_check.tree.TypedTree.{TypedTree}
 use Rattle.cel_code.specs.declared.compiler.Draft.{Draft}
+use Rattle.cel_code.specs.declared.image.Target.{Target}
+use Rattle.cel_code.specs.Compiled.{EachOnce, layout_of, targets_from}
 use Rattle.cel_code.specs.Placed.{Code}
 
 -- the constants and the instructions so far
 abbrev pub drafted : Draft → Code
 drafted draft = record { constants = draft.constants; instrs = draft.code }
+
+-- so many instructions are written more, for these literals, and these targets
+pub record Grows (old new : Draft) (count : ℕ) (literals : List Value) (more : List Target) : Type 0 where
+  pub size : length new.code ≡ length old.code + count
+  pub constants : (before : List Value) → EachOnce before old.constants → EachOnce (before ++ literals) new.constants
+  pub targets : new.targets ≡ old.targets ++ more
+  pub below : new.below ≡ old.below
+
+-- an expression is written over operands of these types, without the target at its end
+pub record WritesWithin (old new : Draft) (e : TypedTree) (below : List CelType) : Type 0 where
+  pub grows : Grows old new (layout_of e).size (layout_of e).literals ((layout_of e).within (length old.code) below)
+
+-- an expression is written over operands of these types
+pub record Writes (old new : Draft) (e : TypedTree) (below : List CelType) : Type 0 where
+  pub grows : Grows old new (layout_of e).size (layout_of e).literals (targets_from (layout_of e) (length old.code) below)

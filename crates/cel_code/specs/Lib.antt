@@ -1,5 +1,7 @@
+pub mod Compiled
 pub mod Correct
 pub mod Drafts
+pub mod Jumps
 pub mod Machine
 pub mod Meaning
 pub mod Operators

@@ -1,10 +1,13 @@
-ghost use Rattle.std.specs.Prelude.{◌≡◌, ◌<◌, [], length, IfOk, OnOk, IsTrue, List};
+ghost use Rattle.std.specs.Prelude.{◌≡◌, ◌+◌, ◌<◌, ℕ, [], ◌∷◌, ◌++◌, length, slice_get, Contains, IfOk, OnOk, IsTrue, List, Some, MatchOption};
+ghost use Rattle.cel_code.specs.declared.image.Image.{Image};
 ghost use Rattle.cel_code.specs.Outcomes.{Outcome, slots_fit, outcome_fits, outside};
 ghost use Rattle.cel_code.specs.Meaning.{value_of, type_of};
 ghost use Rattle.cel_code.specs.Placed.{with_instr, patched, Interns, IsForm, Emits};
 ghost use Rattle.cel_code.specs.declared.cel_check.tree.Form.TheVariants as form;
-ghost use Rattle.cel_code.specs.Drafts.{drafted};
+ghost use Rattle.cel_code.specs.Compiled.{IsCompiled, joins_at, target};
+ghost use Rattle.cel_code.specs.Drafts.{drafted, Grows, Writes, WritesWithin};
 ghost use Rattle.cel_code.specs.Correct.{Computes};
+ghost use Rattle.cel_code.specs.Jumps.{TargetsAreJumps};
 
 use crate::cel_check::{Form, Typed, TypedTree};
 use crate::image::{Image, Target};
@@ -14,8 +17,12 @@ use plain::Items;
 use std::alloc::{AllocError, Global};
 
 /// The image of an expression: its run gives the expression's value or error, and charges exactly what the
-/// expression costs. Constants stand in the order of their first use, each once.
+/// expression costs. Constants stand in the order of their first use, each once, and targets in the order of places.
 pub fn compile(alloc: Global, typed: &Typed) -> Result<Image, AllocError>
+    ensures compiled { IfOk result (λ image. IsCompiled image typed.now.tree typed.now.slots) }
+    // No other image is that.
+    ensures only { IfOk result (λ image. (other : Image) → IsCompiled other typed.now.tree typed.now.slots → other ≡ image) }
+    ensures jumps { IfOk result TargetsAreJumps }
     ensures computes { IfOk result (λ image. Computes image typed.now.tree) }
     ensures slots { IfOk result (λ image. image.slots ≡ typed.now.slots) }
     ensures outcome { IfOk result (λ image. image.result ≡ type_of typed.now.tree) }
@@ -52,9 +59,18 @@ struct Draft {
     below: Items<CelType>,
 }
 
+/// Whether jumps of an expression go to its end.
+fn joins(form: &Form<TypedTree>) -> bool
+    ensures { result ≡ joins_at form.now }
+{
+    matches!(form, Form::And(..) | Form::Or(..) | Form::Conditional(..))
+}
+
 impl Draft {
     fn new(alloc: Global) -> Draft
-        ensures { drafted result ≡ record { constants = []; instrs = [] } }
+        ensures code { drafted result ≡ record { constants = []; instrs = [] } }
+        ensures targets { result.targets ≡ [] }
+        ensures below { result.below ≡ [] }
     {
         Draft {
             alloc,
@@ -67,7 +83,8 @@ impl Draft {
 
     /// One more instruction.
     fn put(&mut self, instr: Instr) -> Result<(), AllocError>
-        ensures { OnOk result (drafted self.new ≡ with_instr (drafted self.old) instr) }
+        ensures code { OnOk result (drafted self.new ≡ with_instr (drafted self.old) instr) }
+        ensures grows { OnOk result (Grows self.old self.new 1 [] []) }
     {
         self.code.push(instr)
     }
@@ -82,47 +99,76 @@ impl Draft {
     /// Another instruction at a place.
     fn patch(&mut self, at: usize, instr: Instr)
         requires { at < length self.old.code }
-        ensures { drafted self.new ≡ patched (drafted self.old) at instr }
+        ensures code { drafted self.new ≡ patched (drafted self.old) at instr }
+        ensures grows { Grows self.old self.new 0 [] [] }
     {
         self.code.set(at, instr);
     }
 
-    /// The number of a constant, which is added where it is not there.
-    fn intern(&mut self, value: &Value) -> Result<usize, AllocError>
-        ensures { IfOk result (λ k. Interns (drafted self.old) (drafted self.new) value.now k) }
+    /// The number under which a constant stands, if it does.
+    fn number_of(&self, value: &Value) -> Option<usize>
+        ensures { MatchOption result (¬ Contains self.now.constants value.now) (λ k. slice_get self.now.constants k ≡ Some value.now) }
     {
         for (number, constant) in self.constants.as_slice().iter().enumerate() {
             if equal(constant, value) {
-                return Ok(number);
+                return Some(number);
             }
+        }
+        None
+    }
+
+    /// The number of a constant, which is added where it is not there.
+    fn intern(&mut self, value: &Value) -> Result<usize, AllocError>
+        ensures number { IfOk result (λ k. Interns (drafted self.old) (drafted self.new) value.now k) }
+        ensures grows { IfOk result (λ k. Grows self.old self.new 0 (value.now ∷ []) []) }
+    {
+        if let Some(number) = self.number_of(value) {
+            return Ok(number);
         }
         let number = self.constants.len();
         self.constants.push(value.copy(self.alloc)?)?;
         Ok(number)
     }
 
-    /// Jumps arrive at the next instruction, with a value of this type on the stack, or with nothing more. Where they
-    /// do already, the wider type counts, which is that of the expression outside.
-    fn arrive(&mut self, top: Option<&CelType>) -> Result<(), AllocError>
-        ensures { OnOk result (drafted self.new ≡ drafted self.old) }
+    /// Jumps arrive at the next instruction, over nothing more on the stack.
+    fn arrive(&mut self) -> Result<(), AllocError>
+        ensures code { OnOk result (drafted self.new ≡ drafted self.old) }
+        ensures grows { OnOk result (Grows self.old self.new 0 [] (target (length self.old.code) self.old.below ∷ [])) }
     {
+        let types = Items::from_vec(copy_types(self.alloc, self.below.as_slice())?);
         let at = self.len();
-        let mut types = Items::from_vec(copy_types(self.alloc, self.below.as_slice())?);
-        if let Some(cel_type) = top {
-            types.push(cel_type.copy(self.alloc)?)?;
-        }
-        if let Some(last) = self.targets.pop() {
-            if last.at != at {
-                self.targets.push(last)?;
-            }
-        }
         self.targets.push(Target { at, types })
     }
 
-    /// The instructions of an expression.
+    /// Jumps arrive at the next instruction, with a value of this type on the stack.
+    fn arrive_with(&mut self, top: &CelType) -> Result<(), AllocError>
+        ensures code { OnOk result (drafted self.new ≡ drafted self.old) }
+        ensures grows { OnOk result (Grows self.old self.new 0 [] (target (length self.old.code) (self.old.below ++ top.now ∷ []) ∷ [])) }
+    {
+        let mut types = Items::from_vec(copy_types(self.alloc, self.below.as_slice())?);
+        types.push(top.copy(self.alloc)?)?;
+        let at = self.len();
+        self.targets.push(Target { at, types })
+    }
+
+    /// The instructions of an expression, and the target at its end where jumps go there.
     #[cycle(emit)]
     fn emit(&mut self, tree: &TypedTree) -> Result<(), AllocError>
-        ensures { OnOk result (Emits (drafted self.old) (drafted self.new) tree.now) }
+        ensures stands { OnOk result (Emits (drafted self.old) (drafted self.new) tree.now) }
+        ensures writes { OnOk result (Writes self.old self.new tree.now self.old.below) }
+    {
+        self.emit_within(tree)?;
+        if joins(&tree.form) {
+            return self.arrive_with(&tree.cel_type);
+        }
+        Ok(())
+    }
+
+    /// The instructions of an expression, and the targets before its end.
+    #[cycle(emit)]
+    fn emit_within(&mut self, tree: &TypedTree) -> Result<(), AllocError>
+        ensures stands { OnOk result (Emits (drafted self.old) (drafted self.new) tree.now) }
+        ensures writes { OnOk result (WritesWithin self.old self.new tree.now self.old.below) }
     {
         match &tree.form {
             Form::Literal(value) => {
@@ -145,7 +191,7 @@ impl Draft {
                 self.emit_over(right.get(), &left.get().cel_type)?;
                 self.put(Instr::And)?;
                 self.patch(test, Instr::AndTest(self.len()));
-                self.arrive(Some(&tree.cel_type))
+                Ok(())
             }
             Form::Or(left, right) => {
                 self.emit(left.get())?;
@@ -154,7 +200,7 @@ impl Draft {
                 self.emit_over(right.get(), &left.get().cel_type)?;
                 self.put(Instr::Or)?;
                 self.patch(test, Instr::OrTest(self.len()));
-                self.arrive(Some(&tree.cel_type))
+                Ok(())
             }
             Form::Conditional(condition, yes, no) => {
                 self.emit_conditional(tree, condition.get(), yes.get(), no.get())
@@ -162,7 +208,8 @@ impl Draft {
         }
     }
 
-    /// The instructions of a condition and of its branches.
+    /// The instructions of a condition and of its branches. The second branch ends where the conditional does, whose
+    /// type is the wider, so the target there is not the branch's.
     #[cycle(emit)]
     fn emit_conditional(
         &mut self,
@@ -172,7 +219,8 @@ impl Draft {
         no: &TypedTree,
     ) -> Result<(), AllocError>
         requires { IsForm tree.now (form.Conditional condition.now yes.now no.now) }
-        ensures { OnOk result (Emits (drafted self.old) (drafted self.new) tree.now) }
+        ensures stands { OnOk result (Emits (drafted self.old) (drafted self.new) tree.now) }
+        ensures writes { OnOk result (WritesWithin self.old self.new tree.now self.old.below) }
     {
         self.emit(condition)?;
         let test = self.len();
@@ -180,18 +228,19 @@ impl Draft {
         self.emit(yes)?;
         let jump = self.len();
         self.put(Instr::Jump(0))?;
-        self.arrive(None)?;
-        self.emit(no)?;
+        self.arrive()?;
+        self.emit_within(no)?;
         let end = self.len();
         self.patch(test, Instr::Cond(jump + 1, end));
         self.patch(jump, Instr::Jump(end));
-        self.arrive(Some(&tree.cel_type))
+        Ok(())
     }
 
     /// The instructions of an expression that is evaluated over an operand of a type.
     #[cycle(emit)]
     fn emit_over(&mut self, tree: &TypedTree, left: &CelType) -> Result<(), AllocError>
-        ensures { OnOk result (Emits (drafted self.old) (drafted self.new) tree.now) }
+        ensures stands { OnOk result (Emits (drafted self.old) (drafted self.new) tree.now) }
+        ensures writes { OnOk result (Writes self.old self.new tree.now (self.old.below ++ left.now ∷ [])) }
     {
         self.below.push(left.copy(self.alloc)?)?;
         self.emit(tree)?;

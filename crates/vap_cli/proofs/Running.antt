@@ -4,6 +4,7 @@ use Rattle.std.specs.Prelude.{Ok}
 use Rattle.cel_value.specs.declared.cel_type.CelType.{CelType}
 use Rattle.cel_code.specs.declared.cel_check.tree.TypedTree.{TypedTree}
 use Rattle.cel_code.specs.declared.image.Image.{Image}
+use Rattle.cel_code.specs.Compiled.{IsCompiled}
 use Rattle.cel_code.specs.Correct.{Computes}
 use Rattle.cel_code.specs.Meaning.{value_of, type_of}
 use Rattle.cel_code.specs.Outcomes.{Outcome, outcome_fits, outside}
@@ -36,12 +37,12 @@ program_gives image program slots tree x charged steps computes fits same none r
     let r : Run image [] x charged steps = rw (sym same, sym none) run in
     run_gives image tree x charged steps computes fits r
 
--- a refusal of an image that computes an expression
-pub not_run : (tree : TypedTree) (image : Image) (error : VerifyError) (why : Refusal) (e : EvaluationError) → Computes image tree → IsRefused image error → e ≡ from_verifying error → e ≡ Refused why → IsNotRunFor tree why
-not_run tree image verifying.OutOfMemory why e computes refused from is = cc
-not_run tree image (verifying.Fault f) why e computes refused from is =
+-- a refusal of the image that an expression without slots compiles to
+pub not_run : (tree : TypedTree) (image : Image) (types : List CelType) (error : VerifyError) (why : Refusal) (e : EvaluationError) → IsCompiled image tree types → types ≡ [] → IsRefused image error → e ≡ from_verifying error → e ≡ Refused why → IsNotRunFor tree why
+not_run tree image types verifying.OutOfMemory why e compiled none refused from is = cc
+not_run tree image types (verifying.Fault f) why e compiled none refused from is =
     let same : refusal.Unverified f.at ≡ why = cc in
-    subst (IsNotRunFor tree) same (record { image = image; computes = computes; fault = f; faulty = refused.0; here = refl })
+    subst (IsNotRunFor tree) same (record { image = image; compiled = rw none at compiled; fault = f; faulty = refused.0; here = refl })
 
 -- a text whose expression is not run is refused for that
 pub not_run_text : (text : List ℕ) (tree : TypedTree) (why : Refusal) → IsChecked text (Ok tree) → IsNotRunFor tree why → IsRefusedFor text why

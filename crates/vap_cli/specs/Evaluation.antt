@@ -8,7 +8,7 @@ use Rattle.cel_code.specs.declared.cel_check.fault.CheckError.{CheckError}
 use Rattle.cel_code.specs.declared.cel_check.fault.CheckError.TheVariants as checking
 use Rattle.cel_code.specs.declared.cel_check.tree.TypedTree.{TypedTree}
 use Rattle.cel_code.specs.declared.image.Image.{Image}
-use Rattle.cel_code.specs.Correct.{Computes}
+use Rattle.cel_code.specs.Compiled.{IsCompiled}
 use Rattle.cel_code.specs.Meaning.{value_of}
 use Rattle.cel_code.specs.Outcomes.{Outcome, outside}
 use Rattle.cel_code.specs.Typing.{Names, Checked, checked_within}
@@ -39,15 +39,15 @@ pub record ComesTo (text : List ℕ) (outcome : Outcome) : Type 0 where
   pub typed : IsChecked text (Ok tree)
   pub value : value_of tree (outside []) ≡ Some outcome
 
--- an image that computes the expression has a fault at this instruction
+-- the image that the expression compiles to has a fault at this instruction
 pub record IsFaulty (tree : TypedTree) (at : ℕ) : Type 0 where
   pub image : Image
-  pub computes : Computes image tree
+  pub compiled : IsCompiled image tree []
   pub fault : VerifyFault
   pub faulty : IsFault image fault
   pub here : fault.at ≡ at
 
--- the text spells an expression that has a type, and of which an image is faulty
+-- the text spells an expression that has a type, and whose image is faulty
 pub record IsUnverified (text : List ℕ) (at : ℕ) : Type 0 where
   pub tree : TypedTree
   pub typed : IsChecked text (Ok tree)

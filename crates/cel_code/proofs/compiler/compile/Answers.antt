@@ -1,7 +1,7 @@
-use Rattle.std.proofs.Common.{ap, subst}
-use Rattle.cel_code.specs.Drafts.{drafted}
-use Rattle.cel_code.specs.Placed.{Emits}
-use Rattle.cel_code.proofs.Place.{placed}
+use Rattle.std.proofs.Common.{refl, rules}
+use Rattle.cel_code.proofs.Jumped.{targets_are_jumps}
+use Rattle.cel_code.proofs.Unique.{one_image}
+use Rattle.cel_code.proofs.Written.{compiled}
 use Rattle.cel_code.proofs.Runs.{computes}
 use Rattle.cel_code.proofs.Preserved.{preserved_outside}
 use Rattle.cel_code.proofs.compiler.compile.Goals as goal
@@ -18,11 +18,15 @@ returns-in_err-emit-clause-preserves c = preserved_outside c.args.typed.now
 pub returns-in_err-put-clause-preserves : goal.returns-in_err-put-clause-preserves
 returns-in_err-put-clause-preserves c = preserved_outside c.args.typed.now
 
-pub returns-clause-computes : goal.returns-clause-computes
-returns-clause-computes c =
-    let emitted = subst (Emits (drafted c.new-draft.result) (drafted c.emit.new.self)) c.get.ensures c.in_ok-emit.ensures in
-    let p = placed _ _ _ c.args.typed.now.tree (ap (λ d. d.instrs) c.new-draft.ensures) emitted c.in_ok-put.ensures in
-    computes _ c.args.typed.now.tree p.to p.stands p.ends
-
-pub returns-clause-preserves : goal.returns-clause-preserves
-returns-clause-preserves c = preserved_outside c.args.typed.now
+pub returns : goal.returns
+returns c =
+    let is = compiled c.new-draft.result c.emit.new.self c.put.new.self _ _ c.args.typed.now.tree c.args.typed.now.slots c.get.ensures c.new-draft.ensures.code c.new-draft.ensures.targets c.new-draft.ensures.below c.in_ok-emit.ensures.stands c.in_ok-emit.ensures.writes c.in_ok-put.ensures.code c.in_ok-put.ensures.grows refl refl (search rules) (search rules) in
+    record {
+      compiled = is;
+      only = λ other other_is. one_image other _ c.args.typed.now.tree c.args.typed.now.slots other_is is;
+      jumps = targets_are_jumps _ c.args.typed.now.tree c.args.typed.now.slots is;
+      computes = computes _ c.args.typed.now.tree _ is.stands is.ends;
+      slots = is.slots;
+      outcome = is.result;
+      preserves = preserved_outside c.args.typed.now;
+    }

@@ -7,4 +7,4 @@ returns-clause-comes c =
     program_gives c.in_ok-image.image c.in-Ok.program _ c.args.typed.now.tree _ _ _ c.in_ok-image.ensures.computes (c.in_ok-image.ensures.preserves _ (rw c.requires refl)) c.in-Ok.ensures.accepted.0 (c.new-slots.ensures ∙ c.new.ensures.items) c.in_ok-run.ensures.run
 
 pub returns-in-Err-clause-refused : goal.returns-in-Err-clause-refused
-returns-in-Err-clause-refused c = λ why is. not_run c.args.typed.now.tree c.in_ok-image.image c.in-Err.error why c.from.result c.in_ok-image.ensures.computes c.in-Err.ensures.accepted c.from.ensures cc
+returns-in-Err-clause-refused c = λ why is. not_run c.args.typed.now.tree c.in_ok-image.image _ c.in-Err.error why c.from.result c.in_ok-image.ensures.compiled c.requires c.in-Err.ensures.accepted c.from.ensures cc
