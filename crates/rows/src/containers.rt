@@ -1,10 +1,50 @@
-//! What containers hold.
+//! Containers: what is put in stays in, by key.
 
+use crate::asked::{Asked, hold, holds};
 use plain::{Boxed, Items, Keyed, Text, TextMap, is_in_key_order};
 use std::alloc::{AllocError, Global};
 use std::test::Fail;
 
-/// Puts a value under a name, unless one is there.
+/// The characters of a text, copied and moved.
+pub fn text(alloc: Global, row: &str) -> Result<String, AllocError> {
+    let copy = Text::from_str(alloc, row)?.copy()?;
+    let moved = Text::from_string(String::from_str(alloc, copy.as_str())?);
+    String::from_str(alloc, moved.as_str())
+}
+
+/// How many items a list of words has, each of them, and what is behind the last.
+pub fn items(alloc: Global, row: &str) -> Result<String, AllocError> {
+    let mut items = Items::new(alloc);
+    for word in row.split(' ') {
+        items.push(Boxed::new(alloc, Text::from_str(alloc, word)?)?)?;
+    }
+    shown_items(alloc, &items)
+}
+
+fn shown_items(alloc: Global, items: &Items<Boxed<Text>>) -> Result<String, AllocError> {
+    let mut out = format!(in alloc; "{}:", items.len())?;
+    for place in 0..=items.len() {
+        match items.get(place) {
+            Some(boxed) => write!(out, "{};", boxed.get().as_str())?,
+            None => out.push_str("none")?,
+        }
+    }
+    Ok(out)
+}
+
+/// How many entries a map has, and each of them: a word is a name, put in with the number of its place unless it is
+/// there, and `-name` takes it out.
+pub fn map(alloc: Global, row: &str) -> Result<String, AllocError> {
+    let mut map = TextMap::new(alloc);
+    for (place, word) in row.split(' ').enumerate() {
+        match word.strip_prefix('-') {
+            Some(name) => map.remove(name),
+            None => put(alloc, &mut map, word, place)?,
+        }
+    }
+    shown(alloc, &map)
+}
+
 fn put(
     alloc: Global,
     map: &mut TextMap<usize>,
@@ -18,29 +58,9 @@ fn put(
     Ok(())
 }
 
-/// The map of names, each with the number of its first place.
-fn map_of(alloc: Global, names: [&str; 4]) -> Result<TextMap<usize>, AllocError> {
-    let mut map = TextMap::new(alloc);
-    for (place, name) in names.iter().enumerate() {
-        put(alloc, &mut map, name, place)?;
-    }
-    Ok(map)
-}
-
-/// The entries of names, each with the number of its place.
-fn entries_of(alloc: Global, names: [&str; 3]) -> Result<Vec<Keyed<usize>>, AllocError> {
-    let mut entries = Vec::new(alloc);
-    for (value, name) in names.iter().enumerate() {
-        let key = Text::from_str(alloc, name)?;
-        entries.push(Keyed { key, value })?;
-    }
-    Ok(entries)
-}
-
-/// The entries in the order in which they stand.
-fn shown(alloc: Global, entries: &[Keyed<usize>]) -> Result<String, AllocError> {
-    let mut out = String::new(alloc);
-    for entry in entries {
+fn shown(alloc: Global, map: &TextMap<usize>) -> Result<String, AllocError> {
+    let mut out = format!(in alloc; "{}:", map.len())?;
+    for entry in map.as_slice() {
         let key = entry.key.as_str();
         let value = entry.value;
         write!(out, "{key}={value};")?;
@@ -48,15 +68,87 @@ fn shown(alloc: Global, entries: &[Keyed<usize>]) -> Result<String, AllocError> 
     Ok(out)
 }
 
+/// What a map of `a` and `b`, with 0 and 1, has under a name.
+pub fn found(alloc: Global, row: &str) -> Result<String, AllocError> {
+    let mut map = TextMap::new(alloc);
+    put(alloc, &mut map, "a", 0)?;
+    put(alloc, &mut map, "b", 1)?;
+    match map.get(row) {
+        Some(value) => format!(in alloc; "{value}"),
+        None => String::from_str(alloc, "none"),
+    }
+}
+
+/// The map of entries under these names, if they stand by key.
+pub fn order(alloc: Global, row: &str) -> Result<String, AllocError> {
+    let entries = entries_of(alloc, row)?;
+    if is_in_key_order(entries.as_slice()) {
+        shown(alloc, &TextMap::from_vec(entries))
+    } else {
+        String::from_str(alloc, "in no order")
+    }
+}
+
+fn entries_of(alloc: Global, row: &str) -> Result<Vec<Keyed<usize>>, AllocError> {
+    let mut entries = Vec::new(alloc);
+    for (value, word) in row.split_whitespace().enumerate() {
+        let key = Text::from_str(alloc, word)?;
+        entries.push(Keyed { key, value })?;
+    }
+    Ok(entries)
+}
+
+const TEXTS: [(&str, &str); 3] = [("häuser", "häuser"), ("x", "x"), ("", "")];
+
 #[test]
 fn a_text_keeps_its_characters(rt: HostRuntime) -> Result<(), Fail> {
-    let text = Text::from_str(rt.alloc(), "häuser")?;
-    assert_eq!(rt; text.as_str(), "häuser");
-    let copy = text.copy()?;
-    assert_eq!(rt; copy.as_str(), "häuser");
-    let moved = Text::from_string(String::from_str(rt.alloc(), "x")?);
-    assert_eq!(rt; moved.as_str(), "x");
-    Ok(())
+    hold(&rt, Asked::Text, &TEXTS)
+}
+
+const ITEMS: [(&str, &str); 2] = [("x y", "2:x;y;none"), ("", "1:;none")];
+
+#[test]
+fn lists_and_boxes_give_back_what_they_hold(rt: HostRuntime) -> Result<(), Fail> {
+    hold(&rt, Asked::Items, &ITEMS)
+}
+
+const MAPS: [(&str, &str); 6] = [
+    ("a -a", "0:"),
+    ("b c a b", "3:a=2;b=0;c=1;"),
+    ("b c a -b -d", "2:a=2;c=1;"),
+    ("ä z  Z", "4:=2;Z=3;z=1;ä=0;"),
+    (
+        "\u{1f600} \u{ffff} aa a",
+        "4:a=3;aa=2;\u{ffff}=1;\u{1f600}=0;",
+    ),
+    ("b a -b b", "2:a=1;b=3;"),
+];
+
+#[test]
+fn a_map_stands_by_key(rt: HostRuntime) -> Result<(), Fail> {
+    hold(&rt, Asked::Map, &MAPS)
+}
+
+const FOUND: [(&str, &str); 4] = [("a", "0"), ("b", "1"), ("c", "none"), ("", "none")];
+
+#[test]
+fn a_map_finds_what_is_under_a_key(rt: HostRuntime) -> Result<(), Fail> {
+    hold(&rt, Asked::Found, &FOUND)
+}
+
+const ORDERS: [(&str, &str); 7] = [
+    ("", "0:"),
+    ("a", "1:a=0;"),
+    ("a b", "2:a=0;b=1;"),
+    ("A Z a ä", "4:A=0;Z=1;a=2;ä=3;"),
+    ("a b b", "in no order"),
+    ("a c b", "in no order"),
+    ("b a c", "in no order"),
+];
+
+#[test]
+fn entries_by_key_are_a_map(rt: HostRuntime) -> Result<(), Fail> {
+    hold(&rt, Asked::Order, &ORDERS)
 }
 
 #[test]
@@ -64,86 +156,15 @@ fn an_empty_map_has_no_entries(rt: HostRuntime) {
     let map: TextMap<u8> = TextMap::new(rt.alloc());
     assert_eq!(rt; map.len(), 0);
     assert_eq!(rt; map.as_slice().len(), 0);
-    assert!(rt; is_in_key_order(map.as_slice()));
-}
-
-#[test]
-fn a_map_keeps_its_entries(rt: HostRuntime) -> Result<(), Fail> {
-    let entries = entries_of(rt.alloc(), ["", "A", "a"])?;
-    assert!(rt; is_in_key_order(entries.as_slice()));
-    let map = TextMap::from_vec(entries);
-    assert_eq!(rt; map.len(), 3);
-    let got = shown(rt.alloc(), map.as_slice())?;
-    assert_eq!(rt; got.as_str(), "=0;A=1;a=2;");
-    Ok(())
-}
-
-#[test]
-fn lists_and_boxes_give_back_what_they_hold(rt: HostRuntime) -> Result<(), Fail> {
-    let mut items = Items::new(rt.alloc());
-    items.push(Boxed::new(rt.alloc(), 3u8)?)?;
-    items.push(Boxed::new(rt.alloc(), 5u8)?)?;
-    assert_eq!(rt; items.len(), 2);
-    assert_eq!(rt; items.get(0).map(|boxed| *boxed.get()), Some(3));
-    assert_eq!(rt; items.get(1).map(|boxed| *boxed.get()), Some(5));
-    assert!(rt; items.get(2).is_none());
-    Ok(())
-}
-
-#[test]
-fn a_map_stands_by_key(rt: HostRuntime) -> Result<(), Fail> {
-    for (names, wanted) in [
-        (["b", "c", "a", "b"], "a=2;b=0;c=1;"),
-        (["ä", "z", "", "Z"], "=2;Z=3;z=1;ä=0;"),
-        (
-            ["\u{1f600}", "\u{ffff}", "aa", "a"],
-            "a=3;aa=2;\u{ffff}=1;\u{1f600}=0;",
-        ),
-    ] {
-        let map = map_of(rt.alloc(), names)?;
-        let got = shown(rt.alloc(), map.as_slice())?;
-        assert_eq!(rt; got.as_str(), wanted);
-    }
-    Ok(())
-}
-
-#[test]
-fn a_map_finds_and_loses_what_is_under_a_key(rt: HostRuntime) -> Result<(), Fail> {
-    let mut map = map_of(rt.alloc(), ["b", "c", "a", "b"])?;
-    assert_eq!(rt; map.len(), 3);
-    assert_eq!(rt; map.get("b"), Some(&0));
-    assert_eq!(rt; map.get("d"), None);
-    map.remove("d");
-    map.remove("b");
-    assert_eq!(rt; map.get("b"), None);
-    let got = shown(rt.alloc(), map.as_slice())?;
-    assert_eq!(rt; got.as_str(), "a=2;c=1;");
-    Ok(())
-}
-
-/// Whether a map holds what is put into it.
-fn maps_grow(alloc: Global) -> Result<bool, AllocError> {
-    let map = map_of(alloc, ["b", "a", "c", "b"])?;
-    let got = shown(alloc, map.as_slice())?;
-    Ok(got.as_str() == "a=1;b=0;c=2;")
-}
-
-/// Whether a list holds what is put into it.
-fn lists_grow(alloc: Global) -> Result<bool, AllocError> {
-    let mut items = Items::new(alloc);
-    for text in ["x", "y"] {
-        items.push(Boxed::new(alloc, Text::from_str(alloc, text)?.copy()?)?)?;
-    }
-    Ok(
-        items.len() == 2
-            && matches!(items.get(0), Some(boxed) if boxed.get().as_str() == "x")
-            && matches!(items.get(1), Some(boxed) if boxed.get().as_str() == "y"),
-    )
 }
 
 /// Whether containers hold what is put into them.
 fn grow(alloc: Global) -> Result<bool, AllocError> {
-    Ok(maps_grow(alloc)? && lists_grow(alloc)?)
+    Ok(
+        holds(alloc, Asked::Text, "häuser", "häuser")?
+            && holds(alloc, Asked::Items, "x y", "2:x;y;none")?
+            && holds(alloc, Asked::Map, "b c a b", "3:a=2;b=0;c=1;")?,
+    )
 }
 
 #[test]
@@ -158,22 +179,4 @@ fn containers_grow_or_are_out_of_memory(rt: HostRuntime) {
         Ok(well) => assert!(rt; well),
         Err(AllocError) => {}
     }
-}
-
-#[test]
-fn keys_that_do_not_rise_are_in_no_order(rt: HostRuntime) -> Result<(), Fail> {
-    for (names, wanted) in [
-        (["a", "b", "b"], false),
-        (["a", "c", "b"], false),
-        (["b", "a", "c"], false),
-        (["a", "b", "c"], true),
-        (["", "Z", "a"], true),
-    ] {
-        let entries = entries_of(rt.alloc(), names)?;
-        assert_eq!(rt; is_in_key_order(entries.as_slice()), wanted);
-    }
-    let mut entries = entries_of(rt.alloc(), ["a", "b", "b"])?;
-    entries.pop();
-    assert!(rt; is_in_key_order(entries.as_slice()));
-    Ok(())
 }

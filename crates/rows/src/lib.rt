@@ -1,7 +1,12 @@
 //! The rows that the other crates' public calls must keep. There is no code but tests, so no crate is proved a second
 //! time with its own.
+//!
+//! A table is a constant, and a test hands it to [`asked::hold`]. So a test is proved in a second or two, however many
+//! rows its table has.
 #![tactic(auto)]
 
+#[cfg(test)]
+mod asked;
 #[cfg(test)]
 mod containers;
 #[cfg(test)]
@@ -10,6 +15,10 @@ mod evaluation;
 mod images;
 #[cfg(test)]
 mod kinds;
+#[cfg(test)]
+mod names;
+#[cfg(test)]
+mod notation;
 #[cfg(test)]
 mod programs;
 #[cfg(test)]

@@ -1,407 +1,461 @@
-//! Values and types: weights, what fits, what may stand where, joins and copies.
+//! Types and values: copies, weights, what fits, what may stand where, joins and equality.
 
+use crate::asked::{Asked, hold, holds};
+use crate::notation::{json, type_of};
 use crate::shown::{shown, shown_type};
 use cel_value::{
-    CelError, CelType, Field, Value, assignable, code_points, copy_types, equal, fits, join,
-    max_weight, tenths, weight,
+    CelError, CelType, Value, assignable, code_points, copy_types, equal, fits, join, max_weight,
+    tenths, weight,
 };
-use plain::{Boxed, Items, Text, TextMap};
+use serde_json::Value as Json;
 use std::alloc::{AllocError, Global};
 use std::test::Fail;
+use vap_schema::fit;
 
-fn text(alloc: Global, characters: &str) -> Result<Value, AllocError> {
-    Ok(Value::Text(Text::from_str(alloc, characters)?))
-}
-
-fn pair(alloc: Global, first: Value, second: Value) -> Result<Value, AllocError> {
-    let mut items = Items::new(alloc);
-    items.push(first)?;
-    items.push(second)?;
-    Ok(Value::List(items))
-}
-
-/// One more entry, unless the name has one.
-fn with<V: Drop>(
-    alloc: Global,
-    entries: TextMap<V>,
-    name: &str,
-    value: V,
-) -> Result<TextMap<V>, AllocError> {
-    let mut entries = entries;
-    let key = Text::from_str(alloc, name)?;
-    if entries.get(key.as_str()).is_none() {
-        entries.insert(key, value)?;
+fn types_of(alloc: Global, row: &[Json]) -> Result<Vec<CelType>, AllocError> {
+    let mut types = Vec::new(alloc);
+    for json in row {
+        types.push(type_of(alloc, json)?)?;
     }
-    Ok(entries)
+    Ok(types)
 }
 
-fn map_value(alloc: Global, name: &str, value: Value) -> Result<Value, AllocError> {
-    Ok(Value::Map(with(alloc, TextMap::new(alloc), name, value)?))
+fn one_type(alloc: Global, cel_type: &CelType) -> Result<String, AllocError> {
+    let text = shown_type(alloc, cel_type)?;
+    let greatest = max_weight(cel_type);
+    format!(in alloc; "{}, at most {greatest}", text.as_str())
 }
 
-fn object_value(alloc: Global, name: &str, value: Value) -> Result<Value, AllocError> {
-    Ok(Value::Object(with(alloc, TextMap::new(alloc), name, value)?))
-}
-
-fn list(alloc: Global, max: u32, plain: bool, item: CelType) -> Result<CelType, AllocError> {
-    let item = Boxed::new(alloc, item)?;
-    Ok(CelType::List { max, plain, item })
-}
-
-fn map(alloc: Global, max: u32, key_max: u32, item: CelType) -> Result<CelType, AllocError> {
-    let item = Boxed::new(alloc, item)?;
-    Ok(CelType::Map { max, key_max, item })
-}
-
-fn nullable(alloc: Global, item: CelType) -> Result<CelType, AllocError> {
-    Ok(CelType::Nullable(Boxed::new(alloc, item)?))
-}
-
-fn field(
-    alloc: Global,
-    fields: TextMap<Field<CelType>>,
-    name: &str,
-    required: bool,
-    cel_type: CelType,
-) -> Result<TextMap<Field<CelType>>, AllocError> {
-    with(alloc, fields, name, Field { required, cel_type })
-}
-
-/// Objects with a field `a`.
-fn one_field(alloc: Global, required: bool, cel_type: CelType) -> Result<CelType, AllocError> {
-    let fields = field(alloc, TextMap::new(alloc), "a", required, cel_type)?;
-    Ok(CelType::Object { fields })
-}
-
-/// Objects with a required field `b`, an Int, and an optional one of this name.
-fn two_fields(alloc: Global, name: &str, cel_type: CelType) -> Result<CelType, AllocError> {
-    let fields = field(alloc, TextMap::new(alloc), name, false, cel_type)?;
-    let fields = field(alloc, fields, "b", true, CelType::Int)?;
-    Ok(CelType::Object { fields })
-}
-
-fn weighs(value: Value) -> u64 {
-    weight(&value)
-}
-
-fn weighs_at_most(cel_type: CelType) -> u64 {
-    max_weight(&cel_type)
-}
-
-fn is_fit(value: Value, cel_type: CelType) -> bool {
-    fits(&value, &cel_type)
-}
-
-fn may_stand(from: CelType, to: CelType) -> bool {
-    assignable(&from, &to)
-}
-
-fn is_same(left: Value, right: Value) -> bool {
-    equal(&left, &right)
-}
-
-/// Whether the join of two types, or `none`, has this text.
-fn joins_to(
-    alloc: Global,
-    left: CelType,
-    right: CelType,
-    wanted: &str,
-) -> Result<bool, AllocError> {
-    match join(alloc, &left, &right)? {
-        Some(joined) => Ok(shown_type(alloc, &joined)?.as_str() == wanted),
-        None => Ok(wanted == "none"),
+fn joined(alloc: Global, left: &CelType, right: &CelType) -> Result<String, AllocError> {
+    match join(alloc, left, right)? {
+        Some(joined) => shown_type(alloc, &joined),
+        None => String::from_str(alloc, "none"),
     }
 }
 
-/// Whether a value's copy is equal and has this text.
-fn is_copied(alloc: Global, value: Value, wanted: &str) -> Result<bool, AllocError> {
+fn two_types(alloc: Global, left: &CelType, right: &CelType) -> Result<String, AllocError> {
+    let text = joined(alloc, left, right)?;
+    let may = if assignable(left, right) { "" } else { "not " };
+    format!(in alloc; "{}, {may}assignable", text.as_str())
+}
+
+fn listed_types(alloc: Global, row: &[Json]) -> Result<String, AllocError> {
+    let types = types_of(alloc, row)?;
+    let copies = copy_types(alloc, types.as_slice())?;
+    match copies.as_slice() {
+        [cel_type] => one_type(alloc, cel_type),
+        [left, right] => two_types(alloc, left, right),
+        _ => Err(AllocError),
+    }
+}
+
+/// Of one type its copy and its greatest weight; of two their join, and whether what has the first may stand where the
+/// second is asked.
+pub fn types(alloc: Global, row: &str) -> Result<String, AllocError> {
+    let row = json(alloc, row)?;
+    match &row {
+        Json::Array(types) => listed_types(alloc, types.as_slice()),
+        _ => Err(AllocError),
+    }
+}
+
+/// The value of a document at a type.
+fn value_at(alloc: Global, cel_type: &Json, document: &Json) -> Result<Value, AllocError> {
+    let cel_type = type_of(alloc, cel_type)?;
+    match fit(alloc, document, &cel_type, "") {
+        Ok(value) => Ok(value),
+        Err(_) => Err(AllocError),
+    }
+}
+
+fn copied(alloc: Global, value: &Value) -> Result<String, AllocError> {
     let copy = value.copy(alloc)?;
-    Ok(equal(&copy, &value) && shown(alloc, &copy)?.as_str() == wanted)
+    if equal(&copy, value) {
+        shown(alloc, &copy)
+    } else {
+        String::from_str(alloc, "another")
+    }
 }
 
-/// Whether a type's copy has this text.
-fn is_copied_type(alloc: Global, cel_type: CelType, wanted: &str) -> Result<bool, AllocError> {
-    let copy = cel_type.copy(alloc)?;
-    Ok(shown_type(alloc, &copy)?.as_str() == wanted)
+fn copied_and_fitted(alloc: Global, value: &Value, other: &CelType) -> Result<String, AllocError> {
+    let text = copied(alloc, value)?;
+    let may = if fits(value, other) { "" } else { "not " };
+    let own = weight(value);
+    format!(in alloc; "{}, weight {own}, {may}fitting", text.as_str())
 }
 
-fn crosses_threads<T: Send + Sync>(_value: &T) -> bool {
-    true
+fn one_value(
+    alloc: Global,
+    cel_type: &Json,
+    document: &Json,
+    other: &Json,
+) -> Result<String, AllocError> {
+    let value = value_at(alloc, cel_type, document)?;
+    let other = type_of(alloc, other)?;
+    copied_and_fitted(alloc, &value, &other)
 }
 
-#[test]
-fn values_weigh_by_code_points(rt: HostRuntime) -> Result<(), Fail> {
-    let alloc = rt.alloc();
-    assert_eq!(rt; weighs(text(alloc, "hello world")?), 3);
-    assert_eq!(rt; weighs(text(alloc, "😀😀😀😀😀😀😀😀😀😀😀")?), 3);
-    assert_eq!(rt; weighs(text(alloc, "")?), 1);
-    assert_eq!(rt;
-        weighs(pair(alloc, text(alloc, "ab")?, text(alloc, "abc")?)?),
-        5
-    );
-    assert_eq!(rt; weighs(map_value(alloc, "a", Value::Int(1))?), 4);
-    assert_eq!(rt; weighs(object_value(alloc, "hello world", Value::Null)?), 5);
-    assert_eq!(rt; weighs(Value::Int(i64::MIN)), 1);
-    assert_eq!(rt; weighs(Value::Opaque), 1);
-    assert_eq!(rt; code_points("häuser"), 6);
-    assert_eq!(rt; tenths(11), 2);
-    Ok(())
-}
-
-#[test]
-fn types_allow_their_greatest_weight(rt: HostRuntime) -> Result<(), Fail> {
-    let alloc = rt.alloc();
-    assert_eq!(rt;
-        weighs_at_most(list(alloc, 100, true, CelType::Text { max: 50 })?),
-        601
-    );
-    assert_eq!(rt; weighs_at_most(map(alloc, 2, 10, CelType::Int)?), 7);
-    assert_eq!(rt;
-        weighs_at_most(one_field(alloc, true, CelType::Text { max: 19 })?),
-        6
-    );
-    assert_eq!(rt;
-        weighs_at_most(nullable(alloc, CelType::Text { max: 19 })?),
-        3
-    );
-    let inner = list(
+fn two_values(
+    alloc: Global,
+    left_type: &Json,
+    left: &Json,
+    right_type: &Json,
+    right: &Json,
+) -> Result<String, AllocError> {
+    let left = value_at(alloc, left_type, left)?;
+    let right = value_at(alloc, right_type, right)?;
+    String::from_str(
         alloc,
-        u32::MAX,
-        true,
-        list(alloc, u32::MAX, true, CelType::Int)?,
-    )?;
-    assert_eq!(rt;
-        weighs_at_most(list(alloc, u32::MAX, true, inner)?),
-        u64::MAX
-    );
-    assert_eq!(rt; weighs_at_most(CelType::Never), 1);
-    Ok(())
-}
-
-#[test]
-fn a_value_fits_within_its_limits(rt: HostRuntime) -> Result<(), Fail> {
-    let alloc = rt.alloc();
-    assert!(rt; is_fit(text(alloc, "äöü")?, CelType::Text { max: 3 }));
-    assert!(rt; !is_fit(text(alloc, "äöüß")?, CelType::Text { max: 3 }));
-    for (max, plain, wanted) in [(2, false, true), (2, true, true), (1, false, false)] {
-        let numbers = pair(alloc, Value::Int(1), Value::Int(2))?;
-        assert_eq!(rt;
-            is_fit(numbers, list(alloc, max, plain, CelType::Int)?),
-            wanted
-        );
-    }
-    let numbers = pair(alloc, Value::Int(1), Value::Int(2))?;
-    assert!(rt; !is_fit(numbers, list(alloc, 2, false, CelType::Uint)?));
-    for (max, key_max, wanted) in [(1, 2, true), (1, 1, false), (0, 2, false)] {
-        let entries = map_value(alloc, "ab", Value::Int(1))?;
-        assert_eq!(rt;
-            is_fit(entries, map(alloc, max, key_max, CelType::Int)?),
-            wanted
-        );
-    }
-    assert!(rt; is_fit(Value::Null, nullable(alloc, CelType::Int)?));
-    assert!(rt; !is_fit(Value::Null, CelType::Int));
-    assert!(rt; !is_fit(Value::Bool(true), CelType::Never));
-    assert!(rt; is_fit(Value::Opaque, CelType::Opaque));
-    Ok(())
-}
-
-#[test]
-fn an_object_has_its_required_fields_and_no_others(rt: HostRuntime) -> Result<(), Fail> {
-    let alloc = rt.alloc();
-    for (name, required, wanted) in [
-        ("a", true, true),
-        ("a", false, true),
-        ("b", true, false),
-        ("b", false, false),
-    ] {
-        let own = object_value(alloc, name, Value::Int(1))?;
-        assert_eq!(rt;
-            is_fit(own, one_field(alloc, required, CelType::Int)?),
-            wanted
-        );
-        let bare = Value::Object(TextMap::new(alloc));
-        assert_eq!(rt;
-            is_fit(bare, one_field(alloc, required, CelType::Int)?),
-            !required
-        );
-    }
-    let other = object_value(alloc, "a", Value::Uint(1))?;
-    assert!(rt; !is_fit(other, one_field(alloc, true, CelType::Int)?));
-    Ok(())
-}
-
-#[test]
-fn a_type_takes_what_is_within_its_limits(rt: HostRuntime) -> Result<(), Fail> {
-    let alloc = rt.alloc();
-    assert!(rt; may_stand(CelType::Never, CelType::Int));
-    assert!(rt; !may_stand(CelType::Int, CelType::Never));
-    assert!(rt; may_stand(CelType::Text { max: 2 }, CelType::Text { max: 3 }));
-    assert!(rt; !may_stand(CelType::Text { max: 3 }, CelType::Text { max: 2 }));
-    assert!(rt; may_stand(CelType::Null, nullable(alloc, CelType::Int)?));
-    assert!(rt; may_stand(CelType::Int, nullable(alloc, CelType::Int)?));
-    assert!(rt; !may_stand(nullable(alloc, CelType::Int)?, CelType::Int));
-    for (from, to, wanted) in [
-        (true, false, true),
-        (false, true, false),
-        (true, true, true),
-    ] {
-        let listed = list(alloc, 2, from, CelType::Int)?;
-        assert_eq!(rt;
-            may_stand(listed, list(alloc, 2, to, CelType::Int)?),
-            wanted
-        );
-        let required = one_field(alloc, from, CelType::Int)?;
-        assert_eq!(rt;
-            may_stand(required, one_field(alloc, to, CelType::Int)?),
-            wanted
-        );
-    }
-    for (max, key_max, wanted) in [(2, 3, true), (3, 3, true), (1, 3, false), (2, 2, false)] {
-        let entries = map(alloc, 2, 3, CelType::Never)?;
-        assert_eq!(rt;
-            may_stand(entries, map(alloc, max, key_max, CelType::Int)?),
-            wanted
-        );
-    }
-    Ok(())
-}
-
-#[test]
-fn a_join_is_the_least_type_above_both(rt: HostRuntime) -> Result<(), Fail> {
-    let alloc = rt.alloc();
-    assert!(rt; joins_to(alloc, CelType::Never, CelType::Bool, "bool")?);
-    assert!(rt; joins_to(alloc, CelType::Bool, CelType::Never, "bool")?);
-    assert!(rt; joins_to(alloc, CelType::Int, CelType::Bool, "none")?);
-    assert!(rt; joins_to(alloc, CelType::Int, CelType::Uint, "none")?);
-    let (short, long) = (CelType::Text { max: 2 }, CelType::Text { max: 7 });
-    assert!(rt; joins_to(alloc, short, long, "text<=7")?);
-    assert!(rt; joins_to(alloc, CelType::Null, CelType::Int, "nullable int")?);
-    assert!(rt; joins_to(alloc, CelType::Int, CelType::Null, "nullable int")?);
-    assert!(rt; joins_to(alloc, CelType::Null, CelType::Null, "null")?);
-    let entries = map(alloc, 2, 9, CelType::Never)?;
-    let wanted = "map<=3 text<=9 int";
-    assert!(rt; joins_to(alloc, entries, map(alloc, 3, 4, CelType::Int)?, wanted)?);
-    Ok(())
-}
-
-#[test]
-fn a_join_of_lists_is_plain_only_if_both_are(rt: HostRuntime) -> Result<(), Fail> {
-    let alloc = rt.alloc();
-    for (left, right, wanted) in [
-        (true, false, "set<=5 int"),
-        (false, true, "set<=5 int"),
-        (true, true, "list<=5 int"),
-    ] {
-        let short = list(alloc, 2, left, CelType::Int)?;
-        assert!(rt; joins_to(alloc, short, list(alloc, 5, right, CelType::Int)?, wanted)?);
-    }
-    Ok(())
-}
-
-#[test]
-fn a_join_of_objects_goes_field_by_field(rt: HostRuntime) -> Result<(), Fail> {
-    let alloc = rt.alloc();
-    for (left, right, wanted) in [
-        (false, true, "{a?:text<=19,}"),
-        (true, false, "{a?:text<=19,}"),
-        (true, true, "{a:text<=19,}"),
-    ] {
-        let short = one_field(alloc, left, CelType::Text { max: 4 })?;
-        let long = one_field(alloc, right, CelType::Text { max: 19 })?;
-        assert!(rt; joins_to(alloc, short, long, wanted)?);
-    }
-    for (left, right, wanted) in [
-        ("a", "a", "{a?:nullable bool,b:int,}"),
-        ("c", "c", "{b:int,c?:nullable bool,}"),
-        ("a", "c", "none"),
-        ("a", "b", "none"),
-    ] {
-        let bool = two_fields(alloc, left, CelType::Bool)?;
-        assert!(rt;
-            joins_to(
-                alloc,
-                bool,
-                two_fields(alloc, right, CelType::Null)?,
-                wanted
-            )?
-        );
-    }
-    let text = two_fields(alloc, "a", CelType::Text { max: 4 })?;
-    assert!(rt; joins_to(alloc, text, two_fields(alloc, "a", CelType::Int)?, "none")?);
-    Ok(())
-}
-
-#[test]
-fn a_join_goes_on_inside_nullables(rt: HostRuntime) -> Result<(), Fail> {
-    let alloc = rt.alloc();
-    let never = nullable(alloc, CelType::Never)?;
-    assert!(rt; joins_to(alloc, CelType::Int, never, "nullable int")?);
-    let null = nullable(alloc, CelType::Null)?;
-    assert!(rt; joins_to(alloc, CelType::Int, null, "nullable nullable int")?);
-    let null = nullable(alloc, CelType::Null)?;
-    assert!(rt; joins_to(alloc, null, CelType::Int, "nullable nullable int")?);
-    let bool = nullable(alloc, CelType::Bool)?;
-    assert!(rt; joins_to(alloc, CelType::Int, bool, "none")?);
-    let short = nullable(alloc, CelType::Text { max: 1 })?;
-    let long = nullable(alloc, CelType::Text { max: 2 })?;
-    assert!(rt; joins_to(alloc, short, long, "nullable text<=2")?);
-    Ok(())
-}
-
-/// Whether copies of values of each kind are what they copy.
-fn are_copied(alloc: Global) -> Result<bool, AllocError> {
-    let entries = map_value(alloc, "k", text(alloc, "v")?)?;
-    let object = object_value(alloc, "a", pair(alloc, Value::Uint(7), Value::Int(-7))?)?;
-    let rest = pair(
-        alloc,
-        Value::Null,
-        pair(alloc, Value::Bool(true), Value::Opaque)?,
-    )?;
-    let value = pair(alloc, pair(alloc, entries, object)?, rest)?;
-    let wanted = "[[map{k:'v',},{a:[7u,-7,],},],[null,[true,opaque,],],]";
-    is_copied(alloc, value, wanted)
-}
-
-/// Whether copies of types of each kind are what they copy.
-fn are_copied_types(alloc: Global) -> Result<bool, AllocError> {
-    let texts = list(alloc, 3, true, CelType::Text { max: 4 })?;
-    let sets = list(alloc, 5, false, nullable(alloc, CelType::Uint)?)?;
-    let entries = map(alloc, 2, 1, one_field(alloc, true, texts)?)?;
-    Ok(
-        is_copied_type(alloc, entries, "map<=2 text<=1 {a:list<=3 text<=4,}")?
-            && is_copied_type(alloc, sets, "set<=5 nullable uint")?
-            && is_copied_type(
-                alloc,
-                two_fields(alloc, "c", CelType::Opaque)?,
-                "{b:int,c?:opaque,}",
-            )?,
+        if equal(&left, &right) {
+            "equal"
+        } else {
+            "not equal"
+        },
     )
 }
 
-/// Whether a list of types is copied in its order.
-fn are_listed_types_copied(alloc: Global) -> Result<bool, AllocError> {
-    let types = copy_types(alloc, &[CelType::Int, CelType::Null])?;
-    Ok(matches!(types.as_slice(), [CelType::Int, CelType::Null]))
+fn listed_values(alloc: Global, row: &[Json]) -> Result<String, AllocError> {
+    match row {
+        [cel_type, document, other] => one_value(alloc, cel_type, document, other),
+        [left_type, left, right_type, right] => two_values(
+            alloc, left_type, left, right_type, right,
+        ),
+        _ => Err(AllocError),
+    }
 }
 
-/// Whether maps of objects of lists, of which one may be null, have their join.
-fn are_joined(alloc: Global) -> Result<bool, AllocError> {
-    let texts = list(alloc, 3, true, CelType::Text { max: 4 })?;
-    let entries = map(alloc, 2, 1, one_field(alloc, true, texts)?)?;
-    let more = list(alloc, 1, true, CelType::Text { max: 9 })?;
-    let other = nullable(alloc, map(alloc, 4, 0, one_field(alloc, false, more)?)?)?;
-    let wanted = "nullable map<=4 text<=1 {a?:list<=3 text<=9,}";
-    joins_to(alloc, entries, other, wanted)
+/// Of a document at a type the copy of its value, the weight, and whether the value fits another type; of two, each at
+/// its type, whether their values are equal.
+pub fn values(alloc: Global, row: &str) -> Result<String, AllocError> {
+    let row = json(alloc, row)?;
+    match &row {
+        Json::Array(parts) => listed_values(alloc, parts.as_slice()),
+        _ => Err(AllocError),
+    }
+}
+
+const WEIGHTS: [(&str, &str); 9] = [
+    (r#"["never"]"#, "never, at most 1"),
+    (r#"["opaque"]"#, "opaque, at most 1"),
+    (r#"[50]"#, "text<=50, at most 6"),
+    (r#"[["list",100,50]]"#, "list<=100 text<=50, at most 601"),
+    (r#"[["map",2,10,"int"]]"#, "map<=2 text<=10 int, at most 7"),
+    (r#"[{"a":19}]"#, "{a:text<=19,}, at most 6"),
+    (r#"[["nullable",19]]"#, "nullable text<=19, at most 3"),
+    (
+        r#"[{"b":"bool","a?":["set",3,["nullable","uint"]]}]"#,
+        "{a?:set<=3 nullable uint,b:bool,}, at most 10",
+    ),
+    (
+        r#"[["list",4294967295,["list",4294967295,["list",4294967295,"int"]]]]"#,
+        "list<=4294967295 list<=4294967295 list<=4294967295 int, at most 18446744073709551615",
+    ),
+];
+
+#[test]
+fn types_allow_their_greatest_weight(rt: HostRuntime) -> Result<(), Fail> {
+    hold(&rt, Asked::Types, &WEIGHTS)
+}
+
+const JOINS: [(&str, &str); 15] = [
+    (r#"["never","bool"]"#, "bool, assignable"),
+    (r#"["bool","never"]"#, "bool, not assignable"),
+    (r#"["never","int"]"#, "int, assignable"),
+    (r#"["int","bool"]"#, "none, not assignable"),
+    (r#"["int","uint"]"#, "none, not assignable"),
+    (r#"["opaque","opaque"]"#, "opaque, assignable"),
+    (r#"[2,7]"#, "text<=7, assignable"),
+    (r#"[7,2]"#, "text<=7, not assignable"),
+    (r#"[2,"int"]"#, "none, not assignable"),
+    (
+        r#"[["map",2,3,"never"],["map",2,3,"int"]]"#,
+        "map<=2 text<=3 int, assignable",
+    ),
+    (
+        r#"[["map",2,3,"int"],["map",2,3,"never"]]"#,
+        "map<=2 text<=3 int, not assignable",
+    ),
+    (
+        r#"[["map",2,9,"int"],["map",3,4,"int"]]"#,
+        "map<=3 text<=9 int, not assignable",
+    ),
+    (
+        r#"[["map",3,4,"int"],["map",2,9,"int"]]"#,
+        "map<=3 text<=9 int, not assignable",
+    ),
+    (
+        r#"[["map",2,3,"int"],["list",2,"int"]]"#,
+        "none, not assignable",
+    ),
+    (
+        r#"[["map",2,3,"int"],["map",2,3,"bool"]]"#,
+        "none, not assignable",
+    ),
+];
+
+#[test]
+fn a_join_is_the_least_type_above_both(rt: HostRuntime) -> Result<(), Fail> {
+    hold(&rt, Asked::Types, &JOINS)
+}
+
+const LISTS: [(&str, &str); 6] = [
+    (
+        r#"[["list",2,"int"],["set",5,"int"]]"#,
+        "set<=5 int, assignable",
+    ),
+    (
+        r#"[["set",2,"int"],["list",5,"int"]]"#,
+        "set<=5 int, not assignable",
+    ),
+    (
+        r#"[["list",2,"int"],["list",5,"int"]]"#,
+        "list<=5 int, assignable",
+    ),
+    (
+        r#"[["set",5,"int"],["set",2,"int"]]"#,
+        "set<=5 int, not assignable",
+    ),
+    (
+        r#"[["list",0,"never"],["list",2,"int"]]"#,
+        "list<=2 int, assignable",
+    ),
+    (
+        r#"[["list",2,"int"],["list",2,"bool"]]"#,
+        "none, not assignable",
+    ),
+];
+
+#[test]
+fn a_join_of_lists_is_plain_only_if_both_are(rt: HostRuntime) -> Result<(), Fail> {
+    hold(&rt, Asked::Types, &LISTS)
+}
+
+const OBJECTS: [(&str, &str); 9] = [
+    (r#"[{"a?":4},{"a":19}]"#, "{a?:text<=19,}, not assignable"),
+    (r#"[{"a":4},{"a?":19}]"#, "{a?:text<=19,}, assignable"),
+    (r#"[{"a":4},{"a":19}]"#, "{a:text<=19,}, assignable"),
+    (r#"[{"a":19},{"a":4}]"#, "{a:text<=19,}, not assignable"),
+    (r#"[{"a":"int"},{"a":"bool"}]"#, "none, not assignable"),
+    (r#"[{"a":"int"},{"b":"int"}]"#, "none, not assignable"),
+    (
+        r#"[{"a":"int"},{"a":"int","b?":"int"}]"#,
+        "none, not assignable",
+    ),
+    (
+        r#"[{"a":"int","b?":"int"},{"a":"int"}]"#,
+        "none, not assignable",
+    ),
+    (
+        r#"[{"b":"int","a?":"bool"},{"a":"null","b":"int"}]"#,
+        "{a?:nullable bool,b:int,}, not assignable",
+    ),
+];
+
+#[test]
+fn a_join_of_objects_goes_field_by_field(rt: HostRuntime) -> Result<(), Fail> {
+    hold(&rt, Asked::Types, &OBJECTS)
+}
+
+const NULLABLES: [(&str, &str); 13] = [
+    (r#"["null","null"]"#, "null, assignable"),
+    (r#"["null","int"]"#, "nullable int, not assignable"),
+    (r#"["int","null"]"#, "nullable int, not assignable"),
+    (r#"["never","null"]"#, "null, assignable"),
+    (r#"["null",["nullable","int"]]"#, "nullable int, assignable"),
+    (r#"["int",["nullable","int"]]"#, "nullable int, assignable"),
+    (
+        r#"[["nullable","int"],"int"]"#,
+        "nullable int, not assignable",
+    ),
+    (
+        r#"[["nullable","int"],"null"]"#,
+        "nullable int, not assignable",
+    ),
+    (
+        r#"["int",["nullable","never"]]"#,
+        "nullable int, not assignable",
+    ),
+    (
+        r#"["int",["nullable","null"]]"#,
+        "nullable nullable int, not assignable",
+    ),
+    (
+        r#"[["nullable","null"],"int"]"#,
+        "nullable nullable int, not assignable",
+    ),
+    (r#"["int",["nullable","bool"]]"#, "none, not assignable"),
+    (
+        r#"[["nullable",1],["nullable",2]]"#,
+        "nullable text<=2, assignable",
+    ),
+];
+
+#[test]
+fn a_join_goes_on_inside_nullables(rt: HostRuntime) -> Result<(), Fail> {
+    hold(&rt, Asked::Types, &NULLABLES)
+}
+
+const VALUES: [(&str, &str); 18] = [
+    (
+        r#"[100,"hello world",11]"#,
+        "'hello world', weight 3, fitting",
+    ),
+    (
+        r#"[100,"😀😀😀😀😀😀😀😀😀😀😀",10]"#,
+        "'😀😀😀😀😀😀😀😀😀😀😀', weight 3, not fitting",
+    ),
+    (r#"[3,"",0]"#, "'', weight 1, fitting"),
+    (r#"[4,"äöü",3]"#, "'äöü', weight 2, fitting"),
+    (r#"[4,"äöüß",3]"#, "'äöüß', weight 2, not fitting"),
+    (
+        r#"[["list",2,9],["ab","abc"],["list",2,3]]"#,
+        "['ab','abc',], weight 5, fitting",
+    ),
+    (
+        r#"[["list",2,9],["ab","abc"],["list",2,2]]"#,
+        "['ab','abc',], weight 5, not fitting",
+    ),
+    (
+        r#"[["list",2,"int"],[1,2],["set",2,"int"]]"#,
+        "[1,2,], weight 3, fitting",
+    ),
+    (
+        r#"[["list",2,"int"],[1,2],["set",1,"int"]]"#,
+        "[1,2,], weight 3, not fitting",
+    ),
+    (
+        r#"[["list",2,"int"],[1,2],["list",2,"uint"]]"#,
+        "[1,2,], weight 3, not fitting",
+    ),
+    (
+        r#"[["map",1,2,"int"],{"ab":1},["map",1,2,"int"]]"#,
+        "map{ab:1,}, weight 4, fitting",
+    ),
+    (
+        r#"[["map",1,2,"int"],{"ab":1},["map",1,1,"int"]]"#,
+        "map{ab:1,}, weight 4, not fitting",
+    ),
+    (
+        r#"[["map",1,2,"int"],{"ab":1},["map",0,2,"int"]]"#,
+        "map{ab:1,}, weight 4, not fitting",
+    ),
+    (
+        r#"["int",-9223372036854775808,"int"]"#,
+        "-9223372036854775808, weight 1, fitting",
+    ),
+    (
+        r#"["null",null,["nullable","int"]]"#,
+        "null, weight 1, fitting",
+    ),
+    (r#"["null",null,"int"]"#, "null, weight 1, not fitting"),
+    (r#"["bool",true,"never"]"#, "true, weight 1, not fitting"),
+    (r#"["opaque",[1],"opaque"]"#, "opaque, weight 1, fitting"),
+];
+
+#[test]
+fn a_value_weighs_by_code_points_and_fits_within_its_limits(rt: HostRuntime) -> Result<(), Fail> {
+    hold(&rt, Asked::Values, &VALUES)
+}
+
+const FIELDS: [(&str, &str); 9] = [
+    (
+        r#"[{"a":"int"},{"a":1},{"a":"int"}]"#,
+        "{a:1,}, weight 4, fitting",
+    ),
+    (
+        r#"[{"a":"int"},{"a":1},{"a?":"int"}]"#,
+        "{a:1,}, weight 4, fitting",
+    ),
+    (r#"[{"a?":"int"},{},{"a?":"int"}]"#, "{}, weight 1, fitting"),
+    (
+        r#"[{"a?":"int"},{},{"a":"int"}]"#,
+        "{}, weight 1, not fitting",
+    ),
+    (
+        r#"[{"b":"int"},{"b":1},{"a?":"int"}]"#,
+        "{b:1,}, weight 4, not fitting",
+    ),
+    (
+        r#"[{"a":"int"},{"a":1},{"a":"uint"}]"#,
+        "{a:1,}, weight 4, not fitting",
+    ),
+    (
+        r#"[{"a":"int"},{"a":1},["map",9,9,"int"]]"#,
+        "{a:1,}, weight 4, not fitting",
+    ),
+    (
+        r#"[{"a":"int","c":"bool"},{"c":true,"a":1},{"a":"int","b?":"int","c":"bool"}]"#,
+        "{a:1,c:true,}, weight 7, fitting",
+    ),
+    (
+        r#"[{"hello world":"null"},{"hello world":null},{"hello world":["nullable",3]}]"#,
+        "{hello world:null,}, weight 5, fitting",
+    ),
+];
+
+#[test]
+fn an_object_has_its_required_fields_and_no_others(rt: HostRuntime) -> Result<(), Fail> {
+    hold(&rt, Asked::Values, &FIELDS)
+}
+
+const EQUALITIES: [(&str, &str); 11] = [
+    (r#"["int",1,["nullable","int"],1]"#, "equal"),
+    (r#"["int",1,"int",2]"#, "not equal"),
+    (r#"[9,"a",9,"b"]"#, "not equal"),
+    (r#"["opaque",1,"opaque",2]"#, "equal"),
+    (r#"["null",null,"opaque",null]"#, "not equal"),
+    (r#"["bool",true,"bool",false]"#, "not equal"),
+    (r#"[["list",2,"int"],[1,2],["set",3,"int"],[1,2]]"#, "equal"),
+    (
+        r#"[["list",2,"int"],[1,2],["list",2,"int"],[1]]"#,
+        "not equal",
+    ),
+    (
+        r#"[["map",1,1,"int"],{"a":1},["map",2,2,"int"],{"a":1}]"#,
+        "equal",
+    ),
+    (
+        r#"[["map",1,1,"int"],{"a":1},{"a":"int"},{"a":1}]"#,
+        "not equal",
+    ),
+    (r#"[{"a?":"int"},{"a":1},{"a?":"int"},{}]"#, "not equal"),
+];
+
+#[test]
+fn what_is_equal_has_one_kind_and_content(rt: HostRuntime) -> Result<(), Fail> {
+    hold(&rt, Asked::Values, &EQUALITIES)
+}
+
+#[test]
+fn an_unsigned_value_is_no_int(rt: HostRuntime) -> Result<(), Fail> {
+    assert!(rt; !equal(&Value::Int(7), &Value::Uint(7)));
+    let got = copied_and_fitted(rt.alloc(), &Value::Uint(7), &CelType::Int)?;
+    assert_eq!(rt; got.as_str(), "7u, weight 1, not fitting");
+    let got = copied_and_fitted(rt.alloc(), &Value::Uint(7), &CelType::Uint)?;
+    assert_eq!(rt; got.as_str(), "7u, weight 1, fitting");
+    Ok(())
+}
+
+#[test]
+fn lengths_are_of_code_points(rt: HostRuntime) {
+    assert_eq!(rt; code_points("häuser"), 6);
+    assert_eq!(rt; tenths(11), 2);
 }
 
 /// Whether copies and joins are what they should be.
 fn are_copied_and_joined(alloc: Global) -> Result<bool, AllocError> {
     Ok(
-        are_copied(alloc)?
-            && are_copied_types(alloc)?
-            && are_listed_types_copied(alloc)?
-            && are_joined(alloc)?,
+        holds(
+            alloc,
+            Asked::Types,
+            r#"[["map",2,1,{"a":["list",3,4]}],["nullable",["map",4,0,{"a?":["set",1,9]}]]]"#,
+            "nullable map<=4 text<=1 {a?:set<=3 text<=9,}, not assignable",
+        )? && holds(
+            alloc,
+            Asked::Values,
+            r#"[["list",2,{"a":["map",1,1,9]}],[{"a":{"k":"v"}}],"int"]"#,
+            "[{a:map{k:'v',},},], weight 9, not fitting",
+        )?,
     )
 }
 
@@ -419,24 +473,8 @@ fn copies_and_joins_are_made_or_out_of_memory(rt: HostRuntime) {
     }
 }
 
-#[test]
-fn what_is_equal_has_one_kind_and_content(rt: HostRuntime) -> Result<(), Fail> {
-    let alloc = rt.alloc();
-    assert!(rt; is_same(text(alloc, "a")?, text(alloc, "a")?));
-    assert!(rt; !is_same(text(alloc, "a")?, text(alloc, "b")?));
-    assert!(rt; !is_same(Value::Int(1), Value::Uint(1)));
-    assert!(rt; is_same(Value::Opaque, Value::Opaque));
-    assert!(rt; !is_same(Value::Null, Value::Opaque));
-    for (left, right, wanted) in [("a", "a", true), ("a", "b", false)] {
-        let entries = map_value(alloc, left, Value::Null)?;
-        assert_eq!(rt;
-            is_same(entries, map_value(alloc, right, Value::Null)?),
-            wanted
-        );
-        let entries = map_value(alloc, left, Value::Null)?;
-        assert!(rt; !is_same(entries, object_value(alloc, right, Value::Null)?));
-    }
-    Ok(())
+fn crosses_threads<T: Send + Sync>(_value: &T) -> bool {
+    true
 }
 
 #[test]
@@ -444,21 +482,4 @@ fn values_and_types_cross_threads(rt: HostRuntime) {
     assert!(rt; crosses_threads(&Value::Null));
     assert!(rt; crosses_threads(&CelType::Never));
     assert!(rt; crosses_threads(&CelError::Overflow));
-}
-
-#[test]
-fn errors_have_their_numbers_and_names(rt: HostRuntime) {
-    for (error, number, name) in [
-        (CelError::Overflow, 1, "Overflow"),
-        (CelError::DivideByZero, 2, "DivideByZero"),
-        (CelError::NoSuchKey, 3, "NoSuchKey"),
-        (CelError::OutOfRange, 4, "OutOfRange"),
-        (CelError::NullOperand, 5, "NullOperand"),
-        (CelError::DuplicateKey, 6, "DuplicateKey"),
-        (CelError::BadConversion, 7, "BadConversion"),
-        (CelError::EmptyList, 8, "EmptyList"),
-    ] {
-        assert_eq!(rt; error as u8, number);
-        assert_eq!(rt; error.name(), name);
-    }
 }

@@ -1,0 +1,58 @@
+//! Tables of rows, each a question with its answer.
+
+use crate::{containers, names, schemas, tokens, values};
+use std::alloc::{AllocError, Global};
+use std::process::Abort;
+use std::test::Fail;
+
+/// What the rows of a table ask.
+#[derive(Clone, Copy)]
+pub enum Asked {
+    Text,
+    Items,
+    Map,
+    Found,
+    Order,
+    Types,
+    Values,
+    Schema,
+    /// A document at this schema, with the name of its root.
+    Document(&'static str, &'static str),
+    Tokens,
+    Names,
+}
+
+/// The answer to a row's question. A question that cannot be read has none, as where memory is wanting.
+fn answer(alloc: Global, asked: Asked, row: &str) -> Result<String, AllocError> {
+    match asked {
+        Asked::Text => containers::text(alloc, row),
+        Asked::Items => containers::items(alloc, row),
+        Asked::Map => containers::map(alloc, row),
+        Asked::Found => containers::found(alloc, row),
+        Asked::Order => containers::order(alloc, row),
+        Asked::Types => values::types(alloc, row),
+        Asked::Values => values::values(alloc, row),
+        Asked::Schema => schemas::schema(alloc, row),
+        Asked::Document(schema, root) => schemas::document(alloc, schema, root, row),
+        Asked::Tokens => tokens::shown(alloc, row),
+        Asked::Names => names::names(alloc, row),
+    }
+}
+
+/// Asserts each row of a table.
+pub fn hold<R: Abort + AllocGlobal>(
+    rt: &R,
+    asked: Asked,
+    rows: &[(&str, &str)],
+) -> Result<(), Fail> {
+    for (row, wanted) in rows {
+        let got = answer(rt.alloc(), asked, row)?;
+        assert_eq!(rt; got.as_str(), *wanted, "at {row}");
+    }
+    Ok(())
+}
+
+/// Whether a row has its answer.
+pub fn holds(alloc: Global, asked: Asked, row: &str, wanted: &str) -> Result<bool, AllocError> {
+    Ok(answer(alloc, asked, row)?.as_str() == wanted)
+}

@@ -1,0 +1,100 @@
+//! Types as rows write them, in JSON: a word, as `"int"`; a number, the limit of a text; `["list",2,"int"]`, and so
+//! `set`; `["map",2,9,"int"]`; `["nullable","int"]`; and `{"a":"int","b?":"bool"}`, an object with `b` optional.
+
+use cel_value::{CelType, Field};
+use plain::{Boxed, Text, TextMap};
+use serde_json::{Map, Value as Json};
+use std::alloc::{AllocError, Global};
+
+/// A JSON text's value. A text that is no JSON is as null, which is no question.
+pub fn json(alloc: Global, text: &str) -> Result<Json, AllocError> {
+    match Json::from_str(alloc, text) {
+        Ok(json) => Ok(json),
+        Err(error) if error.is_memory() => Err(AllocError),
+        Err(_) => Ok(Json::Null),
+    }
+}
+
+/// The type that is written.
+#[cycle(type_of)]
+pub fn type_of(alloc: Global, json: &Json) -> Result<CelType, AllocError> {
+    match json {
+        Json::String(word) => word_type(word.as_str()),
+        Json::Number(_) => Ok(CelType::Text { max: limit(json) }),
+        Json::Array(parts) => wrapped(alloc, parts.as_slice()),
+        Json::Object(members) => object(alloc, members),
+        _ => Err(AllocError),
+    }
+}
+
+fn word_type(word: &str) -> Result<CelType, AllocError> {
+    match word {
+        "never" => Ok(CelType::Never),
+        "null" => Ok(CelType::Null),
+        "bool" => Ok(CelType::Bool),
+        "int" => Ok(CelType::Int),
+        "uint" => Ok(CelType::Uint),
+        "opaque" => Ok(CelType::Opaque),
+        _ => Err(AllocError),
+    }
+}
+
+fn limit(json: &Json) -> u32 {
+    match json.as_u64() {
+        Some(number) => u32::try_from(number).unwrap_or(0),
+        None => 0,
+    }
+}
+
+#[cycle(type_of)]
+fn wrapped(alloc: Global, parts: &[Json]) -> Result<CelType, AllocError> {
+    match parts {
+        [.., inner] => {
+            let inner = type_of(alloc, inner)?;
+            around(parts, Boxed::new(alloc, inner)?)
+        }
+        [] => Err(AllocError),
+    }
+}
+
+/// The type that is written around its inner type.
+fn around(parts: &[Json], item: Boxed<CelType>) -> Result<CelType, AllocError> {
+    match parts {
+        [_, _] => Ok(CelType::Nullable(item)),
+        [kind, max, _] => Ok(CelType::List {
+            max: limit(max),
+            plain: kind.as_str() == Some("list"),
+            item,
+        }),
+        [_, max, key_max, _] => Ok(CelType::Map {
+            max: limit(max),
+            key_max: limit(key_max),
+            item,
+        }),
+        _ => Err(AllocError),
+    }
+}
+
+#[cycle(type_of)]
+fn object(alloc: Global, members: &Map<String, Json>) -> Result<CelType, AllocError> {
+    let mut fields = TextMap::new(alloc);
+    for (name, json) in members.iter() {
+        put(alloc, &mut fields, name.as_str(), type_of(alloc, json)?)?;
+    }
+    Ok(CelType::Object { fields })
+}
+
+/// Puts a field under its name, unless one is there.
+fn put(
+    alloc: Global,
+    fields: &mut TextMap<Field<CelType>>,
+    name: &str,
+    cel_type: CelType,
+) -> Result<(), AllocError> {
+    let required = !name.ends_with('?');
+    let key = Text::from_str(alloc, name.strip_suffix('?').unwrap_or(name))?;
+    if fields.get(key.as_str()).is_none() {
+        fields.insert(key, Field { required, cel_type })?;
+    }
+    Ok(())
+}
