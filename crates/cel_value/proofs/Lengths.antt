@@ -1,5 +1,6 @@
 -- A value is no longer than its type allows, and what takes a type allows no lesser length.
-use Rattle.std.proofs.Common.{◌≡◌, ℕ, ◌≤◌, Bool, true, not, nat_le, ◌&&◌, ◌||◌, List, [], ◌∷◌, length, ap, sym, ◌∙◌, subst, arith, true≢false, inl, inr, ◌⊎◌}
+use Rattle.std.proofs.Common.{◌≡◌, ℕ, ◌≤◌, Bool, true, true≢false, not, nat_le, ◌&&◌, ◌||◌, List, [], ◌∷◌, length, ◌⊎◌, inl, inr}
+use Rattle.std.proofs.Common.{ap, sym, ◌∙◌, subst, arith}
 use Rattle.std.proofs.lemmas.Bool.{and_parts, cases_Bool, leb-true, or_cases}
 use Rattle.std.proofs.lemmas.List.{length-map}
 use Rattle.std.specs.List.{list_all}
@@ -49,31 +50,38 @@ fields_within [] [] h = omega arith
 fields_within [] (g ∷ gs) h = absurd (true≢false (sym h))
 fields_within (f ∷ fs) [] h = absurd (true≢false (sym h))
 fields_within (f ∷ fs) (g ∷ gs) h =
-    let p = and_parts (bytes_eq f.key g.key && (g.value.required || not f.value.required)) (f.value.cel_type g.value.cel_type && fields_take fs gs) h in
+    let agrees = bytes_eq f.key g.key && (g.value.required || not f.value.required) in
+    let p = and_parts agrees (f.value.cel_type g.value.cel_type && fields_take fs gs) h in
     let q = and_parts (f.value.cel_type g.value.cel_type) (fields_take fs gs) p.1 in
     omega (arith, fields_within fs gs q.1)
 
-nullable : (t : Such) (o : Value-F Value) → (is_null o ≡ true) ⊎ (fits (roll-Value o) t.0 ≡ true) → length_at o ≤ greatest_length_of t.0
+nullable : (t : Such) (o : Value-F Value) → (is_null o ≡ true) ⊎ (fits (roll-Value o) t.0 ≡ true)
+    → length_at o ≤ greatest_length_of t.0
 nullable t Value-F.Null h = omega arith
 nullable t o (inl h) = absurd (true≢false (sym h))
 nullable t o (inr h) = omega (arith, t.1.0 (roll-Value o) h, ap length_at (out_roll-Value o))
 
 -- one level of a type and a value
-fits_level : (y : CelType-F Such) (o : Value-F Value) → fits_at (map-CelType _ _ (λ e v. fits v e.0) y) o ≡ true → length_at o ≤ greatest_at y
+fits_level : (y : CelType-F Such) (o : Value-F Value) → fits_at (map-CelType _ _ (λ e v. fits v e.0) y) o ≡ true
+    → length_at o ≤ greatest_at y
 fits_level CelType-F.Null Value-F.Null h = omega arith
 fits_level CelType-F.Bool (Value-F.Bool b) h = omega arith
 fits_level CelType-F.Int (Value-F.Int x) h = omega arith
 fits_level CelType-F.Uint (Value-F.Uint n) h = omega arith
 fits_level CelType-F.Opaque Value-F.Opaque h = omega arith
 fits_level (CelType-F.Text max) (Value-F.Text bs) h = leb-true (code_points bs) max h
-fits_level (CelType-F.List max plain t) (Value-F.List vs) h = leb-true (length vs) max (and_parts (nat_le (length vs) max) (list_all (λ v. fits v t.0) vs) h).0
-fits_level (CelType-F.Map max key_max t) (Value-F.Map es) h = leb-true (length es) max (and_parts (nat_le (length es) max) (list_all (λ e. nat_le (code_points e.key) key_max && fits e.value t.0) es) h).0
+fits_level (CelType-F.List max plain t) (Value-F.List vs) h =
+    leb-true (length vs) max (and_parts (nat_le (length vs) max) (list_all (λ v. fits v t.0) vs) h).0
+fits_level (CelType-F.Map max key_max t) (Value-F.Map es) h =
+    let entries = list_all (λ e. nat_le (code_points e.key) key_max && fits e.value t.0) es in
+    leb-true (length es) max (and_parts (nat_le (length es) max) entries h).0
 fits_level (CelType-F.Object fs) (Value-F.Object es) h = simp length-map (omega (arith, simp length-map at (entries_within _ es h)))
 fits_level (CelType-F.Nullable t) o h = nullable t o (or_cases _ _ h)
 fits_level _ _ h = absurd (true≢false (sym h))
 
 -- one level of a type and of one that it takes
-takes_level : (y : CelType-F Such) (o : CelType-F CelType) → takes_at (map-CelType _ _ (λ e s. assignable s e.0) y) o ≡ true → greatest_length_step (map-CelType _ _ greatest_length_of o) ≤ greatest_at y
+takes_level : (y : CelType-F Such) (o : CelType-F CelType) → takes_at (map-CelType _ _ (λ e s. assignable s e.0) y) o ≡ true
+    → greatest_length_step (map-CelType _ _ greatest_length_of o) ≤ greatest_at y
 takes_level y CelType-F.Never h = omega arith
 takes_level CelType-F.Null CelType-F.Null h = omega arith
 takes_level CelType-F.Bool CelType-F.Bool h = omega arith
@@ -97,22 +105,26 @@ abbrev bare : CelType-F Such → CelType
 bare y = roll-CelType (map-CelType _ _ (λ e. e.0) y)
 
 greatest_is : (y : CelType-F Such) → greatest_length_of (bare y) ≡ greatest_at y
-greatest_is y = fold-roll-CelType ℕ greatest_length_step (map-CelType _ _ (λ e. e.0) y) ∙ ap greatest_length_step (fused ℕ y (λ e. e.0) greatest_length_of)
+greatest_is y =
+    fold-roll-CelType ℕ greatest_length_step (map-CelType _ _ (λ e. e.0) y) ∙ ap greatest_length_step (fused ℕ y (λ e. e.0) greatest_length_of)
 
 fits_step_within : (y : CelType-F Such) → FitsWithin (bare y)
 fits_step_within y = λ v h.
     let one : fits v (bare y) ≡ fits_at (map-CelType _ _ (λ e w. fits w e.0) y) (out-Value v) =
-    ap (λ t. t v) (fold-roll-CelType (Value → Bool) fits_step (map-CelType _ _ (λ e. e.0) y) ∙ ap fits_step (fused (Value → Bool) y (λ e. e.0) (λ t w. fits w t))) in
+    ap (λ t. t v) (fold-roll-CelType (Value → Bool) fits_step (map-CelType _ _ (λ e. e.0) y))
+    ∙ ap (λ o. fits_step o v) (fused (Value → Bool) y (λ e. e.0) (λ t w. fits w t)) in
     omega (arith, greatest_is y, fits_level y (out-Value v) (sym one ∙ h))
 
 takes_step_within : (y : CelType-F Such) → TakesWithin (bare y)
 takes_step_within y = λ s h.
     let one : assignable s (bare y) ≡ takes_at (map-CelType _ _ (λ e r. assignable r e.0) y) (out-CelType s) =
-    ap (λ t. t s) (fold-roll-CelType (CelType → Bool) takes_step (map-CelType _ _ (λ e. e.0) y) ∙ ap takes_step (fused (CelType → Bool) y (λ e. e.0) (λ t r. assignable r t))) in
+    ap (λ t. t s) (fold-roll-CelType (CelType → Bool) takes_step (map-CelType _ _ (λ e. e.0) y))
+    ∙ ap (λ o. takes_step o s) (fused (CelType → Bool) y (λ e. e.0) (λ t r. assignable r t)) in
     omega (arith, greatest_is y, fold_out-CelType ℕ greatest_length_step s, takes_level y (out-CelType s) (sym one ∙ h))
 
 within : (t : CelType) → FitsWithin t × TakesWithin t
-within = ind-CelType (λ t. FitsWithin t × TakesWithin t) (λ x y is. subst (λ z. FitsWithin (roll-CelType z) × TakesWithin (roll-CelType z)) is (fits_step_within y, takes_step_within y))
+within = ind-CelType (λ t. FitsWithin t × TakesWithin t)
+    (λ x y is. subst (λ z. FitsWithin (roll-CelType z) × TakesWithin (roll-CelType z)) is (fits_step_within y, takes_step_within y))
 
 -- what fits a type is no longer than it allows
 pub length_of-le : (t : CelType) (v : Value) → fits v t ≡ true → length_of v ≤ greatest_length_of t

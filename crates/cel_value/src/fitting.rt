@@ -10,7 +10,8 @@ use crate::value::Value;
 use plain::{Keyed, TextMap};
 
 /// Whether a value is one of a type's, within its limits at every level; what fits weighs at most what the type
-/// allows, and is no longer than it allows. An object fits where each entry has a field that it fits, and each required field has its entry.
+/// allows, and is no longer than it allows. An object fits where each entry has a field that it fits, and each
+/// required field has its entry.
 pub fn fits(value: &Value, cel_type: &CelType) -> bool
     ensures exact { result ≡ fits value.now cel_type.now }
     ensures bounded { IsTrue result → weight_of value.now ≤ greatest_of cel_type.now }

@@ -7,8 +7,8 @@ ghost use Rattle.cel_value.specs.declared.value.Value.{Value};
 ghost use Rattle.cel_value.specs.Fits.{fits};
 ghost use Rattle.cel_value.specs.Assignable.{assignable};
 ghost use Rattle.cel_value.specs.Greatest.{AllowsAsMuch};
-ghost use Rattle.cel_value.specs.Join.{join};
-ghost use Rattle.cel_value.specs.JoinRules.{Fields, IsBare, are_of_one_kind, joined_fields};
+ghost use Rattle.cel_value.specs.Join.{Fields, join};
+ghost use Rattle.cel_value.specs.JoinRules.{IsBare, are_of_one_kind, joined_fields};
 ghost use Rattle.cel_value.specs.Joining.{IsInside, join_same_kind, wrapped};
 
 use crate::cel_type::{CelType, Field};
