@@ -2,12 +2,11 @@
 use Rattle.std.proofs.Common.{◌≡◌, ℕ, zero, suc, ◌-◌, ◌<◌, Bool, List, [], ◌∷◌, ◌++◌, Result, Ok, Err, ap, sym, ◌∙◌, subst, refl, arith}
 use Rattle.plain.specs.declared.text.Keyed.{Keyed}
 use Rattle.plain.specs.Keys.{IsInKeyOrder, keys_in}
-use Rattle.serde_json.specs.Data.{Data, object, Items, Members, no_members, member}
+use Rattle.serde_json.specs.Data.{Data, Items, Members, no_members, member}
 use Rattle.cel_value.specs.declared.cel_type.Field.{Field}
-use Rattle.cel_value.specs.declared.cel_type.CelType as type
 use Rattle.cel_value.specs.declared.cel_type.CelType.{CelType}
 use Rattle.vap_schema.specs.Seen.{◌>>=◌}
-use Rattle.vap_schema.specs.Schemas.{Inner, Answers, schema_type, nested_type, field_of, fields_of, is_among, required_names, record_type}
+use Rattle.vap_schema.specs.Schemas.{Inner, Answers, schema_type, nested_type, field_of, fields_of, is_among}
 use Rattle.vap_schema.specs.declared.schema_fault.SchemaFault.{SchemaFault}
 use Rattle.vap_schema.specs.declared.schema_fault.SchemaFault.TheVariants.{TooDeep}
 use Rattle.vap_schema.specs.declared.schema_fault.SchemaError.{SchemaError}
@@ -52,16 +51,3 @@ fields_keys inner required (member k d ms) fs h =
 
 pub fields_in_order : (inner : Inner) (required : Items) (ms : Members) (fs : Fields) → IsInOrder (names_in ms) → fields_of inner required ms ≡ Ok fs → IsInKeyOrder fs
 fields_in_order inner required ms fs s h = subst IsInOrder (sym (fields_keys inner required ms fs h)) s
-
--- ---- the properties of an object
-
-pub record_stop : (inner : Inner) (d properties : Data) (ms : Members) (required : Items) (e : SchemaError) → properties ≡ object ms → required_names d ≡ Ok required
-    → Answers (fields_of inner required ms) (Err e) → Answers (record_type inner d properties) (Err e)
-record_stop inner d properties ms required (Fault f) is n a =
-    ap (record_type inner d) is ∙ ap (λ r. r >>= (λ names. fields_of inner names ms >>= (λ fields. Ok (type.Object fields)))) n ∙ ap (λ r. r >>= (λ fields. Ok (type.Object fields))) a
-record_stop inner d properties ms required OutOfMemory is n a = tt
-
-pub record_read : (inner : Inner) (d properties : Data) (ms : Members) (required : Items) (fields : Fields) → properties ≡ object ms → required_names d ≡ Ok required
-    → fields_of inner required ms ≡ Ok fields → record_type inner d properties ≡ Ok (type.Object fields)
-record_read inner d properties ms required fields is n a =
-    ap (record_type inner d) is ∙ ap (λ r. r >>= (λ names. fields_of inner names ms >>= (λ fields. Ok (type.Object fields)))) n ∙ ap (λ r. r >>= (λ fields. Ok (type.Object fields))) a

@@ -1,12 +1,14 @@
 -- What type a structural schema gives (Kubernetes, "Specifying a structural schema"; OpenAPI v3, "Schema Object").
-use Rattle.std.specs.Prelude.{◌≡◌, ℕ, zero, suc, ◌^◌, ◌&&◌, ◌||◌, Bool, true, false, not, nat_lt, if◌then◌else◌, List, [], ◌∷◌, Option, Some, None, is_some, option_and_then, Result, Ok, Err, codes}
+use Rattle.std.specs.Prelude.{◌≡◌, ℕ, zero, suc, ◌^◌, ◌&&◌, ◌||◌, Bool, true, false, not, nat_lt, if◌then◌else◌, List, [], ◌∷◌, Option, Some, None, is_some, option_map, option_and_then, Result, Ok, Err, String, codes}
 use Rattle.std.specs.Borrow.{Bor}
+use Rattle.std.specs.BTreeMap.{BTreeMap}
+use Rattle.std.specs.declared.alloc.Global.{Global}
 use Rattle.std.specs.Str.{bytes_eq}
 use Rattle.plain.specs.declared.text.Keyed.{Keyed}
 use Rattle.serde_json.specs.Data as json
 use Rattle.serde_json.specs.Data.{Data, Items, Members}
 use Rattle.serde_json.specs.Find.{get, as_bool, as_number, as_str, as_u64}
-use Rattle.serde_json.specs.View.{items_view}
+use Rattle.serde_json.specs.View.{view, items_view, members_view}
 use Rattle.serde_json.specs.declared.value.Value.{Value as Json}
 use Rattle.cel_value.specs.declared.cel_type.Field.{Field}
 use Rattle.cel_value.specs.declared.cel_type.CelType as type
@@ -123,6 +125,27 @@ abbrev pub is_among : List ℕ → Items → Bool
 is_among name json.no_items = false
 is_among name (json.item d ds) = is_text name (as_str d) || is_among name ds
 
+-- what stands under `properties`: members, or nothing
+abbrev pub properties_in : Option Data → Result (Option Members) SchemaFault
+properties_in None = Ok None
+properties_in (Some (json.object ms)) = Ok (Some ms)
+properties_in (Some _) = Err BadKeyword
+
+-- the properties, if they are named
+abbrev pub properties_of : Data → Result (Option Members) SchemaFault
+properties_of d = properties_in (get (codes "properties") d)
+
+-- what stands under `additionalProperties`: a schema or true, or nothing, as which false counts
+abbrev pub entry_in : Option Data → Result (Option Data) SchemaFault
+entry_in None = Ok None
+entry_in (Some (json.boolean b)) = Ok (if b then Some (json.boolean b) else None)
+entry_in (Some (json.object ms)) = Ok (Some (json.object ms))
+entry_in (Some _) = Err BadKeyword
+
+-- what may stand under any name, if anything may
+abbrev pub entry_of : Data → Result (Option Data) SchemaFault
+entry_of d = entry_in (get (codes "additionalProperties") d)
+
 -- ---- types
 
 -- what schemas inside give
@@ -165,58 +188,43 @@ fields_of inner required (json.member k d ms) = do
   more ← fields_of inner required ms
   Ok (f ∷ more)
 
--- an object without properties has no fields, or is kept as it is
-abbrev pub bare_type : Data → Result CelType SchemaFault
-bare_type d = do
-  kept ← flag (codes "x-kubernetes-preserve-unknown-fields") d
-  if kept then Ok type.Opaque else (do
-    _ ← required_names d
-    Ok (type.Object []))
-
 -- an object of the fields that its properties name
-abbrev pub record_type : Inner → Data → Data → Result CelType SchemaFault
-record_type inner d (json.object properties) = do
-  required ← required_names d
+abbrev pub record_type : Inner → Items → Members → Result CelType SchemaFault
+record_type inner required properties = do
   fields ← fields_of inner required properties
   Ok (type.Object fields)
-record_type inner d _ = Err BadKeyword
-
--- what stands under `properties`
-abbrev pub closed_in : Inner → Data → Option Data → Result CelType SchemaFault
-closed_in inner d None = bare_type d
-closed_in inner d (Some properties) = record_type inner d properties
-
--- an object with no other fields than its properties
-abbrev pub closed_type : Inner → Data → Result CelType SchemaFault
-closed_type inner d = closed_in inner d (get (codes "properties") d)
-
--- whether this is the word `false`
-abbrev pub is_false : Data → Bool
-is_false (json.boolean b) = not b
-is_false _ = false
 
 -- what stands under any name: anything, or what a schema gives
 abbrev pub entry_type : Inner → Data → Result CelType SchemaFault
 entry_type inner (json.boolean b) = Ok type.Opaque
-entry_type inner (json.object ms) = inner (json.object ms)
-entry_type inner _ = Err BadKeyword
+entry_type inner d = inner d
 
--- an object of entries under any names, and no properties beside
-abbrev pub map_type : Inner → Data → Data → Result CelType SchemaFault
-map_type inner d entry = do
-  _ ← absent (codes "properties") d
-  max ← limit (codes "maxProperties") 524287 d
+-- an object of entries under any names
+abbrev pub map_type : Inner → ℕ → Data → Result CelType SchemaFault
+map_type inner max entry = do
   item ← entry_type inner entry
   Ok (type.Map max 1048576 item)
 
--- what stands under `additionalProperties`
-abbrev pub object_in : Inner → Data → Option Data → Result CelType SchemaFault
-object_in inner d None = closed_type inner d
-object_in inner d (Some entry) = if is_false entry then closed_type inner d else map_type inner d entry
+-- an object without either is kept as it is, or has no fields
+abbrev pub bare_type : Bool → CelType
+bare_type kept = if kept then type.Opaque else type.Object []
 
--- an object
+-- an object by its properties or by what stands under any name, which may not stand beside them
+abbrev pub object_of : Inner → Option Members → Items → Option Data → ℕ → Bool → Result CelType SchemaFault
+object_of inner (Some properties) required None max kept = record_type inner required properties
+object_of inner None required (Some entry) max kept = map_type inner max entry
+object_of inner None required None max kept = Ok (bare_type kept)
+object_of inner (Some properties) required (Some entry) max kept = Err BadKeyword
+
+-- an object: every keyword that some object has is read, whichever of them then count
 abbrev pub object_type : Inner → Data → Result CelType SchemaFault
-object_type inner d = object_in inner d (get (codes "additionalProperties") d)
+object_type inner d = do
+  properties ← properties_of d
+  required ← required_names d
+  entry ← entry_of d
+  max ← limit (codes "maxProperties") 524287 d
+  kept ← flag (codes "x-kubernetes-preserve-unknown-fields") d
+  object_of inner properties required entry max kept
 
 -- the type by the word of `type`
 abbrev pub typed_as : Inner → Data → Option TypeWord → Result CelType SchemaFault
@@ -262,6 +270,16 @@ object_type_of d = if is_object d then (do
 abbrev pub NamesAre : Result Items SchemaFault → Result (Bor (List Json)) SchemaFault → Type 0
 NamesAre want (Ok names) = want ≡ Ok (items_view names.now)
 NamesAre want (Err f) = want ≡ Err f
+
+-- the answer has these properties or none, or this fault
+abbrev pub PropertiesAre : Result (Option Members) SchemaFault → Result (Option (Bor (BTreeMap (String Global) Json))) SchemaFault → Type 0
+PropertiesAre want (Ok found) = want ≡ Ok (option_map (λ m. members_view m.now.entries) found)
+PropertiesAre want (Err f) = want ≡ Err f
+
+-- the answer has this entry or none, or this fault
+abbrev pub EntryIs : Result (Option Data) SchemaFault → Result (Option (Bor Json)) SchemaFault → Type 0
+EntryIs want (Ok found) = want ≡ Ok (option_map (λ v. view v.now) found)
+EntryIs want (Err f) = want ≡ Err f
 
 -- the answer is this one or this fault, or memory ran out
 abbrev pub Answers : {A : Type 0} → Result A SchemaFault → Result A SchemaError → Type 0

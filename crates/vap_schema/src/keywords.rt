@@ -3,10 +3,10 @@
 ghost use Rattle.std.specs.Prelude.{◌≡◌};
 ghost use Rattle.serde_json.specs.View.{view, items_view};
 ghost use Rattle.serde_json.specs.Find.{as_str};
-ghost use Rattle.vap_schema.specs.Schemas.{flag, limit, absent, type_word, stated_word, is_plain, all_texts, required_names, is_text, is_among, is_false, NamesAre};
+ghost use Rattle.vap_schema.specs.Schemas.{flag, limit, absent, type_word, stated_word, is_plain, all_texts, required_names, is_text, is_among, properties_of, entry_of, NamesAre, PropertiesAre, EntryIs};
 
 use crate::schema_fault::SchemaFault;
-use serde_json::Value as Json;
+use serde_json::{Map, Value as Json};
 
 /// The words of `type`.
 #[derive(Clone, Copy, Debug, PartialEq, Eq)]
@@ -159,9 +159,27 @@ fn is_text(value: &Json, text: &str) -> bool
     }
 }
 
-/// Whether a value is the word `false`.
-pub fn is_false(value: &Json) -> bool
-    ensures { result ≡ is_false (view value.now) }
+/// The properties, if they are named.
+pub fn properties_of(schema: &Json) -> Result<Option<&Map<String, Json>>, SchemaFault>
+    ensures { PropertiesAre (properties_of (view schema.now)) result }
 {
-    matches!(value, Json::Bool(false))
+    match schema.get("properties") {
+        Some(Json::Object(properties)) => Ok(Some(properties)),
+        Some(_) => Err(SchemaFault::BadKeyword),
+        None => Ok(None),
+    }
+}
+
+/// What may stand under any name, if anything may: true or a schema.
+pub fn entry_of(schema: &Json) -> Result<Option<&Json>, SchemaFault>
+    ensures { EntryIs (entry_of (view schema.now)) result }
+{
+    match schema.get("additionalProperties") {
+        Some(entry) => match entry {
+            Json::Bool(truth) => Ok(if *truth { Some(entry) } else { None }),
+            Json::Object(_) => Ok(Some(entry)),
+            _ => Err(SchemaFault::BadKeyword),
+        },
+        None => Ok(None),
+    }
 }

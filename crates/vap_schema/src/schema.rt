@@ -2,11 +2,12 @@
 
 ghost use Rattle.std.specs.Prelude.{◌≡◌};
 ghost use Rattle.serde_json.specs.View.{view, items_view, members_view};
-ghost use Rattle.vap_schema.specs.Schemas.{Answers, schema_type, nested_type, own_type, untyped, list_type, object_type, closed_type, record_type, bare_type, map_type, entry_type, fields_of, field_of, object_type_of};
+ghost use Rattle.vap_schema.specs.Schemas.{Answers, schema_type, nested_type, own_type, untyped, list_type, object_type, record_type, bare_type, map_type, entry_type, fields_of, field_of, object_type_of};
 
 use crate::fixed_types::with_fixed_fields;
 use crate::keywords::{
-    TypeWord, check_absent, flag, is_among, is_false, is_plain, limit, required_names, stated_word,
+    TypeWord, check_absent, entry_of, flag, is_among, is_plain, limit, properties_of,
+    required_names, stated_word,
 };
 use crate::schema_fault::{SchemaError, SchemaFault};
 use cel_value::{CelType, Field};
@@ -134,28 +135,41 @@ fn read_list(levels: u32, alloc: Global, schema: &Json) -> Result<CelType, Schem
     }
 }
 
+/// An object: every keyword that some object has is read, whichever of them then count.
 #[cycle(read_schema)]
 fn read_object(levels: u32, alloc: Global, schema: &Json) -> Result<CelType, SchemaError>
     ensures { Answers (object_type (schema_type levels) (view schema.now)) result }
 {
-    match schema.get("additionalProperties") {
-        Some(entry) => {
-            if is_false(entry) {
-                read_closed(levels, alloc, schema)
-            } else {
-                read_map(levels, alloc, schema, entry)
-            }
+    let properties = properties_of(schema)?;
+    let required = required_names(schema)?;
+    let entry = entry_of(schema)?;
+    let max = limit(schema, "maxProperties", 524_287)?;
+    let kept = flag(schema, "x-kubernetes-preserve-unknown-fields")?;
+    match (properties, entry) {
+        (Some(properties), None) => read_record(levels, alloc, required, properties),
+        (None, Some(entry)) => read_map(levels, alloc, max, entry),
+        (None, None) => Ok(bare(alloc, kept)),
+        (Some(_), Some(_)) => Err(SchemaError::Fault(SchemaFault::BadKeyword)),
+    }
+}
+
+/// An object without properties and entries is kept as it is, or has no fields.
+fn bare(alloc: Global, kept: bool) -> CelType
+    ensures { result ≡ bare_type kept }
+{
+    if kept {
+        CelType::Opaque
+    } else {
+        CelType::Object {
+            fields: TextMap::new(alloc),
         }
-        None => read_closed(levels, alloc, schema),
     }
 }
 
 #[cycle(read_schema)]
-fn read_map(levels: u32, alloc: Global, schema: &Json, entry: &Json) -> Result<CelType, SchemaError>
-    ensures { Answers (map_type (schema_type levels) (view schema.now) (view entry.now)) result }
+fn read_map(levels: u32, alloc: Global, max: u32, entry: &Json) -> Result<CelType, SchemaError>
+    ensures { Answers (map_type (schema_type levels) max (view entry.now)) result }
 {
-    check_absent(schema, "properties")?;
-    let max = limit(schema, "maxProperties", 524_287)?;
     let item = read_entry(levels, alloc, entry)?;
     Ok(CelType::Map {
         max,
@@ -171,18 +185,7 @@ fn read_entry(levels: u32, alloc: Global, entry: &Json) -> Result<CelType, Schem
 {
     match entry {
         Json::Bool(_) => Ok(CelType::Opaque),
-        Json::Object(_) => read_schema(levels, alloc, entry),
-        _ => Err(SchemaError::Fault(SchemaFault::BadKeyword)),
-    }
-}
-
-#[cycle(read_schema)]
-fn read_closed(levels: u32, alloc: Global, schema: &Json) -> Result<CelType, SchemaError>
-    ensures { Answers (closed_type (schema_type levels) (view schema.now)) result }
-{
-    match schema.get("properties") {
-        Some(properties) => read_record(levels, alloc, schema, properties),
-        None => Ok(bare(alloc, schema)?),
+        _ => read_schema(levels, alloc, entry),
     }
 }
 
@@ -191,32 +194,13 @@ fn read_closed(levels: u32, alloc: Global, schema: &Json) -> Result<CelType, Sch
 fn read_record(
     levels: u32,
     alloc: Global,
-    schema: &Json,
-    properties: &Json,
+    required: &[Json],
+    properties: &Map<String, Json>,
 ) -> Result<CelType, SchemaError>
-    ensures { Answers (record_type (schema_type levels) (view schema.now) (view properties.now)) result }
+    ensures { Answers (record_type (schema_type levels) (items_view required.now) (members_view properties.now.entries)) result }
 {
-    match properties {
-        Json::Object(members) => {
-            let required = required_names(schema)?;
-            let fields = read_fields(levels, alloc, required, members)?;
-            Ok(CelType::Object { fields })
-        }
-        _ => Err(SchemaError::Fault(SchemaFault::BadKeyword)),
-    }
-}
-
-/// An object without properties has no fields, or is kept as it is.
-fn bare(alloc: Global, schema: &Json) -> Result<CelType, SchemaFault>
-    ensures { result ≡ bare_type (view schema.now) }
-{
-    if flag(schema, "x-kubernetes-preserve-unknown-fields")? {
-        return Ok(CelType::Opaque);
-    }
-    required_names(schema)?;
-    Ok(CelType::Object {
-        fields: TextMap::new(alloc),
-    })
+    let fields = read_fields(levels, alloc, required, properties)?;
+    Ok(CelType::Object { fields })
 }
 
 #[cycle(read_schema)]

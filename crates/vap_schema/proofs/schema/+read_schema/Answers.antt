@@ -1,11 +1,10 @@
 use Rattle.std.proofs.Common.{◌≡◌, ◌<◌, Ok, Err, ap, sym, ◌∙◌, subst, string_bytes, rules, arith}
 use Rattle.std.proofs.lemmas.Result.{err_from_is_err_and}
 use Rattle.serde_json.specs.View.{view, items_view, members_view}
-use Rattle.serde_json.proofs.Views.{view-Object}
 use Rattle.vap_schema.specs.Schemas.{Answers, schema_type, field_of, fields_of}
 use Rattle.vap_schema.proofs.Rest.{behind, behind-none, behind-all}
 use Rattle.vap_schema.proofs.Ordered.{names_in_order}
-use Rattle.vap_schema.proofs.Levels.{too_deep, one_level, fields_stop, fields_go, fields_in_order, record_stop, record_read}
+use Rattle.vap_schema.proofs.Levels.{too_deep, one_level, fields_stop, fields_go, fields_in_order}
 use Rattle.vap_schema.proofs.schema.+read_schema.Goals as goal
 
 pub read_fields-loop-name-init : goal.read_fields-loop-name-init
@@ -54,14 +53,3 @@ pub read_schema-returns-then-levels-eq0 : goal.read_schema-returns-then-levels-e
 read_schema-returns-then-levels-eq0 t c =
     let none : c.args.levels ≡ 0 = omega arith in
     too_deep c.args.levels (view c.args.schema.now) none
-
-pub read_record-returns-in_err-fields-in-Object : goal.read_record-returns-in_err-fields-in-Object
-read_record-returns-in_err-fields-in-Object t c =
-    let p = err_from_is_err_and c.from_residual-in_err-fields-in-Object.result c.from_residual-in_err-fields-in-Object.ensures.1 in
-    rw (p.1, p.2) (record_stop (schema_type c.args.levels) (view c.args.schema.now) (view c.args.properties.now) (members_view c.in-Object.members.entries) (items_view c.in_ok-required-in-Object.required.now) _ (ap view c.in-Object.is ∙ view-Object _)
-    c.in_ok-required-in-Object.ensures c.in_err-fields-in-Object.ensures)
-
-pub read_record-returns-in_ok-fields-in-Object : goal.read_record-returns-in_ok-fields-in-Object
-read_record-returns-in_ok-fields-in-Object t c =
-    record_read (schema_type c.args.levels) (view c.args.schema.now) (view c.args.properties.now) (members_view c.in-Object.members.entries) (items_view c.in_ok-required-in-Object.required.now) c.in_ok-fields-in-Object.fields (ap view c.in-Object.is ∙ view-Object _)
-    c.in_ok-required-in-Object.ensures c.in_ok-fields-in-Object.ensures

@@ -33,9 +33,6 @@ decreases-read_map l = 8 * l.levels + 2
 abbrev pub decreases-read_entry : goal.decreases-read_entry
 decreases-read_entry l = 8 * l.levels + 1
 
-abbrev pub decreases-read_closed : goal.decreases-read_closed
-decreases-read_closed l = 8 * l.levels + 4
-
 abbrev pub decreases-read_record : goal.decreases-read_record
 decreases-read_record l = 8 * l.levels + 3
 
