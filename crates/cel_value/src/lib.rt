@@ -1,9 +1,10 @@
 //! Types, values and errors of CEL, with the limits that make a rule's cost known before it runs.
 //!
 //! [`fits`] tells whether a value is of a type, and no value that fits a type weighs more than the type's greatest
-//! weight: [`weight`] counts the one and [`max_weight`] the other, up to the greatest u64. [`assignable`] tells
-//! whether what has one type may stand where another is asked, and what fits the first then fits the second.
-//! [`join`] is the type of what has one of two types: each may stand where it is asked. [`equal`] is CEL's `==`, and
+//! weight, or is longer than its greatest length: [`weight`] and [`length`] count the ones, [`max_weight`] and
+//! [`max_length`] the others, weights up to the greatest u64. [`assignable`] tells whether what has one type may stand
+//! where another is asked, and what fits the first then fits the second. [`join`] is the type of what has one of two
+//! types: each may stand where it is asked; [`join_rules`] has its rules, a law each. [`equal`] is CEL's `==`, and
 //! [`Value::copy`] and [`CelType::copy`] answer what they were given, in memory of its own. A length of a text is
 //! [`code_points`], and [`tenths`] what is charged for it.
 #![tactic(auto)]
