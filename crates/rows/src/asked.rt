@@ -22,7 +22,12 @@ pub enum Asked {
     Names,
 }
 
-/// The answer to a row's question. A question that cannot be read has none, as where memory is wanting.
+/// What is answered to a question that cannot be read.
+pub fn unreadable(alloc: Global) -> Result<String, AllocError> {
+    String::from_str(alloc, "unreadable")
+}
+
+/// The answer to a row's question.
 fn answer(alloc: Global, asked: Asked, row: &str) -> Result<String, AllocError> {
     match asked {
         Asked::Text => containers::text(alloc, row),

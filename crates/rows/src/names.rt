@@ -1,6 +1,6 @@
 //! The numbers, names and words of errors and faults.
 
-use crate::asked::{Asked, hold};
+use crate::asked::{Asked, hold, unreadable};
 use cel_lex::{LexFault, LexFaultKind};
 use cel_value::CelError;
 use std::alloc::{AllocError, Global};
@@ -87,7 +87,7 @@ pub fn names(alloc: Global, row: &str) -> Result<String, AllocError> {
         "cel_lex" => lex_faults(alloc, &LEX_FAULTS),
         "documents" => fit_faults(alloc, &FIT_FAULTS),
         "schemas" => schema_faults(alloc, &SCHEMA_FAULTS),
-        _ => Err(AllocError),
+        _ => unreadable(alloc),
     }
 }
 
@@ -98,11 +98,14 @@ const NAMES: [(&str, &str); 4] = [
     ),
     (
         "cel_lex",
-        "1 a character that begins no token at 3; 2 a text that is not closed at 3; 3 a backslash that begins no escape at 3; 4 a number out of range at 3; 5 a text that is too long at 3; ",
+        "1 a character that begins no token at 3; 2 a text that is not closed at 3; \
+         3 a backslash that begins no escape at 3; 4 a number out of range at 3; 5 a text that is too long at 3; ",
     ),
     (
         "documents",
-        "1 WrongKind, a value of another kind; 2 Missing, a required field that is absent; 3 NullHere, null where it is not allowed; 4 OverLimit, longer than allowed; 5 IntRange, an integer out of range; ",
+        "1 WrongKind, a value of another kind; 2 Missing, a required field that is absent; \
+         3 NullHere, null where it is not allowed; 4 OverLimit, longer than allowed; \
+         5 IntRange, an integer out of range; ",
     ),
     (
         "schemas",

@@ -15,27 +15,26 @@ pub fn json(alloc: Global, text: &str) -> Result<Json, AllocError> {
     }
 }
 
-/// The type that is written.
+/// The type that is written. What is no type is as never, of which no such row has the answer.
 #[cycle(type_of)]
 pub fn type_of(alloc: Global, json: &Json) -> Result<CelType, AllocError> {
     match json {
-        Json::String(word) => word_type(word.as_str()),
+        Json::String(word) => Ok(word_type(word.as_str())),
         Json::Number(_) => Ok(CelType::Text { max: limit(json) }),
         Json::Array(parts) => wrapped(alloc, parts.as_slice()),
         Json::Object(members) => object(alloc, members),
-        _ => Err(AllocError),
+        _ => Ok(CelType::Never),
     }
 }
 
-fn word_type(word: &str) -> Result<CelType, AllocError> {
+fn word_type(word: &str) -> CelType {
     match word {
-        "never" => Ok(CelType::Never),
-        "null" => Ok(CelType::Null),
-        "bool" => Ok(CelType::Bool),
-        "int" => Ok(CelType::Int),
-        "uint" => Ok(CelType::Uint),
-        "opaque" => Ok(CelType::Opaque),
-        _ => Err(AllocError),
+        "null" => CelType::Null,
+        "bool" => CelType::Bool,
+        "int" => CelType::Int,
+        "uint" => CelType::Uint,
+        "opaque" => CelType::Opaque,
+        _ => CelType::Never,
     }
 }
 
@@ -51,27 +50,27 @@ fn wrapped(alloc: Global, parts: &[Json]) -> Result<CelType, AllocError> {
     match parts {
         [.., inner] => {
             let inner = type_of(alloc, inner)?;
-            around(parts, Boxed::new(alloc, inner)?)
+            Ok(around(parts, Boxed::new(alloc, inner)?))
         }
-        [] => Err(AllocError),
+        [] => Ok(CelType::Never),
     }
 }
 
 /// The type that is written around its inner type.
-fn around(parts: &[Json], item: Boxed<CelType>) -> Result<CelType, AllocError> {
+fn around(parts: &[Json], item: Boxed<CelType>) -> CelType {
     match parts {
-        [_, _] => Ok(CelType::Nullable(item)),
-        [kind, max, _] => Ok(CelType::List {
+        [_, _] => CelType::Nullable(item),
+        [kind, max, _] => CelType::List {
             max: limit(max),
             plain: kind.as_str() == Some("list"),
             item,
-        }),
-        [_, max, key_max, _] => Ok(CelType::Map {
+        },
+        [_, max, key_max, _] => CelType::Map {
             max: limit(max),
             key_max: limit(key_max),
             item,
-        }),
-        _ => Err(AllocError),
+        },
+        _ => CelType::Never,
     }
 }
 

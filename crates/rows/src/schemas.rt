@@ -31,7 +31,9 @@ const OPEN: &str = r#"{"type":"object","required":["o"],"properties":{
 
 /// The type of objects without fields of their own.
 const BARE: &str =
-    "{apiVersion?:text<=317,kind?:text<=63,metadata?:{annotations?:map<=4096 text<=317 text<=262144,generateName?:text<=253,labels?:map<=4096 text<=317 text<=63,name?:text<=253,namespace?:text<=253,uid?:text<=253,},}";
+    "{apiVersion?:text<=317,kind?:text<=63,metadata?:{annotations?:map<=4096 text<=317 text<=262144,\
+         generateName?:text<=253,labels?:map<=4096 text<=317 text<=63,name?:text<=253,namespace?:text<=253,\
+         uid?:text<=253,},}";
 
 fn refusal(alloc: Global, error: SchemaError) -> Result<String, AllocError> {
     match error {

@@ -108,7 +108,8 @@ const WORDS: [(&str, &str); 14] = [
     ),
     (
         "a.b[c]{d:e,f}?(in)",
-        "name a 0..1;. 1..2;name b 2..3;[ 3..4;name c 4..5;] 5..6;{ 6..7;name d 7..8;: 8..9;name e 9..10;, 10..11;name f 11..12;} 12..13;? 13..14;( 14..15;in 15..17;) 17..18;",
+        "name a 0..1;. 1..2;name b 2..3;[ 3..4;name c 4..5;] 5..6;{ 6..7;name d 7..8;: 8..9;name e 9..10;, 10..11;\
+         name f 11..12;} 12..13;? 13..14;( 14..15;in 15..17;) 17..18;",
     ),
     (
         "x.for() null",
@@ -127,7 +128,10 @@ const WORDS: [(&str, &str); 14] = [
     ),
     (
         "as break const continue else for function if import let loop package namespace return var void while",
-        "reserved as 0..2;reserved break 3..8;reserved const 9..14;reserved continue 15..23;reserved else 24..28;reserved for 29..32;reserved function 33..41;reserved if 42..44;reserved import 45..51;reserved let 52..55;reserved loop 56..60;reserved package 61..68;reserved namespace 69..78;reserved return 79..85;reserved var 86..89;reserved void 90..94;reserved while 95..100;",
+        "reserved as 0..2;reserved break 3..8;reserved const 9..14;reserved continue 15..23;reserved else 24..28;\
+         reserved for 29..32;reserved function 33..41;reserved if 42..44;reserved import 45..51;reserved let 52..55;\
+         reserved loop 56..60;reserved package 61..68;reserved namespace 69..78;reserved return 79..85;\
+         reserved var 86..89;reserved void 90..94;reserved while 95..100;",
     ),
     ("", ""),
     ("1 = 2", "BadChar at 2"),

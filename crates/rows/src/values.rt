@@ -1,6 +1,6 @@
 //! Types and values: copies, weights, what fits, what may stand where, joins and equality.
 
-use crate::asked::{Asked, hold, holds};
+use crate::asked::{Asked, hold, holds, unreadable};
 use crate::notation::{json, type_of};
 use crate::shown::{shown, shown_type};
 use cel_value::{
@@ -10,7 +10,7 @@ use cel_value::{
 use serde_json::Value as Json;
 use std::alloc::{AllocError, Global};
 use std::test::Fail;
-use vap_schema::fit;
+use vap_schema::{FitError, fit};
 
 fn types_of(alloc: Global, row: &[Json]) -> Result<Vec<CelType>, AllocError> {
     let mut types = Vec::new(alloc);
@@ -45,7 +45,7 @@ fn listed_types(alloc: Global, row: &[Json]) -> Result<String, AllocError> {
     match copies.as_slice() {
         [cel_type] => one_type(alloc, cel_type),
         [left, right] => two_types(alloc, left, right),
-        _ => Err(AllocError),
+        _ => unreadable(alloc),
     }
 }
 
@@ -55,16 +55,17 @@ pub fn types(alloc: Global, row: &str) -> Result<String, AllocError> {
     let row = json(alloc, row)?;
     match &row {
         Json::Array(types) => listed_types(alloc, types.as_slice()),
-        _ => Err(AllocError),
+        _ => unreadable(alloc),
     }
 }
 
-/// The value of a document at a type.
+/// The value of a document at a type. A document that is none is as null.
 fn value_at(alloc: Global, cel_type: &Json, document: &Json) -> Result<Value, AllocError> {
     let cel_type = type_of(alloc, cel_type)?;
     match fit(alloc, document, &cel_type, "") {
         Ok(value) => Ok(value),
-        Err(_) => Err(AllocError),
+        Err(FitError::Fault(_)) => Ok(Value::Null),
+        Err(FitError::OutOfMemory) => Err(AllocError),
     }
 }
 
@@ -120,7 +121,7 @@ fn listed_values(alloc: Global, row: &[Json]) -> Result<String, AllocError> {
         [left_type, left, right_type, right] => two_values(
             alloc, left_type, left, right_type, right,
         ),
-        _ => Err(AllocError),
+        _ => unreadable(alloc),
     }
 }
 
@@ -130,7 +131,7 @@ pub fn values(alloc: Global, row: &str) -> Result<String, AllocError> {
     let row = json(alloc, row)?;
     match &row {
         Json::Array(parts) => listed_values(alloc, parts.as_slice()),
-        _ => Err(AllocError),
+        _ => unreadable(alloc),
     }
 }
 
