@@ -7,7 +7,7 @@ use cel_code::cel_check::{
 };
 use cel_code::{Image, Instr, Target, compile};
 use cel_parse::{Expr, Syntax, UnaryOperator, parse};
-use cel_value::{CelType, Value};
+use cel_value::{CelType, Value, assignable};
 use plain::Boxed;
 use std::alloc::{AllocError, Global};
 use std::test::Fail;
@@ -171,17 +171,21 @@ fn operators_have_their_numbers(rt: HostRuntime) {
     }
 }
 
-fn type_at_one(operator: Operator, operand: Kind) -> &'static str {
+fn is_same(left: &CelType, right: &CelType) -> bool {
+    assignable(left, right) && assignable(right, left)
+}
+
+fn is_at_one(operator: Operator, operand: Kind, wanted: Kind) -> bool {
     match operator.type_of_one(&type_of(operand)) {
-        Ok(cel_type) => type_name(&cel_type),
-        Err(_) => "none",
+        Ok(cel_type) => is_same(&cel_type, &type_of(wanted)),
+        Err(_) => false,
     }
 }
 
-fn type_at_two(alloc: Global, operator: Operator, left: Kind, right: Kind) -> &'static str {
-    match operator.type_of_two(alloc, &type_of(left), &type_of(right)) {
-        Ok(cel_type) => type_name(&cel_type),
-        Err(_) => "none",
+fn is_at_two(alloc: Global, operator: Operator, operand: Kind, wanted: Kind) -> bool {
+    match operator.type_of_two(alloc, &type_of(operand), &type_of(operand)) {
+        Ok(cel_type) => is_same(&cel_type, &type_of(wanted)),
+        Err(_) => false,
     }
 }
 
@@ -195,16 +199,19 @@ fn roles(kind: Kind) -> (bool, bool, bool) {
     )
 }
 
+static ROLES: [(Kind, (bool, bool, bool)); 4] = [
+    (Kind::Never, (true, true, true)),
+    (Kind::Truth, (true, false, true)),
+    (Kind::Whole, (false, true, true)),
+    (Kind::Text, (false, false, false)),
+];
+
 #[test]
 fn operators_have_their_types(rt: HostRuntime) {
-    assert_eq!(rt; type_at_one(Operator::Not, Kind::Truth), "bool");
-    assert_eq!(rt; type_at_one(Operator::Negate, Kind::Whole), "int");
-    assert_eq!(rt;
-        type_at_two(rt.alloc(), Operator::Less, Kind::Truth, Kind::Truth),
-        "bool"
-    );
-    assert_eq!(rt; roles(Kind::Never), (true, true, true));
-    assert_eq!(rt; roles(Kind::Truth), (true, false, true));
-    assert_eq!(rt; roles(Kind::Whole), (false, true, true));
-    assert_eq!(rt; roles(Kind::Text), (false, false, false));
+    assert!(rt; is_at_one(Operator::Not, Kind::Truth, Kind::Truth));
+    assert!(rt; is_at_one(Operator::Negate, Kind::Whole, Kind::Whole));
+    assert!(rt; is_at_two(rt.alloc(), Operator::Less, Kind::Truth, Kind::Truth));
+    for &(kind, own) in &ROLES {
+        assert_eq!(rt; roles(kind), own);
+    }
 }

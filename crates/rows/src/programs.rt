@@ -7,6 +7,7 @@ use cel_machine::{Run, Slots, run, slots_fit};
 use cel_value::{CelError, CelType, Value};
 use plain::Items;
 use std::alloc::{AllocError, Global};
+use std::process::Abort;
 use std::test::Fail;
 
 /// An image as a row writes it, where a target has one type at most.
@@ -129,6 +130,14 @@ fn run_of(
     run_image(alloc, image_of(alloc, written)?, held)
 }
 
+fn come_to(rt: &impl Abort, alloc: Global, rows: &[(Written, &str)]) -> Result<(), Fail> {
+    for (written, ended) in rows {
+        let own = run_of(alloc, written, &[])?;
+        assert_eq!(rt; own.as_str(), *ended);
+    }
+    Ok(())
+}
+
 static RUNS: [(Written<'static>, &str); 5] = [
     // `21 + 21`
     (
@@ -249,11 +258,7 @@ static RUNS: [(Written<'static>, &str); 5] = [
 
 #[test]
 fn a_run_is_charged_by_its_nodes(rt: HostRuntime) -> Result<(), Fail> {
-    for (written, ended) in &RUNS {
-        let own = run_of(rt.alloc(), written, &[])?;
-        assert_eq!(rt; own.as_str(), *ended);
-    }
-    Ok(())
+    come_to(&rt, rt.alloc(), &RUNS)
 }
 
 /// The image of a constant alone, with other constants, targets and code in some rows.
@@ -350,11 +355,7 @@ static FAULTS: [(Written<'static>, &str); 11] = [
 
 #[test]
 fn a_fault_is_told_with_its_instruction(rt: HostRuntime) -> Result<(), Fail> {
-    for (written, fault) in &FAULTS {
-        let own = run_of(rt.alloc(), written, &[])?;
-        assert_eq!(rt; own.as_str(), *fault);
-    }
-    Ok(())
+    come_to(&rt, rt.alloc(), &FAULTS)
 }
 
 static RULES: [(VerifyRule, u8); 7] = [

@@ -4,6 +4,7 @@
 use cel_parse::{BinaryOperator, Entry, Expr, Loop, Syntax, UnaryOperator, one_expression, parse};
 use plain::Boxed;
 use std::alloc::{AllocError, Global};
+use std::process::Abort;
 use std::test::Fail;
 
 fn unary_of(operator: UnaryOperator) -> &'static str {
@@ -208,6 +209,14 @@ fn depth_of(
     Ok(depth(tree.as_str()))
 }
 
+fn are_shown(rt: &impl Abort, alloc: Global, rows: &[(&str, &str)]) -> Result<(), Fail> {
+    for &(text, tree) in rows {
+        let own = shown(alloc, text)?;
+        assert_eq!(rt; own.as_str(), tree, "{text}");
+    }
+    Ok(())
+}
+
 static TREES: [(&str, &str); 31] = [
     ("1 + 2 * 3", " (+@2 (1@0) (*@6 (2@4) (3@8)))"),
     ("1 - 2 - 3", " (-@6 (-@2 (1@0) (2@4)) (3@8))"),
@@ -256,11 +265,7 @@ static TREES: [(&str, &str); 31] = [
 
 #[test]
 fn a_tree_is_the_grammars(rt: HostRuntime) -> Result<(), Fail> {
-    for &(text, tree) in &TREES {
-        let own = shown(rt.alloc(), text)?;
-        assert_eq!(rt; own.as_str(), tree, "{text}");
-    }
-    Ok(())
+    are_shown(&rt, rt.alloc(), &TREES)
 }
 
 static NUMBERS: [(&str, &str); 6] = [
@@ -274,11 +279,7 @@ static NUMBERS: [(&str, &str); 6] = [
 
 #[test]
 fn a_number_is_one_node(rt: HostRuntime) -> Result<(), Fail> {
-    for &(text, tree) in &NUMBERS {
-        let own = shown(rt.alloc(), text)?;
-        assert_eq!(rt; own.as_str(), tree, "{text}");
-    }
-    Ok(())
+    are_shown(&rt, rt.alloc(), &NUMBERS)
 }
 
 static MACROS: [(&str, &str); 14] = [
@@ -300,11 +301,7 @@ static MACROS: [(&str, &str); 14] = [
 
 #[test]
 fn macros_are_expanded(rt: HostRuntime) -> Result<(), Fail> {
-    for &(text, tree) in &MACROS {
-        let own = shown(rt.alloc(), text)?;
-        assert_eq!(rt; own.as_str(), tree, "{text}");
-    }
-    Ok(())
+    are_shown(&rt, rt.alloc(), &MACROS)
 }
 
 static DEEPEST: [(usize, &str, &str, &str, usize); 17] = [
