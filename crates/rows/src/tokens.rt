@@ -1,7 +1,9 @@
 //! The tokens of texts, and the faults of texts that are not cut.
 
 use crate::asked::{Asked, hold, holds};
-use cel_lex::{Infix, LexError, Token, TokenKind, one_answer, text_meaning, tokens};
+use cel_lex::{
+    Infix, LexError, Token, TokenKind, one_answer, text_closing, text_meaning, tokens,
+};
 use std::alloc::{AllocError, Global};
 use std::test::Fail;
 
@@ -173,6 +175,7 @@ const TEXTS: [(&str, &str); 18] = [
 #[test]
 fn literal_texts(rt: HostRuntime) -> Result<(), Fail> {
     text_meaning();
+    text_closing();
     hold(&rt, Asked::Tokens, &TEXTS)
 }
 

@@ -4,8 +4,8 @@ use crate::asked::{Asked, hold, holds, unreadable};
 use crate::notation::{json, type_of};
 use crate::shown::{shown, shown_type};
 use cel_value::{
-    CelError, CelType, Value, assignable, code_points, copy_types, equal, fits, join, max_weight,
-    tenths, weight,
+    CelError, CelType, Value, assignable, code_points, copy_types, equal, fits, join, join_rules,
+    length, max_length, max_weight, tenths, weight,
 };
 use serde_json::Value as Json;
 use std::alloc::{AllocError, Global};
@@ -23,7 +23,8 @@ fn types_of(alloc: Global, row: &[Json]) -> Result<Vec<CelType>, AllocError> {
 fn one_type(alloc: Global, cel_type: &CelType) -> Result<String, AllocError> {
     let text = shown_type(alloc, cel_type)?;
     let greatest = max_weight(cel_type);
-    format!(in alloc; "{}, at most {greatest}", text.as_str())
+    let longest = max_length(cel_type);
+    format!(in alloc; "{}, at most {greatest}, length {longest}", text.as_str())
 }
 
 fn joined(alloc: Global, left: &CelType, right: &CelType) -> Result<String, AllocError> {
@@ -49,7 +50,7 @@ fn listed_types(alloc: Global, row: &[Json]) -> Result<String, AllocError> {
     }
 }
 
-/// Of one type its copy and its greatest weight; of two their join, and whether what has the first may stand where the
+/// Of one type its copy, its greatest weight and its greatest length; of two their join, and whether what has the first may stand where the
 /// second is asked.
 pub fn types(alloc: Global, row: &str) -> Result<String, AllocError> {
     let row = json(alloc, row)?;
@@ -81,8 +82,8 @@ fn copied(alloc: Global, value: &Value) -> Result<String, AllocError> {
 fn copied_and_fitted(alloc: Global, value: &Value, other: &CelType) -> Result<String, AllocError> {
     let text = copied(alloc, value)?;
     let may = if fits(value, other) { "" } else { "not " };
-    let own = weight(value);
-    format!(in alloc; "{}, weight {own}, {may}fitting", text.as_str())
+    let (own, long) = (weight(value), length(value));
+    format!(in alloc; "{}, weight {own}, length {long}, {may}fitting", text.as_str())
 }
 
 fn one_value(
@@ -125,7 +126,7 @@ fn listed_values(alloc: Global, row: &[Json]) -> Result<String, AllocError> {
     }
 }
 
-/// Of a document at a type the copy of its value, the weight, and whether the value fits another type; of two, each at
+/// Of a document at a type the copy of its value, the weight, the length, and whether the value fits another type; of two, each at
 /// its type, whether their values are equal.
 pub fn values(alloc: Global, row: &str) -> Result<String, AllocError> {
     let row = json(alloc, row)?;
@@ -135,21 +136,23 @@ pub fn values(alloc: Global, row: &str) -> Result<String, AllocError> {
     }
 }
 
-const WEIGHTS: [(&str, &str); 9] = [
-    (r#"["never"]"#, "never, at most 1"),
-    (r#"["opaque"]"#, "opaque, at most 1"),
-    (r#"[50]"#, "text<=50, at most 6"),
-    (r#"[["list",100,50]]"#, "list<=100 text<=50, at most 601"),
-    (r#"[["map",2,10,"int"]]"#, "map<=2 text<=10 int, at most 7"),
-    (r#"[{"a":19}]"#, "{a:text<=19,}, at most 6"),
-    (r#"[["nullable",19]]"#, "nullable text<=19, at most 3"),
+const WEIGHTS: [(&str, &str); 11] = [
+    (r#"["null"]"#, "null, at most 1, length 0"),
+    (r#"["int"]"#, "int, at most 1, length 1"),
+    (r#"["never"]"#, "never, at most 1, length 0"),
+    (r#"["opaque"]"#, "opaque, at most 1, length 1"),
+    (r#"[50]"#, "text<=50, at most 6, length 50"),
+    (r#"[["list",100,50]]"#, "list<=100 text<=50, at most 601, length 100"),
+    (r#"[["map",2,10,"int"]]"#, "map<=2 text<=10 int, at most 7, length 2"),
+    (r#"[{"a":19}]"#, "{a:text<=19,}, at most 6, length 1"),
+    (r#"[["nullable",19]]"#, "nullable text<=19, at most 3, length 19"),
     (
         r#"[{"b":"bool","a?":["set",3,["nullable","uint"]]}]"#,
-        "{a?:set<=3 nullable uint,b:bool,}, at most 10",
+        "{a?:set<=3 nullable uint,b:bool,}, at most 10, length 2",
     ),
     (
         r#"[["list",4294967295,["list",4294967295,["list",4294967295,"int"]]]]"#,
-        "list<=4294967295 list<=4294967295 list<=4294967295 int, at most 18446744073709551615",
+        "list<=4294967295 list<=4294967295 list<=4294967295 int, at most 18446744073709551615, length 4294967295",
     ),
 ];
 
@@ -195,7 +198,8 @@ const JOINS: [(&str, &str); 15] = [
 ];
 
 #[test]
-fn a_join_is_the_least_type_above_both(rt: HostRuntime) -> Result<(), Fail> {
+fn a_join_is_given_by_the_first_rule_that_fits(rt: HostRuntime) -> Result<(), Fail> {
+    join_rules();
     hold(&rt, Asked::Types, &JOINS)
 }
 
@@ -299,58 +303,58 @@ fn a_join_goes_on_inside_nullables(rt: HostRuntime) -> Result<(), Fail> {
 const VALUES: [(&str, &str); 18] = [
     (
         r#"[100,"hello world",11]"#,
-        "'hello world', weight 3, fitting",
+        "'hello world', weight 3, length 11, fitting",
     ),
     (
         r#"[100,"😀😀😀😀😀😀😀😀😀😀😀",10]"#,
-        "'😀😀😀😀😀😀😀😀😀😀😀', weight 3, not fitting",
+        "'😀😀😀😀😀😀😀😀😀😀😀', weight 3, length 11, not fitting",
     ),
-    (r#"[3,"",0]"#, "'', weight 1, fitting"),
-    (r#"[4,"äöü",3]"#, "'äöü', weight 2, fitting"),
-    (r#"[4,"äöüß",3]"#, "'äöüß', weight 2, not fitting"),
+    (r#"[3,"",0]"#, "'', weight 1, length 0, fitting"),
+    (r#"[4,"äöü",3]"#, "'äöü', weight 2, length 3, fitting"),
+    (r#"[4,"äöüß",3]"#, "'äöüß', weight 2, length 4, not fitting"),
     (
         r#"[["list",2,9],["ab","abc"],["list",2,3]]"#,
-        "['ab','abc',], weight 5, fitting",
+        "['ab','abc',], weight 5, length 2, fitting",
     ),
     (
         r#"[["list",2,9],["ab","abc"],["list",2,2]]"#,
-        "['ab','abc',], weight 5, not fitting",
+        "['ab','abc',], weight 5, length 2, not fitting",
     ),
     (
         r#"[["list",2,"int"],[1,2],["set",2,"int"]]"#,
-        "[1,2,], weight 3, fitting",
+        "[1,2,], weight 3, length 2, fitting",
     ),
     (
         r#"[["list",2,"int"],[1,2],["set",1,"int"]]"#,
-        "[1,2,], weight 3, not fitting",
+        "[1,2,], weight 3, length 2, not fitting",
     ),
     (
         r#"[["list",2,"int"],[1,2],["list",2,"uint"]]"#,
-        "[1,2,], weight 3, not fitting",
+        "[1,2,], weight 3, length 2, not fitting",
     ),
     (
         r#"[["map",1,2,"int"],{"ab":1},["map",1,2,"int"]]"#,
-        "map{ab:1,}, weight 4, fitting",
+        "map{ab:1,}, weight 4, length 1, fitting",
     ),
     (
         r#"[["map",1,2,"int"],{"ab":1},["map",1,1,"int"]]"#,
-        "map{ab:1,}, weight 4, not fitting",
+        "map{ab:1,}, weight 4, length 1, not fitting",
     ),
     (
         r#"[["map",1,2,"int"],{"ab":1},["map",0,2,"int"]]"#,
-        "map{ab:1,}, weight 4, not fitting",
+        "map{ab:1,}, weight 4, length 1, not fitting",
     ),
     (
         r#"["int",-9223372036854775808,"int"]"#,
-        "-9223372036854775808, weight 1, fitting",
+        "-9223372036854775808, weight 1, length 1, fitting",
     ),
     (
         r#"["null",null,["nullable","int"]]"#,
-        "null, weight 1, fitting",
+        "null, weight 1, length 0, fitting",
     ),
-    (r#"["null",null,"int"]"#, "null, weight 1, not fitting"),
-    (r#"["bool",true,"never"]"#, "true, weight 1, not fitting"),
-    (r#"["opaque",[1],"opaque"]"#, "opaque, weight 1, fitting"),
+    (r#"["null",null,"int"]"#, "null, weight 1, length 0, not fitting"),
+    (r#"["bool",true,"never"]"#, "true, weight 1, length 1, not fitting"),
+    (r#"["opaque",[1],"opaque"]"#, "opaque, weight 1, length 1, fitting"),
 ];
 
 #[test]
@@ -361,36 +365,36 @@ fn a_value_weighs_by_code_points_and_fits_within_its_limits(rt: HostRuntime) -> 
 const FIELDS: [(&str, &str); 9] = [
     (
         r#"[{"a":"int"},{"a":1},{"a":"int"}]"#,
-        "{a:1,}, weight 4, fitting",
+        "{a:1,}, weight 4, length 1, fitting",
     ),
     (
         r#"[{"a":"int"},{"a":1},{"a?":"int"}]"#,
-        "{a:1,}, weight 4, fitting",
+        "{a:1,}, weight 4, length 1, fitting",
     ),
-    (r#"[{"a?":"int"},{},{"a?":"int"}]"#, "{}, weight 1, fitting"),
+    (r#"[{"a?":"int"},{},{"a?":"int"}]"#, "{}, weight 1, length 0, fitting"),
     (
         r#"[{"a?":"int"},{},{"a":"int"}]"#,
-        "{}, weight 1, not fitting",
+        "{}, weight 1, length 0, not fitting",
     ),
     (
         r#"[{"b":"int"},{"b":1},{"a?":"int"}]"#,
-        "{b:1,}, weight 4, not fitting",
+        "{b:1,}, weight 4, length 1, not fitting",
     ),
     (
         r#"[{"a":"int"},{"a":1},{"a":"uint"}]"#,
-        "{a:1,}, weight 4, not fitting",
+        "{a:1,}, weight 4, length 1, not fitting",
     ),
     (
         r#"[{"a":"int"},{"a":1},["map",9,9,"int"]]"#,
-        "{a:1,}, weight 4, not fitting",
+        "{a:1,}, weight 4, length 1, not fitting",
     ),
     (
         r#"[{"a":"int","c":"bool"},{"c":true,"a":1},{"a":"int","b?":"int","c":"bool"}]"#,
-        "{a:1,c:true,}, weight 7, fitting",
+        "{a:1,c:true,}, weight 7, length 2, fitting",
     ),
     (
         r#"[{"hello world":"null"},{"hello world":null},{"hello world":["nullable",3]}]"#,
-        "{hello world:null,}, weight 5, fitting",
+        "{hello world:null,}, weight 5, length 1, fitting",
     ),
 ];
 
@@ -431,9 +435,9 @@ fn what_is_equal_has_one_kind_and_content(rt: HostRuntime) -> Result<(), Fail> {
 fn an_unsigned_value_is_no_int(rt: HostRuntime) -> Result<(), Fail> {
     assert!(rt; !equal(&Value::Int(7), &Value::Uint(7)));
     let got = copied_and_fitted(rt.alloc(), &Value::Uint(7), &CelType::Int)?;
-    assert_eq!(rt; got.as_str(), "7u, weight 1, not fitting");
+    assert_eq!(rt; got.as_str(), "7u, weight 1, length 1, not fitting");
     let got = copied_and_fitted(rt.alloc(), &Value::Uint(7), &CelType::Uint)?;
-    assert_eq!(rt; got.as_str(), "7u, weight 1, fitting");
+    assert_eq!(rt; got.as_str(), "7u, weight 1, length 1, fitting");
     Ok(())
 }
 
@@ -455,7 +459,7 @@ fn are_copied_and_joined(alloc: Global) -> Result<bool, AllocError> {
             alloc,
             Asked::Values,
             r#"[["list",2,{"a":["map",1,1,9]}],[{"a":{"k":"v"}}],"int"]"#,
-            "[{a:map{k:'v',},},], weight 9, not fitting",
+            "[{a:map{k:'v',},},], weight 9, length 1, not fitting",
         )?,
     )
 }
