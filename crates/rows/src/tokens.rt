@@ -1,9 +1,7 @@
 //! The tokens of texts, and the faults of texts that are not cut.
 
 use crate::asked::{Asked, hold, holds};
-use cel_lex::{
-    Infix, LexError, Token, TokenKind, one_answer, text_closing, text_meaning, tokens,
-};
+use cel_lex::{Infix, LexError, Token, TokenKind, one_answer, text_closing, text_meaning, tokens};
 use std::alloc::{AllocError, Global};
 use std::test::Fail;
 

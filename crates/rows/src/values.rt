@@ -83,7 +83,10 @@ fn copied_and_fitted(alloc: Global, value: &Value, other: &CelType) -> Result<St
     let text = copied(alloc, value)?;
     let may = if fits(value, other) { "" } else { "not " };
     let (own, long) = (weight(value), length(value));
-    format!(in alloc; "{}, weight {own}, length {long}, {may}fitting", text.as_str())
+    format!(in alloc;
+        "{}, weight {own}, length {long}, {may}fitting",
+        text.as_str()
+    )
 }
 
 fn one_value(
@@ -142,10 +145,19 @@ const WEIGHTS: [(&str, &str); 11] = [
     (r#"["never"]"#, "never, at most 1, length 0"),
     (r#"["opaque"]"#, "opaque, at most 1, length 1"),
     (r#"[50]"#, "text<=50, at most 6, length 50"),
-    (r#"[["list",100,50]]"#, "list<=100 text<=50, at most 601, length 100"),
-    (r#"[["map",2,10,"int"]]"#, "map<=2 text<=10 int, at most 7, length 2"),
+    (
+        r#"[["list",100,50]]"#,
+        "list<=100 text<=50, at most 601, length 100",
+    ),
+    (
+        r#"[["map",2,10,"int"]]"#,
+        "map<=2 text<=10 int, at most 7, length 2",
+    ),
     (r#"[{"a":19}]"#, "{a:text<=19,}, at most 6, length 1"),
-    (r#"[["nullable",19]]"#, "nullable text<=19, at most 3, length 19"),
+    (
+        r#"[["nullable",19]]"#,
+        "nullable text<=19, at most 3, length 19",
+    ),
     (
         r#"[{"b":"bool","a?":["set",3,["nullable","uint"]]}]"#,
         "{a?:set<=3 nullable uint,b:bool,}, at most 10, length 2",
@@ -352,9 +364,18 @@ const VALUES: [(&str, &str); 18] = [
         r#"["null",null,["nullable","int"]]"#,
         "null, weight 1, length 0, fitting",
     ),
-    (r#"["null",null,"int"]"#, "null, weight 1, length 0, not fitting"),
-    (r#"["bool",true,"never"]"#, "true, weight 1, length 1, not fitting"),
-    (r#"["opaque",[1],"opaque"]"#, "opaque, weight 1, length 1, fitting"),
+    (
+        r#"["null",null,"int"]"#,
+        "null, weight 1, length 0, not fitting",
+    ),
+    (
+        r#"["bool",true,"never"]"#,
+        "true, weight 1, length 1, not fitting",
+    ),
+    (
+        r#"["opaque",[1],"opaque"]"#,
+        "opaque, weight 1, length 1, fitting",
+    ),
 ];
 
 #[test]
@@ -371,7 +392,10 @@ const FIELDS: [(&str, &str); 9] = [
         r#"[{"a":"int"},{"a":1},{"a?":"int"}]"#,
         "{a:1,}, weight 4, length 1, fitting",
     ),
-    (r#"[{"a?":"int"},{},{"a?":"int"}]"#, "{}, weight 1, length 0, fitting"),
+    (
+        r#"[{"a?":"int"},{},{"a?":"int"}]"#,
+        "{}, weight 1, length 0, fitting",
+    ),
     (
         r#"[{"a?":"int"},{},{"a":"int"}]"#,
         "{}, weight 1, length 0, not fitting",
