@@ -117,10 +117,10 @@ keeps_patched a b m i le k =
 has_put : (c : Code) (i : Instr) → Has (with_instr c i) (length c.instrs) i
 has_put c i = record { is = get_last c.instrs i }
 
-pub interned : (old new : Code) (v w : Value) → w ≡ v → new.constants ≡ old.constants ++ w ∷ [] → new.instrs ≡ old.instrs → Interns old new v (length old.constants)
-interned old new v w same added code =
+pub interned : (old new : Code) (v w : Value) (number : ℕ) → w ≡ v → number ≡ length old.constants → new.constants ≡ old.constants ++ w ∷ [] → new.instrs ≡ old.instrs → Interns old new v number
+interned old new v w number same last added code =
     let added : new.constants ≡ old.constants ++ v ∷ [] = rw (sym same) added in
-    record { instrs = code; constant = rw added (get_last old.constants v); kept = λ k x h. rw added (get_kept old.constants v k x h) }
+    rw last (record { instrs = code; constant = rw added (get_last old.constants v); kept = λ k x h. rw added (get_kept old.constants v k x h) })
 
 keeps_interned : (old new : Code) (v : Value) (k : ℕ) → Interns old new v k → Keeps old new
 keeps_interned old new v k n =

@@ -1,4 +1,4 @@
-use Rattle.std.proofs.Common.{refl}
+use Rattle.std.proofs.Common.{refl, rules}
 use Rattle.cel_code.proofs.Place.{interned}
 use Rattle.cel_code.proofs.Written.{grows_found, grows_new}
 use Rattle.cel_code.proofs.compiler.Draft.intern.Goals as goal
@@ -7,7 +7,8 @@ pub returns-in-Some-clause-grows : goal.returns-in-Some-clause-grows
 returns-in-Some-clause-grows c = grows_found c.args.self.now c.args.value.now c.in-Some.number c.in-Some.ensures
 
 pub returns-clause-number : goal.returns-clause-number
-returns-clause-number c = rw c.len-number.ensures (interned _ _ c.args.value.now _ c.in_ok-copy.ensures c.in_ok-push.ensures.ok refl)
+returns-clause-number c =
+    interned _ _ c.args.value.now _ _ c.in_ok-copy.ensures (search rules) c.in_ok-push.ensures.ok refl
 
 pub returns-clause-grows : goal.returns-clause-grows
 returns-clause-grows c = grows_new _ _ c.args.value.now _ c.in_ok-copy.ensures c.in_default.ensures c.in_ok-push.ensures.ok refl refl refl
