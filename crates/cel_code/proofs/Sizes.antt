@@ -7,8 +7,8 @@ use Rattle.cel_parse.specs.declared.expr.Expr.TheOpen.{Expr-F}
 use Rattle.cel_parse.specs.declared.expr.Expr.TheFolds.{map-Expr, fold_out-Expr}
 use Rattle.cel_parse.specs.declared.expr.Syntax.{Syntax}
 use Rattle.cel_parse.specs.declared.expr.Syntax.TheVariants as syntax
-use Rattle.cel_parse.specs.Depths.{deepest, deepest_entry, entry_depths, depth_at, depth_of}
-use Rattle.cel_code.specs.Typing.{Names, Checked, total, total_entries, entry_sizes, nodes_at, nodes_of, checked, checked_at, each_checked, entries_checked}
+use Rattle.cel_parse.specs.Sizes.{deepest, deepest_entry, entry_depths, depth_at, depth_of, total, total_entries, entry_sizes, nodes_at, nodes_of}
+use Rattle.cel_code.specs.Typing.{Names, Checked, checked, checked_at, each_checked, entries_checked}
 
 -- one level, with something of each part
 abbrev level : {A : Type 0} → (Expr → A) → Syntax Expr → Syntax A

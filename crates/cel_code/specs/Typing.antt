@@ -1,5 +1,5 @@
 -- The typed tree of an expression in a scope of names, or its first fault in post-order.
-use Rattle.std.specs.Prelude.{ℕ, ◌+◌, Bool, ◌&&◌, ◌||◌, nat_lt, List, [], ◌∷◌, map, Option, Some, None, Result, Ok, Err, if◌then◌else◌, ◌≡◌}
+use Rattle.std.specs.Prelude.{ℕ, Bool, ◌&&◌, ◌||◌, nat_lt, List, [], ◌∷◌, map, Option, Some, None, Result, Ok, Err, if◌then◌else◌, ◌≡◌}
 use Rattle.plain.specs.declared.text.Keyed.{Keyed}
 use Rattle.cel_value.specs.declared.value.Value as value
 use Rattle.cel_value.specs.declared.cel_type.CelType.{CelType}
@@ -13,7 +13,7 @@ use Rattle.cel_grammar.specs.declared.tree.Entry.{Entry}
 use Rattle.cel_parse.specs.declared.expr.Expr.{Expr, fold-Expr}
 use Rattle.cel_parse.specs.declared.expr.Syntax.{Syntax}
 use Rattle.cel_parse.specs.declared.expr.Syntax.TheVariants as syntax
-use Rattle.cel_parse.specs.Depths.{depth_of}
+use Rattle.cel_parse.specs.Sizes.{depth_of, nodes_of}
 use Rattle.cel_code.specs.declared.cel_check.fault.TypeRule.{TypeRule}
 use Rattle.cel_code.specs.declared.cel_check.fault.TypeRule.TheVariants.{UnknownName, NoOverload, Mixed, TooLarge}
 use Rattle.cel_code.specs.declared.cel_check.fault.TypeFault.{TypeFault}
@@ -164,43 +164,6 @@ checked_at place (syntax.Conditional c a b) names = after (c names) (λ r. after
 abbrev pub checked : Expr → Names → Checked
 checked = fold-Expr (Names → Checked) (λ e. checked_at e.place e.form)
 
--- how many nodes the parts have
-abbrev pub total : List ℕ → ℕ
-total [] = 0
-total (n ∷ ns) = n + total ns
-
--- how many the keys and values have
-abbrev pub total_entries : List (Entry ℕ) → ℕ
-total_entries [] = 0
-total_entries (e ∷ es) = (e.key + e.value) + total_entries es
-
--- how many nodes there are
-abbrev pub nodes_at : Syntax ℕ → ℕ
-nodes_at (syntax.Bool b) = 1
-nodes_at (syntax.Int n) = 1
-nodes_at (syntax.Name n) = 1
-nodes_at syntax.Null = 1
-nodes_at (syntax.Uint n) = 1
-nodes_at (syntax.Text s) = 1
-nodes_at (syntax.Select a f) = 1 + a
-nodes_at (syntax.Has a f) = 1 + a
-nodes_at (syntax.Call f ns) = 1 + total ns
-nodes_at (syntax.Method a f ns) = 1 + (a + total ns)
-nodes_at (syntax.Index a b) = 1 + (a + b)
-nodes_at (syntax.List ns) = 1 + total ns
-nodes_at (syntax.Map es) = 1 + total_entries es
-nodes_at (syntax.Loop l a x b) = 1 + (a + b)
-nodes_at (syntax.MapWhere a x p t) = 1 + (a + (p + t))
-nodes_at (syntax.Unary op a) = 1 + a
-nodes_at (syntax.Binary op a b) = 1 + (a + b)
-nodes_at (syntax.And a b) = 1 + (a + b)
-nodes_at (syntax.Or a b) = 1 + (a + b)
-nodes_at (syntax.Conditional c a b) = 1 + (c + (a + b))
-
--- the number of its nodes
-abbrev pub nodes_of : Expr → ℕ
-nodes_of = fold-Expr ℕ (λ e. nodes_at e.form)
-
 -- the checkings of several expressions
 abbrev pub each_checked : List Expr → List (Names → Checked)
 each_checked es = map checked es
@@ -208,10 +171,6 @@ each_checked es = map checked es
 -- the checkings of keys and values
 abbrev pub entries_checked : List (Entry Expr) → List (Entry (Names → Checked))
 entries_checked es = map (λ e. record { key = checked e.key; value = checked e.value }) es
-
--- how many nodes they have
-abbrev pub entry_sizes : List (Entry Expr) → List (Entry ℕ)
-entry_sizes es = map (λ e. record { key = nodes_of e.key; value = nodes_of e.value }) es
 
 -- past the limits of a tree
 abbrev pub is_too_large : Expr → Bool

@@ -7,9 +7,10 @@ use Rattle.cel_grammar.specs.declared.tree.Joint.{Joint}
 use Rattle.cel_grammar.specs.declared.tree.Tree.{Tree, roll-Tree, Null as null, Truth as truth, Number as number, Unsigned as unsigned, Text as text, Name as name, Call as call, Select as select, Method as method, Index as index, List as list, Map as map_tree, Unary as unary, Binary as binary, Conditional as conditional}
 use Rattle.cel_grammar.specs.declared.tree.Tree.TheOpen.{Tree-F}
 use Rattle.cel_grammar.specs.declared.tree.Tree.TheVariants.{rolls-Null, rolls-Truth, rolls-Number, rolls-Unsigned, rolls-Text, rolls-Name, rolls-Call, rolls-Select, rolls-Method, rolls-Index, rolls-List, rolls-Map, rolls-Unary, rolls-Binary, rolls-Conditional}
-use Rattle.cel_grammar.specs.declared.tree.Tree.TheFolds.{map-Tree, fold-roll-Tree, ind-Tree}
+use Rattle.cel_grammar.specs.declared.tree.Tree.TheFolds.{map-Tree, fold-roll-Tree}
 use Rattle.cel_grammar.specs.Words.{is_has}
 use Rattle.cel_grammar.specs.Limits.{Depth, deepest, deepest_entry, one_select, call_depth, depth, depth_at, measure, measure_at, is_test, depth_of_items, depth_of_entry, depth_of_entries}
+use Rattle.cel_grammar.proofs.Levels.{Such, fold_level, every_tree}
 
 module _ (source : List ℕ) where
   rolled : (t : Tree-F Tree) → depth source (roll-Tree t) ≡ depth_at source (map-Tree Tree Depth (measure source) t)
@@ -64,13 +65,13 @@ module _ (source : List ℕ) where
   pub depth-map : (place : ℕ) (es : List (Entry Tree)) → depth source (map_tree place es) ≡ depth_of_entries source es + 1
   depth-map place es = ap (depth source) (sym (rolls-Map place es)) ∙ rolled (Tree-F.Map place es) ∙ ap (λ (n : ℕ). n + 1) (entries_deep es)
 
-  abbrev Such : Type 0
-  Such = (t : Tree) × (0 < depth source t)
+  abbrev IsSome : Tree → Type 0
+  IsSome t = 0 < depth source t
 
-  abbrev below : Tree-F Such → Tree-F Depth
-  below y = map-Tree Such Depth (λ e. measure source e.0) y
+  abbrev below : Tree-F (Such IsSome) → Tree-F Depth
+  below y = map-Tree (Such IsSome) Depth (λ e. measure source e.0) y
 
-  some_call : (b : Bool) (xs : List Such) → b && one_select (map (λ e. measure source e.0) xs) ≡ true → 0 < deepest (map (λ e. measure source e.0) xs)
+  some_call : (b : Bool) (xs : List (Such IsSome)) → b && one_select (map (λ e. measure source e.0) xs) ≡ true → 0 < deepest (map (λ e. measure source e.0) xs)
   some_call true [] h = absurd cc
   some_call false [] h = absurd cc
   some_call b (x ∷ xs) h = let pos = x.1 in omega arith
@@ -79,7 +80,7 @@ module _ (source : List ℕ) where
   call_level true n h = h refl
   call_level false n h = omega arith
 
-  some_level : (y : Tree-F Such) → 0 < depth_at source (below y)
+  some_level : (y : Tree-F (Such IsSome)) → 0 < depth_at source (below y)
   some_level (Tree-F.Null place) = omega arith
   some_level (Tree-F.Truth place value) = omega arith
   some_level (Tree-F.Number place negative n) = omega arith
@@ -96,36 +97,8 @@ module _ (source : List ℕ) where
   some_level (Tree-F.Binary place o a b) = omega arith
   some_level (Tree-F.Conditional place c a b) = omega arith
 
-  twice : (xs : List Such) → map (measure source) (map (λ (e : Such). e.0) xs) ≡ map (λ e. measure source e.0) xs
-  twice [] = refl
-  twice (x ∷ xs) = ap (λ (ds : List Depth). measure source x.0 ∷ ds) (twice xs)
-
-  abbrev entry_below : Entry Such → Entry Depth
-  entry_below e = record { key = measure source e.key.0; value = measure source e.value.0 }
-
-  twice_entries : (xs : List (Entry Such)) → map (λ (e : Entry Tree). record { key = measure source e.key; value = measure source e.value }) (map (λ (e : Entry Such). record { key = e.key.0; value = e.value.0 }) xs) ≡ map entry_below xs
-  twice_entries [] = refl
-  twice_entries (x ∷ xs) = ap (λ (ds : List (Entry Depth)). entry_below x ∷ ds) (twice_entries xs)
-
-  fused : (y : Tree-F Such) → map-Tree Tree Depth (measure source) (map-Tree Such Tree (λ e. e.0) y) ≡ below y
-  fused (Tree-F.Null place) = refl
-  fused (Tree-F.Truth place value) = refl
-  fused (Tree-F.Number place negative n) = refl
-  fused (Tree-F.Unsigned place n) = refl
-  fused (Tree-F.Text place s) = refl
-  fused (Tree-F.Name place) = refl
-  fused (Tree-F.Call place xs) = ap (Tree-F.Call place) (twice xs)
-  fused (Tree-F.Select place a) = refl
-  fused (Tree-F.Method place a xs) = ap (Tree-F.Method place (measure source a.0)) (twice xs)
-  fused (Tree-F.Index place a b) = refl
-  fused (Tree-F.List place xs) = ap (Tree-F.List place) (twice xs)
-  fused (Tree-F.Map place es) = ap (Tree-F.Map place) (twice_entries es)
-  fused (Tree-F.Unary place o a) = refl
-  fused (Tree-F.Binary place o a b) = refl
-  fused (Tree-F.Conditional place c a b) = refl
-
-  step : (y : Tree-F Such) → 0 < depth source (roll-Tree (map-Tree Such Tree (λ e. e.0) y))
-  step y = subst (λ n. 0 < n) (sym (rolled (map-Tree Such Tree (λ e. e.0) y) ∙ ap (depth_at source) (fused y))) (some_level y)
+  step : (y : Tree-F (Such IsSome)) → IsSome (roll-Tree (map-Tree (Such IsSome) Tree (λ e. e.0) y))
+  step y = subst (λ n. 0 < n) (sym (ap (λ (m : Depth). m.deep) (fold_level IsSome Depth (measure_at source) y))) (some_level y)
 
   pub depth_pos : (e : Tree) → 0 < depth source e
-  depth_pos = ind-Tree (λ t. 0 < depth source t) (λ x y is. subst (λ z. 0 < depth source (roll-Tree z)) is (step y))
+  depth_pos = every_tree IsSome step

@@ -1,5 +1,5 @@
 -- One level of a tree, over what is known of the trees inside.
-use Rattle.std.proofs.Common.{◌≡◌, List, [], ◌∷◌, map, refl, sym, ap, subst, ◌∙◌}
+use Rattle.std.proofs.Common.{◌≡◌, List, [], ◌∷◌, map, refl, ap, subst, ◌∙◌}
 use Rattle.cel_grammar.specs.declared.tree.Entry.{Entry}
 use Rattle.cel_grammar.specs.declared.tree.Tree.{Tree, roll-Tree, fold-Tree}
 use Rattle.cel_grammar.specs.declared.tree.Tree.TheOpen.{Tree-F}
@@ -17,7 +17,9 @@ module _ (P : Tree → Type 0) (A : Type 0) (f : Tree → A) where
   abbrev entry_of : Entry (Such P) → Entry A
   entry_of e = record { key = f e.key.0; value = f e.value.0 }
 
-  twice_entries : (xs : List (Entry (Such P))) → map (λ (e : Entry Tree). record { key = f e.key; value = f e.value }) (map (λ (e : Entry (Such P)). record { key = e.key.0; value = e.value.0 }) xs) ≡ map entry_of xs
+  twice_entries : (xs : List (Entry (Such P)))
+      → map (λ (e : Entry Tree). record { key = f e.key; value = f e.value }) (map
+      (λ (e : Entry (Such P)). record { key = e.key.0; value = e.value.0 }) xs) ≡ map entry_of xs
   twice_entries [] = refl
   twice_entries (x ∷ xs) = ap (λ (ys : List (Entry A)). entry_of x ∷ ys) (twice_entries xs)
 
@@ -39,7 +41,8 @@ module _ (P : Tree → Type 0) (A : Type 0) (f : Tree → A) where
   fused (Tree-F.Conditional place c a b) = refl
 
 -- a fold of one level that is rolled up again
-pub fold_level : (P : Tree → Type 0) (A : Type 0) (at : Tree-F A → A) (y : Tree-F (Such P)) → fold-Tree A at (roll-Tree (map-Tree (Such P) Tree (λ e. e.0) y)) ≡ at (map-Tree (Such P) A (λ e. fold-Tree A at e.0) y)
+pub fold_level : (P : Tree → Type 0) (A : Type 0) (at : Tree-F A → A) (y : Tree-F (Such P))
+    → fold-Tree A at (roll-Tree (map-Tree (Such P) Tree (λ e. e.0) y)) ≡ at (map-Tree (Such P) A (λ e. fold-Tree A at e.0) y)
 fold_level P A at y = fold-roll-Tree A at (map-Tree (Such P) Tree (λ e. e.0) y) ∙ ap at (fused P A (fold-Tree A at) y)
 
 -- what holds of each level holds of each tree

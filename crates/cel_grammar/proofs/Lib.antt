@@ -1,8 +1,9 @@
 pub mod WordCut
 pub mod Rows
 pub mod Turns
-pub mod Depths
 pub mod Levels
+pub mod Depths
+pub mod Sizes
 pub mod Steps
 pub mod Spans
 pub mod Told

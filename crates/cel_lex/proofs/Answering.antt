@@ -19,20 +19,24 @@ data IsRight (place : ℕ) (bytes : List ℕ) : Answer → Type 0 where
   cuts : {ts : List Token} → Cuts place bytes ts → IsRight place bytes (Ok ts)
   fails : {f : LexFault} → Fails place bytes f → IsRight place bytes (Err f)
 
-behind_blank : {place : ℕ} {bytes : List ℕ} {n : ℕ} {r : Answer} → IsNext bytes n piece.Blank → IsRight (place + n) (drop n bytes) r → IsRight place bytes r
+behind_blank : {place : ℕ} {bytes : List ℕ} {n : ℕ} {r : Answer} → IsNext bytes n piece.Blank → IsRight (place + n) (drop n bytes) r
+    → IsRight place bytes r
 behind_blank h (cuts c) = cuts (blank h c)
 behind_blank h (fails x) = fails (after_blank h x)
 
-behind_token : {place : ℕ} {bytes : List ℕ} {n : ℕ} {r : Answer} (k : TokenKind) → IsNext bytes n (piece.Token k) → IsRight (place + n) (drop n bytes) r → IsRight place bytes (in_front (record { kind = k; start = place; end = place + n }) r)
+behind_token : {place : ℕ} {bytes : List ℕ} {n : ℕ} {r : Answer} (k : TokenKind) → IsNext bytes n (piece.Token k)
+    → IsRight (place + n) (drop n bytes) r → IsRight place bytes (in_front (record { kind = k; start = place; end = place + n }) r)
 behind_token k h (cuts c) = cuts (token h c)
 behind_token k h (fails x) = fails (after_token h x)
 
-by_piece : (place n b : ℕ) (bs : List ℕ) (w : Piece) (r : Answer) → IsNext (b ∷ bs) n w → IsRight (place + n) (drop n (b ∷ bs)) r → IsRight place (b ∷ bs) (with_piece place n w r)
+by_piece : (place n b : ℕ) (bs : List ℕ) (w : Piece) (r : Answer) → IsNext (b ∷ bs) n w → IsRight (place + n) (drop n (b ∷ bs)) r
+    → IsRight place (b ∷ bs) (with_piece place n w r)
 by_piece place n b bs piece.Blank r h rest = behind_blank h rest
 by_piece place n b bs (piece.Faulty f) r h rest = fails (faulty h)
 by_piece place n b bs (piece.Token k) r h rest = behind_token k h rest
 
-by_next : (place b : ℕ) (bs : List ℕ) (o : Option (ℕ × Piece)) (go : ℕ → Answer) → Reads (b ∷ bs) o → ((n : ℕ) → 0 < n → IsRight (place + n) (drop n (b ∷ bs)) (go n)) → IsRight place (b ∷ bs) (with_next place o go)
+by_next : (place b : ℕ) (bs : List ℕ) (o : Option (ℕ × Piece)) (go : ℕ → Answer) → Reads (b ∷ bs) o → ((n : ℕ) → 0 < n
+    → IsRight (place + n) (drop n (b ∷ bs)) (go n)) → IsRight place (b ∷ bs) (with_next place o go)
 by_next place b bs None go r rest = fails (bad r)
 by_next place b bs (Some x) go r rest = by_piece place x.0 b bs x.1 (go x.0) r (rest x.0 r.some)
 
@@ -53,7 +57,8 @@ short_answer : (bytes : List ℕ) (r : Answer) → length bytes ≤ 16384 → Is
 short_answer bytes r le (cuts c) = is_cut (record { short = le; cut = c })
 short_answer bytes r le (fails x) = is_refused (first le x)
 
-by_length : (bytes : List ℕ) (b : Bool) → nat_lt 16384 (length bytes) ≡ b → IsAnswer bytes (cond b (Err (record { kind = fault.TooLong; place = 0 })) (answer_from (length bytes) 0 bytes))
+by_length : (bytes : List ℕ) (b : Bool) → nat_lt 16384 (length bytes) ≡ b
+    → IsAnswer bytes (cond b (Err (record { kind = fault.TooLong; place = 0 })) (answer_from (length bytes) 0 bytes))
 by_length bytes true e = is_refused (too_long (grind (arith, nat_tests)))
 by_length bytes false e = short_answer bytes _ (grind (arith, nat_tests)) (from_right (length bytes) 0 bytes (omega arith))
 

@@ -35,4 +35,5 @@ answer_from (suc most) place (b ∷ bs) = with_next place (next_of (b ∷ bs)) (
 
 -- the tokens of a text, or its fault
 unfoldable pub answer_of : List ℕ → Answer
-answer_of bytes = if nat_lt 16384 (length bytes) then Err (record { kind = fault.TooLong; place = 0 }) else answer_from (length bytes) 0 bytes
+answer_of bytes =
+    if nat_lt 16384 (length bytes) then Err (record { kind = fault.TooLong; place = 0 }) else answer_from (length bytes) 0 bytes

@@ -5,4 +5,5 @@ pub mod Parsed
 pub mod Marks
 pub mod Expanded
 pub mod ExpandedDepths
+pub mod ExpandedSizes
 pub mod WorkedRows

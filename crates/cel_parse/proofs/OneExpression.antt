@@ -1,5 +1,5 @@
 -- A text spells one expression, or is refused.
-use Rattle.std.proofs.Common.{◌≡◌, ◌≤◌, ℕ, List, [], length, refl, sym, ap, subst, ◌∙◌}
+use Rattle.std.proofs.Common.{◌≡◌, ◌≤◌, ℕ, List, [], length, refl, sym, ap, subst, ◌∙◌, arith}
 use Rattle.cel_lex.specs.declared.token.Token.{Token}
 use Rattle.cel_lex.specs.declared.fault.LexFault.{LexFault}
 use Rattle.cel_parse.specs.declared.expr.Expr.{Expr}
@@ -8,17 +8,19 @@ use Rattle.cel_grammar.specs.declared.fault.ParseFault.TheVariants.{Lex, Unexpec
 use Rattle.cel_grammar.specs.declared.tree.Tree.{Tree}
 use Rattle.cel_lex.specs.Lexis.{IsCut}
 use Rattle.cel_grammar.specs.Limits.{depth}
-use Rattle.cel_parse.specs.Depths.{depth_of}
+use Rattle.cel_parse.specs.Sizes.{depth_of, nodes_of}
 use Rattle.cel_parse.specs.Macros.{first_wrong}
 use Rattle.cel_parse.specs.Expansion.{expanded}
 use Rattle.cel_parse.proofs.FewTokens.{few_tokens}
 use Rattle.cel_grammar.specs.Trees.{IsTree, IsUnexpected, HasNoTree, unexpected, too_deep}
-use Rattle.cel_parse.specs.Parsing.{IsParsed, IsRefused, no_cut, no_tree, bad_macro, no_expression}
+use Rattle.cel_parse.specs.Parsing.{IsAsDeep, IsParsed, IsRefused, no_cut, no_tree, bad_macro, no_expression}
 use Rattle.cel_lex.proofs.Cutting.{one_cut, one_refusal, no_refusal}
 use Rattle.cel_grammar.specs.Grammar.{Derives, Expression}
 use Rattle.cel_grammar.proofs.Stages.{agrees_self}
 use Rattle.cel_parse.proofs.Ranges.{expanded_lexical}
 use Rattle.cel_parse.proofs.ExpandedDepths.{expanded_depth}
+use Rattle.cel_parse.proofs.ExpandedSizes.{expanded_size}
+use Rattle.cel_grammar.proofs.Sizes.{sized}
 use Rattle.cel_grammar.proofs.OnePlace.{one_place}
 use Rattle.cel_grammar.proofs.Answered.{one_tree}
 
@@ -111,8 +113,16 @@ pub only_macro : (text : List ℕ) (p : ℕ) (g : ParseFault) → IsRefused text
 only_macro text p g r s = first_macro text p g (BadMacro p) r s refl
 
 -- the expression of a text is as deep as its tree, which is 100 at most
-pub parsed_depth : {text : List ℕ} {e : Expr} → IsParsed text e → (ts : List Token) (tree : Tree) → IsCut text ts → IsTree text ts tree → depth_of e ≡ depth text tree
-parsed_depth {text} {e} p ts tree c t = expanded_depth text p.tree e p.expanded ∙ ap (depth text) (same_tree p.cut c p.is_tree t)
+pub parsed_depth : {text : List ℕ} {e : Expr} → IsParsed text e → IsAsDeep text e
+parsed_depth {text} {e} p = λ ts tree c t. expanded_depth text p.tree e p.expanded ∙ ap (depth text) (same_tree p.cut c p.is_tree t)
 
 pub parsed_shallow : {text : List ℕ} {e : Expr} → IsParsed text e → depth_of e ≤ 100
 parsed_shallow {text} {e} p = subst (λ n. n ≤ 100) (sym (expanded_depth text p.tree e p.expanded)) p.is_tree.within.shallow
+
+-- the expression has no more nodes than the text has tokens
+pub parsed_small : {text : List ℕ} {e : Expr} → IsParsed text e → nodes_of e ≤ 16384
+parsed_small {text} {e} p =
+    let a = expanded_size text p.tree e p.expanded in
+    let b = sized p.is_tree.derived in
+    let c = few_tokens p.cut in
+    omega arith

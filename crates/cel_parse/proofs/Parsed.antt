@@ -16,33 +16,35 @@ use Rattle.cel_grammar.specs.declared.tree.Tree.{Tree}
 use Rattle.cel_grammar.specs.Descent.{◌>>=◌, all_of}
 use Rattle.cel_grammar.specs.Faults.{from_lexing}
 use Rattle.cel_grammar.specs.Trees.{IsTree}
-use Rattle.cel_grammar.specs.Limits.{depth}
 use Rattle.cel_grammar.specs.Views.{same, Fails, Gives}
 use Rattle.cel_grammar.proofs.Answered.{answered_tree, answered_fault}
 use Rattle.cel_parse.specs.declared.expr.Expr.{Expr}
 use Rattle.cel_parse.specs.Macros.{first_wrong}
 use Rattle.cel_parse.specs.Expansion.{Expanded, expanded}
 use Rattle.cel_parse.specs.Parsed.{lexed, unless_wrong, parsed_tree, parsed}
-use Rattle.cel_parse.specs.Parsing.{IsParsed, IsRefused, no_cut, no_tree, bad_macro, no_expression}
+use Rattle.cel_parse.specs.Parsing.{IsAsDeep, IsParsed, IsRefused, no_cut, no_tree, bad_macro, no_expression}
 use Rattle.cel_parse.specs.Total.{IsAnswered, is_parsed, is_refused}
 use Rattle.cel_parse.proofs.FewTokens.{few_tokens}
-use Rattle.cel_parse.specs.Depths.{depth_of}
-use Rattle.cel_parse.proofs.OneExpression.{same_expression, not_both, parsed_depth, parsed_shallow}
+use Rattle.cel_parse.specs.Sizes.{depth_of, nodes_of}
+use Rattle.cel_parse.proofs.OneExpression.{same_expression, not_both, parsed_depth, parsed_shallow, parsed_small}
 
 -- a text spells this expression, or is refused for this fault
 data Tells (text : List ℕ) : Expanded → Type 0 where
   spells : {e : Expr} → IsParsed text e → Tells text (Ok e)
   refuses : {f : ParseFault} → IsRefused text f → Tells text (Err f)
 
-by_expansion : (text : List ℕ) (ts : List Token) (tree : Tree) (r : Expanded) → IsCut text ts → IsTree text ts tree → first_wrong text tree ≡ None → expanded text tree ≡ r → Tells text r
+by_expansion : (text : List ℕ) (ts : List Token) (tree : Tree) (r : Expanded) → IsCut text ts → IsTree text ts tree
+    → first_wrong text tree ≡ None → expanded text tree ≡ r → Tells text r
 by_expansion text ts tree (Ok e) c t m h = spells (record { tokens = ts; cut = c; tree = tree; is_tree = t; macros = m; expanded = h })
 by_expansion text ts tree (Err f) c t m h = refuses (no_expression c t m h)
 
-by_macros : (text : List ℕ) (ts : List Token) (tree : Tree) (o : Option ℕ) → IsCut text ts → IsTree text ts tree → first_wrong text tree ≡ o → Tells text (unless_wrong o (expanded text tree))
+by_macros : (text : List ℕ) (ts : List Token) (tree : Tree) (o : Option ℕ) → IsCut text ts → IsTree text ts tree
+    → first_wrong text tree ≡ o → Tells text (unless_wrong o (expanded text tree))
 by_macros text ts tree None c t h = by_expansion text ts tree (expanded text tree) c t h refl
 by_macros text ts tree (Some place) c t h = refuses (bad_macro c t h)
 
-by_tree : (text : List ℕ) (ts : List Token) (r : Result Tree ParseFault) → IsCut text ts → all_of text ts ≡ r → Tells text (r >>= parsed_tree text)
+by_tree : (text : List ℕ) (ts : List Token) (r : Result Tree ParseFault) → IsCut text ts → all_of text ts ≡ r
+    → Tells text (r >>= parsed_tree text)
 by_tree text ts (Ok tree) c h = by_macros text ts tree (first_wrong text tree) c (answered_tree text ts (few_tokens c) (Ok tree) h) refl
 by_tree text ts (Err f) c h = refuses (no_tree c (answered_fault text ts (few_tokens c) (Err (errors.Fault f)) h f refl))
 
@@ -83,7 +85,8 @@ pub is_answered : (text : List ℕ) → IsAnswered text
 is_answered text = answered (told text)
 
 -- what the code answers, step by step
-of_tokens : (text : List ℕ) (ts : List Token) (r : Result Tree ParseFault) → IsCut text ts → all_of text ts ≡ r → parsed text ≡ (r >>= parsed_tree text)
+of_tokens : (text : List ℕ) (ts : List Token) (r : Result Tree ParseFault) → IsCut text ts → all_of text ts ≡ r
+    → parsed text ≡ (r >>= parsed_tree text)
 unfolding parsed
 of_tokens text ts r c h =
     ap (λ (a : Answer). lexed a >>= λ us. all_of text us >>= parsed_tree text) (answer_cut text ts c)
@@ -93,16 +96,19 @@ of_fault : (text : List ℕ) (g : LexFault) → Refuses text g → parsed text �
 unfolding parsed
 of_fault text g x = ap (λ (a : Answer). lexed a >>= λ us. all_of text us >>= parsed_tree text) (answer_fault text g x)
 
-pub cut_fails : (text : List ℕ) (l : LexError) (e : ParseError) → from_lexing l ≡ e → ((g : LexFault) → l ≡ lexing.Fault g → Refuses text g) → Fails e (parsed text)
+pub cut_fails : (text : List ℕ) (l : LexError) (e : ParseError) → from_lexing l ≡ e → ((g : LexFault) → l ≡ lexing.Fault g
+    → Refuses text g) → Fails e (parsed text)
 cut_fails text lexing.OutOfMemory e h x = subst (λ y. Fails y (parsed text)) h tt
 cut_fails text (lexing.Fault g) e h x = subst (λ y. Fails y (parsed text)) h (of_fault text g (x g refl))
 
-pub tree_fails : (text : List ℕ) (us ts : List Token) (e : ParseError) → IsCut text us → ts ≡ us → Fails e (all_of text ts) → Fails e (parsed text)
+pub tree_fails : (text : List ℕ) (us ts : List Token) (e : ParseError) → IsCut text us → ts ≡ us → Fails e (all_of text ts)
+    → Fails e (parsed text)
 tree_fails text us ts errors.OutOfMemory c q h = tt
 tree_fails text us ts (errors.Fault f) c q h = of_tokens text us (Err f) c (ap (all_of text) (sym q) ∙ h)
 
 -- the tree is held in a box
-module _ (text : List ℕ) (us ts : List Token) (tree boxed : Tree) (cut : IsCut text us) (read : ts ≡ us) (inside : tree ≡ boxed) (is_tree : all_of text ts ≡ Ok boxed) where
+module _ (text : List ℕ) (us ts : List Token) (tree boxed : Tree) (cut : IsCut text us) (read : ts ≡ us) (inside : tree ≡ boxed)
+    (is_tree : all_of text ts ≡ Ok boxed) where
   of_tree : parsed text ≡ parsed_tree text tree
   of_tree = of_tokens text us (Ok boxed) cut (ap (all_of text) (sym read) ∙ is_tree) ∙ ap (parsed_tree text) (sym inside)
 
@@ -120,7 +126,8 @@ module _ (text : List ℕ) (us ts : List Token) (tree boxed : Tree) (cut : IsCut
   expression_is e x m h q = of_expansion m ∙ h ∙ ap Ok (sym q)
 
 -- a result that is what the function answers is what the relations say
-pub refused_of : (text : List ℕ) (r : Result Expr ParseError) (f : ParseFault) → Gives same r (parsed text) → IsErrOf r (errors.Fault f) → IsRefused text f
+pub refused_of : (text : List ℕ) (r : Result Expr ParseError) (f : ParseFault) → Gives same r (parsed text)
+    → IsErrOf r (errors.Fault f) → IsRefused text f
 refused_of text (Ok e) f g h = absurd cc
 refused_of text (Err errors.OutOfMemory) f g h = absurd cc
 refused_of text (Err (errors.Fault k)) f g h = is_refused_for text f (let q : k ≡ f = cc in g ∙ ap Err q)
@@ -129,10 +136,14 @@ pub spelled_of : (text : List ℕ) (r : Result Expr ParseError) → Gives same r
 spelled_of text (Ok e) g = is_spelled text e g
 spelled_of text (Err e) g = tt
 
-pub depth_is : (text : List ℕ) (r : Result Expr ParseError) → Gives same r (parsed text) → IfOk r (λ e. (ts : List Token) (tree : Tree) → IsCut text ts → IsTree text ts tree → depth_of e ≡ depth text tree)
+pub depth_is : (text : List ℕ) (r : Result Expr ParseError) → Gives same r (parsed text) → IfOk r (λ e. IsAsDeep text e)
 depth_is text (Ok e) g = parsed_depth (is_spelled text e g)
 depth_is text (Err e) g = tt
 
 pub shallow_is : (text : List ℕ) (r : Result Expr ParseError) → Gives same r (parsed text) → IfOk r (λ e. depth_of e ≤ 100)
 shallow_is text (Ok e) g = parsed_shallow (is_spelled text e g)
 shallow_is text (Err e) g = tt
+
+pub small_is : (text : List ℕ) (r : Result Expr ParseError) → Gives same r (parsed text) → IfOk r (λ e. nodes_of e ≤ 16384)
+small_is text (Ok e) g = parsed_small (is_spelled text e g)
+small_is text (Err e) g = tt

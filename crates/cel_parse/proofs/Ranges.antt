@@ -1,5 +1,5 @@
 -- The only fault of the expression of a tree is a number out of range.
-use Rattle.std.proofs.Common.{◌≡◌, ℕ, Bool, true, false, cond, List, [], ◌∷◌, Option, Some, None, Result, Ok, Err, refl, sym, ap, subst, ◌∙◌}
+use Rattle.std.proofs.Common.{◌≡◌, ℕ, Bool, true, false, cond, List, [], ◌∷◌, Option, Some, None, Result, Ok, Err, refl, sym, subst}
 use Rattle.std.specs.Prelude.{map}
 use Rattle.cel_lex.specs.declared.fault.LexFault.{LexFault}
 use Rattle.cel_parse.specs.declared.expr.Expr.{Expr}
@@ -10,10 +10,11 @@ use Rattle.cel_grammar.specs.declared.fault.ParseFault.{ParseFault}
 use Rattle.cel_grammar.specs.declared.fault.ParseFault.TheVariants.{Lex}
 use Rattle.cel_grammar.specs.declared.tree.Tree.{Tree, roll-Tree}
 use Rattle.cel_grammar.specs.declared.tree.Tree.TheOpen.{Tree-F}
-use Rattle.cel_grammar.specs.declared.tree.Tree.TheFolds.{map-Tree, fold-roll-Tree, ind-Tree}
+use Rattle.cel_grammar.specs.declared.tree.Tree.TheFolds.{map-Tree}
 use Rattle.cel_grammar.specs.Words.{is_has, word_at}
 use Rattle.cel_parse.specs.Macros.{loop_of}
 use Rattle.cel_grammar.specs.Descent.{◌>>=◌}
+use Rattle.cel_grammar.proofs.Levels.{Such, fold_level, every_tree}
 use Rattle.cel_parse.specs.Expansion.{Expanded, Role, names, selects, other, Expansion, each, each_entry, plain_call, has_by, has_of, plain_method, loop_by, where_by, loop_of_kind, method_by, is_in_range, expanded_at, role_at, expansion, expanded}
 
 -- a fault, if there is one, is the lexer's
@@ -121,27 +122,27 @@ module _ (source : List ℕ) (place : ℕ) where
     kind_lexical (Some l) g = few_lexical l g
 
 module _ (source : List ℕ) where
-  abbrev Such : Type 0
-  Such = (t : Tree) × Good (expansion source t)
+  abbrev IsGood : Tree → Type 0
+  IsGood t = Good (expansion source t)
 
-  abbrev of_such : Such → Expansion
+  abbrev of_such : Such IsGood → Expansion
   of_such e = expansion source e.0
 
-  abbrev entry_of : Entry Such → Entry Expansion
+  abbrev entry_of : Entry (Such IsGood) → Entry Expansion
   entry_of e = record { key = of_such e.key; value = of_such e.value }
 
-  abbrev below : Tree-F Such → Tree-F Expansion
-  below y = map-Tree Such Expansion of_such y
+  abbrev below : Tree-F (Such IsGood) → Tree-F Expansion
+  below y = map-Tree (Such IsGood) Expansion of_such y
 
-  all_good : (xs : List Such) → AllGood (map of_such xs)
+  all_good : (xs : List (Such IsGood)) → AllGood (map of_such xs)
   all_good [] = none
   all_good (x ∷ xs) = some x.1 (all_good xs)
 
-  all_entries : (xs : List (Entry Such)) → AllEntries (map entry_of xs)
+  all_entries : (xs : List (Entry (Such IsGood))) → AllEntries (map entry_of xs)
   all_entries [] = no_entry
   all_entries (x ∷ xs) = one_entry x.key.1 x.value.1 (all_entries xs)
 
-  lexical_at : (y : Tree-F Such) → Lexical (expanded_at source (below y))
+  lexical_at : (y : Tree-F (Such IsGood)) → Lexical (expanded_at source (below y))
   lexical_at (Tree-F.Null place) = lexical_ok _
   lexical_at (Tree-F.Truth place value) = lexical_ok _
   lexical_at (Tree-F.Number place negative n) = lexical_by (is_in_range negative n) _ _
@@ -158,7 +159,7 @@ module _ (source : List ℕ) where
   lexical_at (Tree-F.Binary place o a b) = lexical_then (of_such a).own _ a.1.0 (λ x. lexical_then (of_such b).own _ b.1.0 (λ y. lexical_ok _))
   lexical_at (Tree-F.Conditional place c a b) = lexical_then (of_such c).own _ c.1.0 (λ x. lexical_then (of_such a).own _ a.1.0 (λ y. lexical_then (of_such b).own _ b.1.0 (λ z. lexical_ok _)))
 
-  kept_at : (y : Tree-F Such) → Kept (role_at (below y))
+  kept_at : (y : Tree-F (Such IsGood)) → Kept (role_at (below y))
   kept_at (Tree-F.Null place) = tt
   kept_at (Tree-F.Truth place value) = tt
   kept_at (Tree-F.Number place negative n) = tt
@@ -175,36 +176,11 @@ module _ (source : List ℕ) where
   kept_at (Tree-F.Binary place o a b) = tt
   kept_at (Tree-F.Conditional place c a b) = tt
 
-  twice : (xs : List Such) → map (expansion source) (map (λ (e : Such). e.0) xs) ≡ map of_such xs
-  twice [] = refl
-  twice (x ∷ xs) = ap (λ (ds : List Expansion). of_such x ∷ ds) (twice xs)
-
-  twice_entries : (xs : List (Entry Such)) → map (λ (e : Entry Tree). record { key = expansion source e.key; value = expansion source e.value }) (map (λ (e : Entry Such). record { key = e.key.0; value = e.value.0 }) xs) ≡ map entry_of xs
-  twice_entries [] = refl
-  twice_entries (x ∷ xs) = ap (λ (ds : List (Entry Expansion)). entry_of x ∷ ds) (twice_entries xs)
-
-  fused : (y : Tree-F Such) → map-Tree Tree Expansion (expansion source) (map-Tree Such Tree (λ e. e.0) y) ≡ below y
-  fused (Tree-F.Null place) = refl
-  fused (Tree-F.Truth place value) = refl
-  fused (Tree-F.Number place negative n) = refl
-  fused (Tree-F.Unsigned place n) = refl
-  fused (Tree-F.Text place s) = refl
-  fused (Tree-F.Name place) = refl
-  fused (Tree-F.Call place xs) = ap (Tree-F.Call place) (twice xs)
-  fused (Tree-F.Select place a) = refl
-  fused (Tree-F.Method place a xs) = ap (Tree-F.Method place (of_such a)) (twice xs)
-  fused (Tree-F.Index place a b) = refl
-  fused (Tree-F.List place xs) = ap (Tree-F.List place) (twice xs)
-  fused (Tree-F.Map place es) = ap (Tree-F.Map place) (twice_entries es)
-  fused (Tree-F.Unary place o a) = refl
-  fused (Tree-F.Binary place o a b) = refl
-  fused (Tree-F.Conditional place c a b) = refl
-
   abbrev whole_at : Tree-F Expansion → Expansion
   whole_at t = record { role = role_at t; own = expanded_at source t }
 
-  step : (y : Tree-F Such) → Good (expansion source (roll-Tree (map-Tree Such Tree (λ e. e.0) y)))
-  step y = subst Good (sym (fold-roll-Tree Expansion whole_at (map-Tree Such Tree (λ e. e.0) y) ∙ ap whole_at (fused y))) (lexical_at y, kept_at y)
+  step : (y : Tree-F (Such IsGood)) → IsGood (roll-Tree (map-Tree (Such IsGood) Tree (λ e. e.0) y))
+  step y = subst Good (sym (fold_level IsGood Expansion whole_at y)) (lexical_at y, kept_at y)
 
   pub expanded_lexical : (t : Tree) → Lexical (expanded source t)
-  expanded_lexical t = (ind-Tree (λ t. Good (expansion source t)) (λ x y is. subst (λ z. Good (expansion source (roll-Tree z))) is (step y)) t).0
+  expanded_lexical t = (every_tree IsGood step t).0

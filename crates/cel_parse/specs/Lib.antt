@@ -1,6 +1,6 @@
 pub mod Macros
 pub mod Expansion
-pub mod Depths
+pub mod Sizes
 pub mod Parsing
 pub mod Parsed
 pub mod Total

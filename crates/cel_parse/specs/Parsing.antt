@@ -7,8 +7,10 @@ use Rattle.cel_grammar.specs.declared.fault.ParseFault.{ParseFault}
 use Rattle.cel_grammar.specs.declared.fault.ParseFault.TheVariants.{Lex, BadMacro}
 use Rattle.cel_grammar.specs.declared.tree.Tree.{Tree}
 use Rattle.cel_lex.specs.Lexis.{IsCut, Refuses}
+use Rattle.cel_grammar.specs.Limits.{depth}
 use Rattle.cel_grammar.specs.Trees.{IsTree, HasNoTree}
 use Rattle.cel_parse.specs.Macros.{first_wrong}
+use Rattle.cel_parse.specs.Sizes.{depth_of}
 use Rattle.cel_parse.specs.Expansion.{expanded}
 
 -- the expression that a text spells
@@ -19,6 +21,10 @@ pub record IsParsed (text : List ℕ) (e : Expr) : Type 0 where
   pub is_tree : IsTree text tokens tree
   pub macros : first_wrong text tree ≡ None
   pub expanded : expanded text tree ≡ Ok e
+
+-- an expression is as deep as the tree of the text is counted
+abbrev pub IsAsDeep : List ℕ → Expr → Type 0
+IsAsDeep text e = (ts : List Token) (tree : Tree) → IsCut text ts → IsTree text ts tree → depth_of e ≡ depth text tree
 
 -- why a text spells none: a fault of its cut, then of its tokens, then the first macro that is wrong, and last a number
 pub data IsRefused (text : List ℕ) : ParseFault → Type 0 where

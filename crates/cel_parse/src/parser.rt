@@ -1,20 +1,15 @@
 //! The expression of a text.
 
 ghost use Rattle.std.specs.Prelude.{◌≡◌, ◌≤◌, ◌↔◌, ℕ, List, Ok, Err, IfOk, IsErrOf};
-ghost use Rattle.cel_lex.specs.declared.token.Token.{Token};
 ghost use Rattle.cel_lex.specs.declared.fault.LexFault.{LexFault};
 ghost use Rattle.cel_parse.specs.declared.expr.Expr.{Expr};
 ghost use Rattle.cel_grammar.specs.declared.fault.ParseFault.{ParseFault};
 ghost use Rattle.cel_grammar.specs.declared.fault.ParseFault.TheVariants.{Lex, Unexpected, BadMacro};
 ghost use Rattle.cel_grammar.specs.declared.fault.ParseError.TheVariants as errors;
-ghost use Rattle.cel_lex.specs.Lexis.{IsCut};
-ghost use Rattle.cel_grammar.specs.declared.tree.Tree.{Tree};
-ghost use Rattle.cel_grammar.specs.Limits.{depth};
-ghost use Rattle.cel_grammar.specs.Trees.{IsTree};
 ghost use Rattle.cel_grammar.specs.Views.{same, Gives};
-ghost use Rattle.cel_parse.specs.Depths.{depth_of};
+ghost use Rattle.cel_parse.specs.Sizes.{depth_of, nodes_of};
 ghost use Rattle.cel_parse.specs.Parsed.{parsed};
-ghost use Rattle.cel_parse.specs.Parsing.{IsParsed, IsRefused};
+ghost use Rattle.cel_parse.specs.Parsing.{IsParsed, IsRefused, IsAsDeep};
 ghost use Rattle.cel_parse.specs.Total.{IsAnswered};
 
 use crate::expansion::expand;
@@ -46,8 +41,10 @@ pub fn parse(alloc: Global, text: &str) -> Result<Expr, ParseError>
     // The answer is a function of the text, so that its fault is one where the grammar leaves a choice, too.
     ensures read { Gives same result (parsed text.now) }
     // The expression is as deep as the text's tree is counted, which is 100 at most.
-    ensures depth { IfOk result (λ e. (ts : List Token) (tree : Tree) → IsCut text.now ts → IsTree text.now ts tree → depth_of e ≡ depth text.now tree) }
+    ensures depth { IfOk result (λ e. IsAsDeep text.now e) }
     ensures shallow { IfOk result (λ e. depth_of e ≤ 100) }
+    // It has no more nodes than a text has bytes.
+    ensures small { IfOk result (λ e. nodes_of e ≤ 16384) }
 {
     read(alloc, text)
 }

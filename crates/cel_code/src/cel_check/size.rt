@@ -1,6 +1,6 @@
 ghost use Rattle.std.specs.Prelude.{◌≡◌, ◌<◌, ◌↔◌, IsTrue, min, max, map, nat_lt};
-ghost use Rattle.cel_parse.specs.Depths.{deepest, deepest_entry, entry_depths, depth_of};
-ghost use Rattle.cel_code.specs.Typing.{total, total_entries, entry_sizes, nodes_of, is_too_large};
+ghost use Rattle.cel_parse.specs.Sizes.{deepest, deepest_entry, entry_depths, depth_of, total, total_entries, entry_sizes, nodes_of};
+ghost use Rattle.cel_code.specs.Typing.{is_too_large};
 
 use cel_parse::{Entry, Expr, Syntax};
 

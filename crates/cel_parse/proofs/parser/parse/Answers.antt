@@ -1,4 +1,4 @@
-use Rattle.cel_parse.proofs.Parsed.{spelled_of, refused_of, depth_is, shallow_is}
+use Rattle.cel_parse.proofs.Parsed.{spelled_of, refused_of, depth_is, shallow_is, small_is}
 use Rattle.cel_parse.proofs.parser.parse.Goals as goal
 
 pub returns-clause-parsed : goal.returns-clause-parsed
@@ -12,3 +12,6 @@ returns-clause-depth c = depth_is c.args.text.now c.read.result c.read.ensures
 
 pub returns-clause-shallow : goal.returns-clause-shallow
 returns-clause-shallow c = shallow_is c.args.text.now c.read.result c.read.ensures
+
+pub returns-clause-small : goal.returns-clause-small
+returns-clause-small c = small_is c.args.text.now c.read.result c.read.ensures

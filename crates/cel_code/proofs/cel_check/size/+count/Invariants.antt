@@ -1,6 +1,6 @@
 use Rattle.std.proofs.Common.{◌≡◌, ◌+◌, ◌≤◌, map, drop}
 use Rattle.std.specs.Prelude.{min}
-use Rattle.cel_code.specs.Typing.{total, total_entries, entry_sizes, nodes_of}
+use Rattle.cel_parse.specs.Sizes.{total, total_entries, entry_sizes, nodes_of}
 use Rattle.cel_code.proofs.cel_check.size.+count.Given as goal
 
 -- what was counted, and what the parts that are left have

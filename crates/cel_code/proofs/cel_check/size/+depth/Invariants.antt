@@ -1,6 +1,6 @@
 use Rattle.std.proofs.Common.{◌≡◌, ◌+◌, ◌*◌, map, drop}
 use Rattle.std.specs.Prelude.{nat_lt}
-use Rattle.cel_parse.specs.Depths.{deepest, deepest_entry, entry_depths, depth_of}
+use Rattle.cel_parse.specs.Sizes.{deepest, deepest_entry, entry_depths, depth_of}
 use Rattle.cel_code.proofs.cel_check.size.+depth.Given as goal
 
 -- each call of the walk has a lower limit, or the same and fewer parts

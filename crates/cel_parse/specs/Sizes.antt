@@ -1,4 +1,4 @@
--- How deep an expression is.
+-- How deep an expression is, and how many nodes it has.
 use Rattle.std.specs.Prelude.{ℕ, ◌+◌, max, List, [], ◌∷◌, map}
 use Rattle.cel_grammar.specs.declared.tree.Entry.{Entry}
 use Rattle.cel_parse.specs.declared.expr.Expr.{Expr, fold-Expr}
@@ -45,3 +45,44 @@ depth_of = fold-Expr ℕ (λ e. depth_at e.form)
 -- the depths of keys and values
 abbrev pub entry_depths : List (Entry Expr) → List (Entry ℕ)
 entry_depths es = map (λ e. record { key = depth_of e.key; value = depth_of e.value }) es
+
+-- how many nodes the parts have
+abbrev pub total : List ℕ → ℕ
+total [] = 0
+total (n ∷ ns) = n + total ns
+
+-- how many the keys and values have
+abbrev pub total_entries : List (Entry ℕ) → ℕ
+total_entries [] = 0
+total_entries (e ∷ es) = (e.key + e.value) + total_entries es
+
+-- how many nodes there are
+abbrev pub nodes_at : Syntax ℕ → ℕ
+nodes_at (syntax.Bool b) = 1
+nodes_at (syntax.Int n) = 1
+nodes_at (syntax.Name n) = 1
+nodes_at syntax.Null = 1
+nodes_at (syntax.Uint n) = 1
+nodes_at (syntax.Text s) = 1
+nodes_at (syntax.Select a f) = 1 + a
+nodes_at (syntax.Has a f) = 1 + a
+nodes_at (syntax.Call f ns) = 1 + total ns
+nodes_at (syntax.Method a f ns) = 1 + (a + total ns)
+nodes_at (syntax.Index a b) = 1 + (a + b)
+nodes_at (syntax.List ns) = 1 + total ns
+nodes_at (syntax.Map es) = 1 + total_entries es
+nodes_at (syntax.Loop l a x b) = 1 + (a + b)
+nodes_at (syntax.MapWhere a x p t) = 1 + (a + (p + t))
+nodes_at (syntax.Unary op a) = 1 + a
+nodes_at (syntax.Binary op a b) = 1 + (a + b)
+nodes_at (syntax.And a b) = 1 + (a + b)
+nodes_at (syntax.Or a b) = 1 + (a + b)
+nodes_at (syntax.Conditional c a b) = 1 + (c + (a + b))
+
+-- the number of its nodes
+abbrev pub nodes_of : Expr → ℕ
+nodes_of = fold-Expr ℕ (λ e. nodes_at e.form)
+
+-- how many nodes keys and values have
+abbrev pub entry_sizes : List (Entry Expr) → List (Entry ℕ)
+entry_sizes es = map (λ e. record { key = nodes_of e.key; value = nodes_of e.value }) es
