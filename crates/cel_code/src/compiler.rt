@@ -44,7 +44,7 @@ pub fn compile(alloc: Global, typed: &Typed) -> Result<Image, AllocError>
         slots,
         constants,
         targets,
-        result: typed.tree.get().cel_type.copy(alloc)?,
+        result: typed.tree.get().cel_type.copy()?,
         code,
     })
 }
@@ -146,7 +146,7 @@ impl Draft {
         ensures grows { OnOk result (Grows self.old self.new 0 [] (target (length self.old.code) (self.old.below ++ top.now ∷ []) ∷ [])) }
     {
         let mut types = Items::from_vec(copy_types(self.alloc, self.below.as_slice())?);
-        types.push(top.copy(self.alloc)?)?;
+        types.push(top.copy()?)?;
         let at = self.len();
         self.targets.push(Target { at, types })
     }
@@ -242,7 +242,7 @@ impl Draft {
         ensures stands { OnOk result (Emits (drafted self.old) (drafted self.new) tree.now) }
         ensures writes { OnOk result (Writes self.old self.new tree.now (self.old.below ++ left.now ∷ [])) }
     {
-        self.below.push(left.copy(self.alloc)?)?;
+        self.below.push(left.copy()?)?;
         self.emit(tree)?;
         self.below.pop();
         Ok(())

@@ -2,7 +2,7 @@ ghost use Rattle.std.specs.Prelude.{◌≡◌, min, IfOk};
 ghost use Rattle.cel_value.specs.Greatest.{greatest_of, fields_greatest_of, greatest_length_of};
 
 use crate::text_length::{tenths, text_weight};
-use plain::{Boxed, Keyed, TextMap};
+use plain::{Keyed, Shared, TextMap};
 use std::alloc::{AllocError, Global};
 
 /// A field of an object type.
@@ -30,20 +30,20 @@ pub enum CelType {
     List {
         max: u32,
         plain: bool,
-        item: Boxed<CelType>,
+        item: Shared<CelType>,
     },
     /// Maps of at most `max` entries, with keys of at most `key_max` code points.
     Map {
         max: u32,
         key_max: u32,
-        item: Boxed<CelType>,
+        item: Shared<CelType>,
     },
     /// Objects with no other field than these, which stand by name, each name once.
     Object {
-        fields: TextMap<Field<CelType>>,
+        fields: Shared<TextMap<Field<CelType>>>,
     },
     /// Null, and what has the type inside.
-    Nullable(Boxed<CelType>),
+    Nullable(Shared<CelType>),
     /// A value that no operator reads.
     Opaque,
 }
@@ -62,7 +62,7 @@ pub fn max_weight(cel_type: &CelType) -> u64
             .saturating_add(1 + tenths(u64::from(*key_max)))
             .saturating_mul(u64::from(*max))
             .saturating_add(1),
-        CelType::Object { fields } => fields_max_weight(fields).saturating_add(1),
+        CelType::Object { fields } => fields_max_weight(fields.get()).saturating_add(1),
         CelType::Nullable(item) => max_weight(item.get()),
         _ => 1,
     }
@@ -91,16 +91,15 @@ pub fn max_length(cel_type: &CelType) -> u64
         CelType::Text { max } => u64::from(*max),
         CelType::List { max, .. } => u64::from(*max),
         CelType::Map { max, .. } => u64::from(*max),
-        CelType::Object { fields } => fields.len() as u64,
+        CelType::Object { fields } => fields.get().len() as u64,
         CelType::Nullable(item) => max_length(item.get()),
         _ => 1,
     }
 }
 
 impl CelType {
-    /// An equal type, in memory of its own.
-    #[cycle(copy_type)]
-    pub fn copy(&self, alloc: Global) -> Result<CelType, AllocError>
+    /// An equal type, which shares what is inside.
+    pub fn copy(&self) -> Result<CelType, AllocError>
         ensures { IfOk result (λ cel_type. cel_type ≡ self.now) }
     {
         match self {
@@ -113,26 +112,24 @@ impl CelType {
             CelType::List { max, plain, item } => Ok(CelType::List {
                 max: *max,
                 plain: *plain,
-                item: Boxed::new(alloc, item.get().copy(alloc)?)?,
+                item: item.share()?,
             }),
             CelType::Map { max, key_max, item } => Ok(CelType::Map {
                 max: *max,
                 key_max: *key_max,
-                item: Boxed::new(alloc, item.get().copy(alloc)?)?,
+                item: item.share()?,
             }),
             CelType::Object { fields } => Ok(CelType::Object {
-                fields: copy_fields(alloc, fields)?,
+                fields: fields.share()?,
             }),
-            CelType::Nullable(item) => {
-                Ok(CelType::Nullable(Boxed::new(alloc, item.get().copy(alloc)?)?))
-            }
+            CelType::Nullable(item) => Ok(CelType::Nullable(item.share()?)),
             CelType::Opaque => Ok(CelType::Opaque),
         }
     }
 }
 
-#[cycle(copy_type)]
-fn copy_fields(
+/// Equal fields, whose types share what is inside.
+pub fn copy_fields(
     alloc: Global,
     fields: &TextMap<Field<CelType>>,
 ) -> Result<TextMap<Field<CelType>>, AllocError>
@@ -145,20 +142,20 @@ fn copy_fields(
             key: field.key.copy()?,
             value: Field {
                 required: field.value.required,
-                cel_type: field.value.cel_type.copy(alloc)?,
+                cel_type: field.value.cel_type.copy()?,
             },
         })?;
     }
     Ok(TextMap::from_vec(copies))
 }
 
-/// Equal types in their order, in memory of their own.
+/// Equal types in their order, each of which shares what is inside.
 pub fn copy_types(alloc: Global, types: &[CelType]) -> Result<Vec<CelType>, AllocError>
     ensures { IfOk result (λ copies. copies.items ≡ types.now) }
 {
     let mut copies = Vec::with_capacity(alloc, types.len())?;
     for cel_type in types {
-        copies.push(cel_type.copy(alloc)?)?;
+        copies.push(cel_type.copy()?)?;
     }
     Ok(copies)
 }

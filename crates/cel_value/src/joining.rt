@@ -12,7 +12,8 @@ ghost use Rattle.cel_value.specs.JoinRules.{IsBare, are_of_one_kind, joined_fiel
 ghost use Rattle.cel_value.specs.Joining.{IsInside, join_same_kind, wrapped};
 
 use crate::cel_type::{CelType, Field};
-use plain::{Boxed, Keyed, TextMap};
+use crate::same_type::same_type;
+use plain::{Keyed, Shared, TextMap};
 use std::alloc::{AllocError, Global};
 
 /// The type of what has one of two types, if there is one: each of the two may stand where it is asked, what fits
@@ -27,7 +28,7 @@ pub fn join(alloc: Global, left: &CelType, right: &CelType) -> Result<Option<Cel
     ensures left_limits { IfOk result (λ joined. IfSome joined (λ t. AllowsAsMuch left.now t)) }
     ensures right_limits { IfOk result (λ joined. IfSome joined (λ t. AllowsAsMuch right.now t)) }
 {
-    join_types(alloc, left, right)
+    join_or_share(alloc, left, right)
 }
 
 /// The rules by which two types have a join: the first that fits them gives it, in either order.
@@ -53,21 +54,35 @@ pub fn join_rules()
     ensures other_kinds { (s t : CelType) → IsBare s → IsBare t → ¬ IsTrue (are_of_one_kind s t) → join s t ≡ None }
 {}
 
+/// The join. That of equal types is the left one, which is shared and not made anew.
+fn join_or_share(
+    alloc: Global,
+    left: &CelType,
+    right: &CelType,
+) -> Result<Option<CelType>, AllocError>
+    ensures { IfOk result (λ joined. joined ≡ join left.now right.now) }
+{
+    if same_type(left, right) {
+        return Ok(Some(left.copy()?));
+    }
+    join_types(alloc, left, right)
+}
+
 #[cycle(join_types)]
 fn join_types(alloc: Global, left: &CelType, right: &CelType) -> Result<Option<CelType>, AllocError>
     ensures { IfOk result (λ joined. joined ≡ join left.now right.now) }
 {
     match left {
-        CelType::Never => Ok(Some(right.copy(alloc)?)),
+        CelType::Never => Ok(Some(right.copy()?)),
         CelType::Null => match right {
             CelType::Never => Ok(Some(CelType::Null)),
             CelType::Null => Ok(Some(CelType::Null)),
-            CelType::Nullable(_) => Ok(Some(right.copy(alloc)?)),
-            _ => nullable(alloc, Some(right.copy(alloc)?)),
+            CelType::Nullable(_) => Ok(Some(right.copy()?)),
+            _ => nullable(alloc, Some(right.copy()?)),
         },
         CelType::Nullable(inner) => match right {
-            CelType::Never => Ok(Some(left.copy(alloc)?)),
-            CelType::Null => Ok(Some(left.copy(alloc)?)),
+            CelType::Never => Ok(Some(left.copy()?)),
+            CelType::Null => Ok(Some(left.copy()?)),
             CelType::Nullable(other) => {
                 let joined = join_types(alloc, inner.get(), other.get())?;
                 nullable(alloc, joined)
@@ -90,11 +105,11 @@ fn join_bare(alloc: Global, left: &CelType, right: &CelType) -> Result<Option<Ce
     let inside = innermost(right);
     match inside {
         CelType::Never => {
-            let own = left.copy(alloc)?;
+            let own = left.copy()?;
             wrapped(alloc, right, Some(own))
         }
         CelType::Null => {
-            let joined = nullable(alloc, Some(left.copy(alloc)?))?;
+            let joined = nullable(alloc, Some(left.copy()?))?;
             wrapped(alloc, right, joined)
         }
         _ => {
@@ -151,7 +166,7 @@ fn join_kinds(alloc: Global, left: &CelType, right: &CelType) -> Result<Option<C
         CelType::List { max, plain, item } => join_list(alloc, item.get(), *max, *plain, right),
         CelType::Map { max, key_max, item } => join_map(alloc, item.get(), *max, *key_max, right),
         CelType::Object { fields } => match right {
-            CelType::Object { fields: others } => join_objects(alloc, fields, others),
+            CelType::Object { fields: others } => join_objects(alloc, fields.get(), others.get()),
             _ => Ok(None),
         },
         _ => Ok(None),
@@ -218,7 +233,9 @@ fn join_objects(
     ensures { IfOk result (λ joined. joined ≡ option_map (λ hs. T.Object hs) (joined_fields fields.now others.now)) }
 {
     match join_fields(alloc, fields, others)? {
-        Some(fields) => Ok(Some(CelType::Object { fields })),
+        Some(fields) => Ok(Some(CelType::Object {
+            fields: Shared::new(alloc, fields)?,
+        })),
         None => Ok(None),
     }
 }
@@ -266,7 +283,7 @@ fn nullable(alloc: Global, joined: Option<CelType>) -> Result<Option<CelType>, A
     ensures { IfOk result (λ r. r ≡ option_map (λ t. T.Nullable t) joined) }
 {
     match joined {
-        Some(cel_type) => Ok(Some(CelType::Nullable(Boxed::new(alloc, cel_type)?))),
+        Some(cel_type) => Ok(Some(CelType::Nullable(Shared::new(alloc, cel_type)?))),
         None => Ok(None),
     }
 }
@@ -283,7 +300,7 @@ fn list_of(
         Some(item) => Ok(Some(CelType::List {
             max,
             plain,
-            item: Boxed::new(alloc, item)?,
+            item: Shared::new(alloc, item)?,
         })),
         None => Ok(None),
     }
@@ -301,7 +318,7 @@ fn map_of(
         Some(item) => Ok(Some(CelType::Map {
             max,
             key_max,
-            item: Boxed::new(alloc, item)?,
+            item: Shared::new(alloc, item)?,
         })),
         None => Ok(None),
     }

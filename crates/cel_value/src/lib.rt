@@ -5,8 +5,8 @@
 //! [`max_length`] the others, weights up to the greatest u64. [`assignable`] tells whether what has one type may stand
 //! where another is asked, and what fits the first then fits the second. [`join`] is the type of what has one of two
 //! types: each may stand where it is asked; [`join_rules`] has its rules, a law each. [`equal`] is CEL's `==`, and
-//! [`Value::copy`] and [`CelType::copy`] answer what they were given, in memory of its own. A length of a text is
-//! [`code_points`], and [`tenths`] what is charged for it.
+//! [`Value::copy`] answers what it was given, in memory of its own, and [`CelType::copy`] in one step, as types share
+//! what is inside. A length of a text is [`code_points`], and [`tenths`] what is charged for it.
 #![tactic(auto)]
 
 mod assigning;
@@ -15,12 +15,13 @@ mod cel_type;
 mod equality;
 mod fitting;
 mod joining;
+mod same_type;
 mod text_length;
 mod value;
 
 pub use assigning::assignable;
 pub use cel_error::CelError;
-pub use cel_type::{CelType, Field, copy_types, max_length, max_weight};
+pub use cel_type::{CelType, Field, copy_fields, copy_types, max_length, max_weight};
 pub use equality::equal;
 pub use fitting::fits;
 pub use joining::{join, join_rules};

@@ -10,6 +10,7 @@ use std::test::Fail;
 pub enum Asked {
     Text,
     Items,
+    Shared,
     Map,
     Found,
     Order,
@@ -32,6 +33,7 @@ fn answer(alloc: Global, asked: Asked, row: &str) -> Result<String, AllocError> 
     match asked {
         Asked::Text => containers::text(alloc, row),
         Asked::Items => containers::items(alloc, row),
+        Asked::Shared => containers::shared(alloc, row),
         Asked::Map => containers::map(alloc, row),
         Asked::Found => containers::found(alloc, row),
         Asked::Order => containers::order(alloc, row),

@@ -1,7 +1,7 @@
 //! Containers: what is put in stays in, by key.
 
 use crate::asked::{Asked, hold, holds};
-use plain::{Boxed, Items, Keyed, Text, TextMap, is_in_key_order};
+use plain::{Boxed, Items, Keyed, Shared, Text, TextMap, is_in_key_order};
 use std::alloc::{AllocError, Global};
 use std::test::Fail;
 
@@ -30,6 +30,23 @@ fn shown_items(alloc: Global, items: &Items<Boxed<Text>>) -> Result<String, Allo
         }
     }
     Ok(out)
+}
+
+/// What each of two owners of a text has, and what the first and then the last of them takes out.
+pub fn shared(alloc: Global, row: &str) -> Result<String, AllocError> {
+    let first = Shared::new(alloc, Text::from_str(alloc, row)?)?;
+    let last = first.share()?;
+    let mut out = format!(in alloc; "{};{};", first.get().as_str(), last.get().as_str())?;
+    put_unshared(&mut out, first)?;
+    put_unshared(&mut out, last)?;
+    Ok(out)
+}
+
+fn put_unshared(out: &mut String, owner: Shared<Text>) -> Result<(), AllocError> {
+    match owner.unshare() {
+        Ok(text) => write!(out, "{};", text.as_str()),
+        Err(_) => out.push_str("shared;"),
+    }
 }
 
 /// How many entries a map has, and each of them: a word is a name, put in with the number of its place unless it is
@@ -112,6 +129,16 @@ fn lists_and_boxes_give_back_what_they_hold(rt: HostRuntime) -> Result<(), Fail>
     hold(&rt, Asked::Items, &ITEMS)
 }
 
+const SHARED: [(&str, &str); 2] = [
+    ("häuser", "häuser;häuser;shared;häuser;"),
+    ("", ";;shared;;"),
+];
+
+#[test]
+fn each_owner_has_what_is_shared(rt: HostRuntime) -> Result<(), Fail> {
+    hold(&rt, Asked::Shared, &SHARED)
+}
+
 const MAPS: [(&str, &str); 6] = [
     ("a -a", "0:"),
     ("b c a b", "3:a=2;b=0;c=1;"),
@@ -163,6 +190,7 @@ fn grow(alloc: Global) -> Result<bool, AllocError> {
     Ok(
         holds(alloc, Asked::Text, "häuser", "häuser")?
             && holds(alloc, Asked::Items, "x y", "2:x;y;none")?
+            && holds(alloc, Asked::Shared, "x", "x;x;shared;x;")?
             && holds(alloc, Asked::Map, "b c a b", "3:a=2;b=0;c=1;")?,
     )
 }

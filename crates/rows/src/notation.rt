@@ -2,7 +2,7 @@
 //! `set`; `["map",2,9,"int"]`; `["nullable","int"]`; and `{"a":"int","b?":"bool"}`, an object with `b` optional.
 
 use cel_value::{CelType, Field};
-use plain::{Boxed, Text, TextMap};
+use plain::{Shared, Text, TextMap};
 use serde_json::{Map, Value as Json};
 use std::alloc::{AllocError, Global};
 
@@ -50,14 +50,14 @@ fn wrapped(alloc: Global, parts: &[Json]) -> Result<CelType, AllocError> {
     match parts {
         [.., inner] => {
             let inner = type_of(alloc, inner)?;
-            Ok(around(parts, Boxed::new(alloc, inner)?))
+            Ok(around(parts, Shared::new(alloc, inner)?))
         }
         [] => Ok(CelType::Never),
     }
 }
 
 /// The type that is written around its inner type.
-fn around(parts: &[Json], item: Boxed<CelType>) -> CelType {
+fn around(parts: &[Json], item: Shared<CelType>) -> CelType {
     match parts {
         [_, _] => CelType::Nullable(item),
         [kind, max, _] => CelType::List {
@@ -80,7 +80,9 @@ fn object(alloc: Global, members: &Map<String, Json>) -> Result<CelType, AllocEr
     for (name, json) in members.iter() {
         put(alloc, &mut fields, name.as_str(), type_of(alloc, json)?)?;
     }
-    Ok(CelType::Object { fields })
+    Ok(CelType::Object {
+        fields: Shared::new(alloc, fields)?,
+    })
 }
 
 /// Puts a field under its name, unless one is there.

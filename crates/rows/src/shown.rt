@@ -72,7 +72,7 @@ fn put_type(out: &mut String, cel_type: &CelType) -> Result<(), AllocError> {
             write!(out, "map<={max} text<={key_max} ")?;
             put_type(out, item.get())
         }
-        CelType::Object { fields } => put_fields(out, fields),
+        CelType::Object { fields } => put_fields(out, fields.get()),
         CelType::Nullable(item) => {
             out.push_str("nullable ")?;
             put_type(out, item.get())

@@ -1,6 +1,6 @@
 //! From a schema to the type of what it describes.
 
-ghost use Rattle.std.specs.Prelude.{◌≡◌};
+ghost use Rattle.std.specs.Prelude.{◌≡◌, IfOk};
 ghost use Rattle.serde_json.specs.View.{view, items_view, members_view};
 ghost use Rattle.vap_schema.specs.Schemas.{Answers, schema_type, nested_type, own_type, untyped, list_type, object_type, record_type, bare_type, map_type, entry_type, fields_of, field_of, object_type_of};
 
@@ -11,9 +11,9 @@ use crate::keywords::{
 };
 use crate::schema_fault::{SchemaError, SchemaFault};
 use cel_value::{CelType, Field};
-use plain::{Boxed, Keyed, Text, TextMap};
+use plain::{Keyed, Shared, Text, TextMap};
 use serde_json::{Map, Value as Json};
-use std::alloc::Global;
+use std::alloc::{AllocError, Global};
 use std::marker::Model;
 
 /// The schema of a kind, which contracts see as the type of the kind's objects.
@@ -78,7 +78,7 @@ fn read_nested(levels: u32, alloc: Global, schema: &Json) -> Result<CelType, Sch
     let nullable = flag(schema, "nullable")?;
     let cel_type = read_own(levels, alloc, schema)?;
     if nullable {
-        Ok(CelType::Nullable(Boxed::new(alloc, cel_type)?))
+        Ok(CelType::Nullable(Shared::new(alloc, cel_type)?))
     } else {
         Ok(cel_type)
     }
@@ -128,7 +128,7 @@ fn read_list(levels: u32, alloc: Global, schema: &Json) -> Result<CelType, Schem
             Ok(CelType::List {
                 max,
                 plain,
-                item: Boxed::new(alloc, item)?,
+                item: Shared::new(alloc, item)?,
             })
         }
         None => Err(SchemaError::Fault(SchemaFault::BadKeyword)),
@@ -148,22 +148,21 @@ fn read_object(levels: u32, alloc: Global, schema: &Json) -> Result<CelType, Sch
     match (properties, entry) {
         (Some(properties), None) => read_record(levels, alloc, required, properties),
         (None, Some(entry)) => read_map(levels, alloc, max, entry),
-        (None, None) => Ok(bare(alloc, kept)),
+        (None, None) => Ok(bare(alloc, kept)?),
         (Some(_), Some(_)) => Err(SchemaError::Fault(SchemaFault::BadKeyword)),
     }
 }
 
 /// An object without properties and entries is kept as it is, or has no fields.
-fn bare(alloc: Global, kept: bool) -> CelType
-    ensures { result ≡ bare_type kept }
+fn bare(alloc: Global, kept: bool) -> Result<CelType, AllocError>
+    ensures { IfOk result (λ t. t ≡ bare_type kept) }
 {
     if kept {
-        CelType::Opaque
-    } else {
-        CelType::Object {
-            fields: TextMap::new(alloc),
-        }
+        return Ok(CelType::Opaque);
     }
+    Ok(CelType::Object {
+        fields: Shared::new(alloc, TextMap::new(alloc))?,
+    })
 }
 
 #[cycle(read_schema)]
@@ -174,7 +173,7 @@ fn read_map(levels: u32, alloc: Global, max: u32, entry: &Json) -> Result<CelTyp
     Ok(CelType::Map {
         max,
         key_max: 1_048_576,
-        item: Boxed::new(alloc, item)?,
+        item: Shared::new(alloc, item)?,
     })
 }
 
@@ -200,7 +199,9 @@ fn read_record(
     ensures { Answers (record_type (schema_type levels) (items_view required.now) (members_view properties.now.entries)) result }
 {
     let fields = read_fields(levels, alloc, required, properties)?;
-    Ok(CelType::Object { fields })
+    Ok(CelType::Object {
+        fields: Shared::new(alloc, fields)?,
+    })
 }
 
 #[cycle(read_schema)]
