@@ -3,12 +3,12 @@ use Rattle.std.proofs.Common.{◌≡◌, ◌≢◌, ℕ, zero, suc, ◌+◌, ◌
 use Rattle.std.specs.Prelude.{slice_get, slice_set, Contains}
 use Rattle.std.proofs.Math.ListN.{length-set}
 use Rattle.cel_value.specs.declared.value.Value.{Value}
-use Rattle.cel_code.specs.declared.cel_check.operator.Operator.{Operator}
-use Rattle.cel_code.specs.declared.cel_check.tree.TypedTree.{TypedTree, out-TypedTree}
-use Rattle.cel_code.specs.declared.cel_check.tree.Form.TheVariants as form
+use Rattle.cel_check.specs.declared.operator.Operator.{Operator}
+use Rattle.cel_check.specs.declared.tree.TypedTree.{TypedTree, out-TypedTree}
+use Rattle.cel_check.specs.declared.tree.Form.TheVariants as form
 use Rattle.cel_code.specs.declared.instr.Instr.{Instr}
 use Rattle.cel_code.specs.declared.instr.Instr.TheVariants.{Const, Op, AndTest, OrTest, And, Or, Cond, Jump, End}
-use Rattle.cel_code.specs.Operators.{code_of}
+use Rattle.cel_check.specs.Operators.{code_of}
 use Rattle.cel_code.specs.Placed.{Code, with_instr, patched, Interns, Has, Pushes, Stands, literal, unary, binary, both, either, conditional, Same, Keeps, Emits}
 
 -- one element more

@@ -2,22 +2,23 @@
 use Rattle.std.proofs.Common.{◌≡◌, ℕ, ◌+◌, true, false, List, [], ◌∷◌, Option, Some, None, refl, sym, ap, ◌∙◌, subst, arith}
 use Rattle.std.specs.Prelude.{Result, Ok, Err}
 use Rattle.cel_value.specs.declared.value.Value.{Value}
-use Rattle.cel_code.specs.declared.cel_check.operator.Operator.{Operator}
-use Rattle.cel_code.specs.declared.cel_check.operator.Operator.TheVariants as operator
-use Rattle.cel_code.specs.declared.cel_check.tree.TypedTree.{TypedTree}
+use Rattle.cel_check.specs.declared.operator.Operator.{Operator}
+use Rattle.cel_check.specs.declared.operator.Operator.TheVariants as operator
+use Rattle.cel_check.specs.declared.tree.TypedTree.{TypedTree}
 use Rattle.cel_code.specs.declared.instr.Instr.{Instr}
 use Rattle.cel_code.specs.declared.instr.Instr.TheVariants.{Const, Op, AndTest, OrTest, And, Or, Cond, Jump, End}
 use Rattle.cel_code.specs.declared.image.Image.{Image}
-use Rattle.cel_code.specs.Outcomes.{Outcome, Env, Side, and_of, or_of, both_sides, and_value, or_value, conditional_value, unless_false, unless_true, of_branch, outside}
+use Rattle.cel_check.specs.Outcomes.{Outcome, Env, Side, and_of, or_of, both_sides, and_value, or_value, conditional_value, unless_false, unless_true, of_branch, outside}
 use Rattle.cel_value.specs.declared.cel_error.CelError.{CelError}
-use Rattle.cel_code.specs.Wants.{side_of, taken}
-use Rattle.cel_code.specs.Operators.{Made, Row, One, Two, row, operator_of, code_of, makes, two, at_one, at_two, outcome_made, charge_made}
-use Rattle.cel_code.specs.Meaning.{value_of, priced_of, cost_of}
+use Rattle.cel_check.specs.Wants.{side_of, taken}
+use Rattle.cel_check.specs.declared.operator.Made.{Made}
+use Rattle.cel_check.specs.Operators.{Row, One, Two, row, operator_of, code_of, makes, two, at_one, at_two, outcome_made, charge_made}
+use Rattle.cel_check.specs.Meaning.{value_of, priced_of, cost_of}
 use Rattle.cel_code.specs.Machine.{Frame, State, on, Goes, Ends, push, constant, made, operate, operate_by, and_test, or_test, branch, joined, join, act, act_at, inputs_of, step, Gets, Stays, Moves, Run}
 use Rattle.cel_code.specs.Placed.{Code, code_in, Has, Pushes, Stands, literal, unary, binary, both, either, conditional}
 use Rattle.cel_code.specs.Correct.{Computes}
-use Rattle.cel_code.proofs.Opened.{outcome_of, side_of_outcome, side_is}
-use Rattle.cel_code.proofs.Levels.{value_is, value_level, cost_level}
+use Rattle.cel_check.proofs.Opened.{outcome_of, side_of_outcome, side_is}
+use Rattle.cel_check.proofs.Levels.{value_is, value_level, cost_level}
 
 module _ (image : Image) (slots : List Outcome) where
   abbrev code : Code

@@ -4,14 +4,14 @@ use Rattle.std.specs.Prelude.{slice_get}
 use Rattle.std.proofs.lemmas.Bool.{cases_lt}
 use Rattle.cel_value.specs.declared.cel_type.CelType.{CelType}
 use Rattle.cel_value.specs.declared.value.Value.{Value}
-use Rattle.cel_code.specs.declared.cel_check.tree.TypedTree.{TypedTree, out-TypedTree}
-use Rattle.cel_code.specs.declared.cel_check.tree.Form.{Form}
-use Rattle.cel_code.specs.declared.cel_check.tree.Form.TheVariants as form
+use Rattle.cel_check.specs.declared.tree.TypedTree.{TypedTree, out-TypedTree}
+use Rattle.cel_check.specs.declared.tree.Form.{Form}
+use Rattle.cel_check.specs.declared.tree.Form.TheVariants as form
 use Rattle.cel_code.specs.declared.image.Image.{Image}
 use Rattle.cel_code.specs.declared.instr.Instr.{Instr}
 use Rattle.cel_code.specs.declared.instr.Instr.TheVariants.{Const, Op, AndTest, OrTest, And, Or, Cond, Jump}
 use Rattle.cel_code.specs.Compiled.{EachOnce, nothing, first, again, IsCompiled, layout_of}
-use Rattle.cel_code.specs.Operators.{code_of}
+use Rattle.cel_check.specs.Operators.{code_of}
 use Rattle.cel_code.specs.Placed.{Code, code_in, Has, Pushes, Stands, literal, unary, binary, both, either, conditional}
 use Rattle.cel_code.proofs.Place.{contains_at, get_last}
 

@@ -5,18 +5,18 @@ use Rattle.std.proofs.lemmas.List.{append-nil}
 use Rattle.std.proofs.Math.Seq.{append_snoc}
 use Rattle.cel_value.specs.declared.cel_type.CelType.{CelType}
 use Rattle.cel_value.specs.declared.value.Value.{Value}
-use Rattle.cel_code.specs.declared.cel_check.operator.Operator.{Operator}
-use Rattle.cel_code.specs.declared.cel_check.tree.TypedTree.{TypedTree, out-TypedTree}
-use Rattle.cel_code.specs.declared.cel_check.tree.TypedTree.TheFolds.{map-TypedTree, fold_out-TypedTree}
-use Rattle.cel_code.specs.declared.cel_check.tree.Form.{Form}
-use Rattle.cel_code.specs.declared.cel_check.tree.Form.TheVariants as form
+use Rattle.cel_check.specs.declared.operator.Operator.{Operator}
+use Rattle.cel_check.specs.declared.tree.TypedTree.{TypedTree, out-TypedTree}
+use Rattle.cel_check.specs.declared.tree.TypedTree.TheFolds.{map-TypedTree, fold_out-TypedTree}
+use Rattle.cel_check.specs.declared.tree.Form.{Form}
+use Rattle.cel_check.specs.declared.tree.Form.TheVariants as form
 use Rattle.cel_code.specs.declared.compiler.Draft.{Draft}
 use Rattle.cel_code.specs.declared.image.Target.{Target}
 use Rattle.cel_code.specs.declared.image.Image.{Image}
 use Rattle.cel_code.specs.declared.instr.Instr.TheVariants.{End}
 use Rattle.cel_code.specs.Compiled.{EachOnce, nothing, first, again, IsCompiled, Layout, target, targets_from, layout_step, layout_of}
 use Rattle.cel_code.specs.Drafts.{drafted, Grows, WritesWithin, Writes}
-use Rattle.cel_code.specs.Meaning.{type_of}
+use Rattle.cel_check.specs.Meaning.{type_of}
 use Rattle.cel_code.specs.Placed.{code_in, with_instr, Emits}
 use Rattle.cel_code.proofs.Place.{contains_at, placed}
 

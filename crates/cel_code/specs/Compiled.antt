@@ -2,14 +2,14 @@
 use Rattle.std.specs.Prelude.{◌≡◌, ℕ, ◌+◌, Bool, true, false, List, [], ◌∷◌, ◌++◌, length, Contains, if◌then◌else◌}
 use Rattle.cel_value.specs.declared.cel_type.CelType.{CelType}
 use Rattle.cel_value.specs.declared.value.Value.{Value}
-use Rattle.cel_code.specs.declared.cel_check.tree.TypedTree.{TypedTree, fold-TypedTree}
-use Rattle.cel_code.specs.declared.cel_check.tree.TypedTree.TheOpen.{TypedTree-F}
-use Rattle.cel_code.specs.declared.cel_check.tree.Form.{Form}
-use Rattle.cel_code.specs.declared.cel_check.tree.Form.TheVariants.{Literal, Unary, Binary, And, Or, Conditional}
+use Rattle.cel_check.specs.declared.tree.TypedTree.{TypedTree, fold-TypedTree}
+use Rattle.cel_check.specs.declared.tree.TypedTree.TheOpen.{TypedTree-F}
+use Rattle.cel_check.specs.declared.tree.Form.{Form}
+use Rattle.cel_check.specs.declared.tree.Form.TheVariants.{Literal, Unary, Binary, And, Or, Conditional}
 use Rattle.cel_code.specs.declared.instr.Instr.TheVariants.{End}
 use Rattle.cel_code.specs.declared.image.Image.{Image}
 use Rattle.cel_code.specs.declared.image.Target.{Target}
-use Rattle.cel_code.specs.Meaning.{type_of}
+use Rattle.cel_check.specs.Meaning.{type_of}
 use Rattle.cel_code.specs.Placed.{code_in, Has, Stands}
 
 -- the values of a list, each once, in the order in which they come first: of nothing there are none, a last value that is

@@ -3,9 +3,4 @@ pub mod Correct
 pub mod Drafts
 pub mod Jumps
 pub mod Machine
-pub mod Meaning
-pub mod Operators
-pub mod Outcomes
 pub mod Placed
-pub mod Typing
-pub mod Wants

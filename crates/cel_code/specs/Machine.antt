@@ -1,13 +1,14 @@
 -- What the machine does with an image, one instruction at a time.
 use Rattle.std.specs.Prelude.{◌≡◌, ℕ, ◌+◌, true, false, List, [], ◌∷◌, Option, Some, None, Ok, Err, slice_get}
 use Rattle.cel_value.specs.declared.value.Value.{Value}
-use Rattle.cel_code.specs.declared.cel_check.operator.Operator.{Operator}
+use Rattle.cel_check.specs.declared.operator.Operator.{Operator}
 use Rattle.cel_code.specs.declared.instr.Instr.{Instr}
 use Rattle.cel_code.specs.declared.instr.Instr.TheVariants.{Const, Op, AndTest, OrTest, And, Or, Cond, Jump, End}
 use Rattle.cel_code.specs.declared.image.Image.{Image}
-use Rattle.cel_code.specs.Outcomes.{Outcome, Side, and_of, or_of, both_sides}
-use Rattle.cel_code.specs.Wants.{side_of}
-use Rattle.cel_code.specs.Operators.{Made, Row, One, Two, row, operator_of, at_one, at_two}
+use Rattle.cel_check.specs.Outcomes.{Outcome, Side, and_of, or_of, both_sides}
+use Rattle.cel_check.specs.Wants.{side_of}
+use Rattle.cel_check.specs.declared.operator.Made.{Made}
+use Rattle.cel_check.specs.Operators.{Row, One, Two, row, operator_of, at_one, at_two}
 
 -- an open loop: where it begins and where it leads, and the items of its range, the present one first
 pub record Frame : Type 0 where

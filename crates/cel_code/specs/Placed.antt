@@ -1,14 +1,14 @@
 -- Where the instructions of an expression stand in an image.
 use Rattle.std.specs.Prelude.{◌≡◌, ℕ, ◌+◌, ◌<◌, ◌≤◌, List, [], ◌∷◌, ◌++◌, length, Some, slice_get, slice_set}
 use Rattle.cel_value.specs.declared.value.Value.{Value}
-use Rattle.cel_code.specs.declared.cel_check.operator.Operator.{Operator}
-use Rattle.cel_code.specs.declared.cel_check.tree.TypedTree.{TypedTree, out-TypedTree}
-use Rattle.cel_code.specs.declared.cel_check.tree.Form.{Form}
-use Rattle.cel_code.specs.declared.cel_check.tree.Form.TheVariants as form
+use Rattle.cel_check.specs.declared.operator.Operator.{Operator}
+use Rattle.cel_check.specs.declared.tree.TypedTree.{TypedTree}
+use Rattle.cel_check.specs.declared.tree.Form.TheVariants as form
 use Rattle.cel_code.specs.declared.instr.Instr.{Instr}
 use Rattle.cel_code.specs.declared.instr.Instr.TheVariants.{Const, Op, AndTest, OrTest, And, Or, Cond, Jump}
 use Rattle.cel_code.specs.declared.image.Image.{Image}
-use Rattle.cel_code.specs.Operators.{code_of}
+use Rattle.cel_check.specs.Meaning.{IsForm}
+use Rattle.cel_check.specs.Operators.{code_of}
 
 -- what the machine reads of an image: constants and instructions
 pub record Code : Type 0 where
@@ -43,10 +43,6 @@ pub record Pushes (code : Code) (from to : ℕ) (v : Value) : Type 0 where
   pub instr : Has code from (Const number)
   pub constant : slice_get code.constants number ≡ Some v
   pub next : to ≡ from + 1
-
--- a level of an expression
-pub record IsForm (e : TypedTree) (f : Form TypedTree) : Type 0 where
-  pub is : (out-TypedTree e).form ≡ f
 
 -- the instructions of an expression stand from one place up to another
 pub data Stands (code : Code) : TypedTree → ℕ → ℕ → Type 0 where

@@ -1,17 +1,17 @@
 ghost use Rattle.std.specs.Prelude.{◌≡◌, ◌+◌, ◌<◌, ℕ, [], ◌∷◌, ◌++◌, length, slice_get, Contains, IfOk, OnOk, IsTrue, List, Some, MatchOption};
 ghost use Rattle.cel_code.specs.declared.image.Image.{Image};
-ghost use Rattle.cel_code.specs.Outcomes.{Outcome, slots_fit, outcome_fits, outside};
-ghost use Rattle.cel_code.specs.Meaning.{value_of, type_of};
-ghost use Rattle.cel_code.specs.Placed.{with_instr, patched, Interns, IsForm, Emits};
-ghost use Rattle.cel_code.specs.declared.cel_check.tree.Form.TheVariants as form;
+ghost use Rattle.cel_check.specs.Outcomes.{Outcome, slots_fit, outcome_fits, outside};
+ghost use Rattle.cel_check.specs.Meaning.{IsForm, value_of, type_of};
+ghost use Rattle.cel_code.specs.Placed.{with_instr, patched, Interns, Emits};
+ghost use Rattle.cel_check.specs.declared.tree.Form.TheVariants as form;
 ghost use Rattle.cel_code.specs.Compiled.{IsCompiled, joins_at, target};
 ghost use Rattle.cel_code.specs.Drafts.{drafted, Grows, Writes, WritesWithin};
 ghost use Rattle.cel_code.specs.Correct.{Computes};
 ghost use Rattle.cel_code.specs.Jumps.{TargetsAreJumps};
 
-use crate::cel_check::{Form, Typed, TypedTree};
 use crate::image::{Image, Target};
 use crate::instr::Instr;
+use cel_check::{Form, Typed, TypedTree};
 use cel_value::{CelType, Value, copy_types, equal};
 use plain::Items;
 use std::alloc::{AllocError, Global};

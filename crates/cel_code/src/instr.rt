@@ -1,5 +1,5 @@
 /// One instruction. A jump names the number of the instruction that it goes to, a constant its number in the image,
-/// and an operator the number of [`crate::cel_check::Operator::code`].
+/// and an operator the number of [`cel_check::Operator::code`].
 #[derive(Clone, Copy, Debug, PartialEq, Eq)]
 pub enum Instr {
     /// Pushes a constant.

@@ -1,9 +1,8 @@
-//! Flat code for CEL: checked expressions, the instructions they compile to, and the images that hold these.
+//! Flat code for CEL: the instructions that typed expressions compile to, and the images that hold these.
 //!
-//! [`cel_check`] types an expression; [`compile`] turns what it answers into an [`Image`].
+//! [`compile`] turns what `cel_check` answers for an expression into an [`Image`].
 #![tactic(auto)]
 
-pub mod cel_check;
 mod compiler;
 mod image;
 mod instr;

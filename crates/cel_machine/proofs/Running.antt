@@ -3,17 +3,21 @@ use Rattle.std.proofs.Common.{◌≡◌, ℕ, ◌+◌, ◌-◌, ◌^◌, ◌<◌
 use Rattle.std.specs.Prelude.{slice_get}
 use Rattle.cel_code.specs.declared.instr.Instr.{Instr}
 use Rattle.cel_code.specs.declared.image.Image.{Image}
-use Rattle.cel_code.specs.Outcomes.{Outcome}
-use Rattle.cel_code.specs.Machine.{State, on, Next, Goes, Ends, Stuck, act, step, inputs_of, Gets, Run}
+use Rattle.cel_check.specs.Outcomes.{Outcome}
+use Rattle.cel_code.specs.Machine.{State, on, Next, Goes, Ends, Stuck, act, act_at, step, inputs_of, Gets, Run}
 use Rattle.cel_machine.specs.declared.step.Move.{Move}
 use Rattle.cel_machine.specs.declared.step.Move.TheVariants.{GoesTo, EndsWith, IsStuckHere}
-use Rattle.cel_machine.specs.StackTypes.{Fits}
-use Rattle.cel_machine.specs.Paths.{charge_at, path_cost, path_steps}
-use Rattle.cel_machine.specs.Typed.{total, GoesOn}
-use Rattle.cel_machine.specs.Accepted.{IsAccepted, budget, max_count}
+use Rattle.cel_verify.specs.StackTypes.{Fits}
+use Rattle.cel_verify.specs.Paths.{charge_at, path_cost, path_steps}
+use Rattle.cel_verify.specs.Typed.{total, GoesOn}
+use Rattle.cel_verify.specs.Accepted.{IsAccepted, budget, max_count}
 use Rattle.cel_machine.specs.Follow.{metered, next_of}
-use Rattle.cel_machine.proofs.Steps.{begins, gets_typed, one_left, runs_within, step_goes}
-use Rattle.cel_machine.proofs.Turns.{one_more, stepped}
+use Rattle.cel_verify.proofs.Steps.{begins, gets_typed, one_left, runs_within, step_goes}
+use Rattle.cel_verify.proofs.Turns.{one_more}
+
+-- what an instruction does, as a step
+stepped : (image : Image) (slots : List Outcome) (at : ℕ) (i : Instr) (stack stack' : List Outcome) (m : Move) → slice_get image.code at ≡ Some i → metered (act (inputs_of image slots) i at stack []) ≡ next_of m stack' [] → metered (step image slots (on at stack [])) ≡ next_of m stack' []
+stepped image slots at i stack stack' m h e = ap (λ o. metered (act_at (inputs_of image slots) o at stack [])) h ∙ e
 
 -- where the run is
 pub record IsAt (image : Image) (at charged steps : ℕ) : Type 0 where

@@ -1,9 +1,2 @@
-pub mod Accepted
 pub mod Families
 pub mod Follow
-pub mod Paths
-pub mod Sound
-pub mod StackTypes
-pub mod Walked
-pub mod Typed
-pub mod Labelled

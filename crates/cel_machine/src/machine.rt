@@ -1,15 +1,15 @@
 ghost use Rattle.std.specs.Prelude.{◌≡◌, ◌≤◌, true, length, IfOk};
-ghost use Rattle.cel_code.specs.Outcomes.{slots_fit};
+ghost use Rattle.cel_check.specs.Outcomes.{slots_fit};
 ghost use Rattle.cel_code.specs.Machine.{Run as IsRun};
-ghost use Rattle.cel_machine.specs.StackTypes.{Fits};
-ghost use Rattle.cel_machine.specs.Paths.{path_cost};
-ghost use Rattle.cel_machine.specs.Accepted.{budget};
+ghost use Rattle.cel_verify.specs.StackTypes.{Fits};
+ghost use Rattle.cel_verify.specs.Paths.{path_cost};
+ghost use Rattle.cel_verify.specs.Accepted.{budget};
 
-use crate::cel_verify::Program;
 use crate::ended::Run;
 use crate::slots::Slots;
 use crate::stack::Stack;
 use crate::step::{Move, step};
+use cel_verify::Program;
 use std::alloc::{AllocError, Global};
 
 /// Runs a program where its slots hold these. The run is the definition's; it ends within as many steps as there are

@@ -1,11 +1,11 @@
 ghost use Rattle.std.specs.Prelude.{◌≡◌, ◌-◌, ◌^◌, min, Some, neg_ℤ, ◌+ℤ◌, ◌-ℤ◌, ◌*ℤ◌, int_div, int_rem};
-ghost use Rattle.cel_code.specs.Operators.{row, at_one, at_two, int_or_overflow, divided, less as order_of, lesser_weight as weight_of_lesser, makes};
-ghost use Rattle.cel_code.specs.Meaning.{is_there};
-ghost use Rattle.cel_code.specs.Wants.{Ordered, taken};
+ghost use Rattle.cel_check.specs.Operators.{row, at_one, at_two, int_or_overflow, divided, less as order_of, lesser_weight as weight_of_lesser, makes};
+ghost use Rattle.cel_check.specs.Meaning.{is_there};
+ghost use Rattle.cel_check.specs.Wants.{Ordered, taken};
 ghost use Rattle.cel_machine.specs.Families.{IsArithmetic, IsOrder, computed, equality_of, truth_where};
 ghost use Rattle.cel_machine.specs.Follow.{counted};
 
-use cel_code::cel_check::{Made, Operator};
+use cel_check::{Made, Operator};
 use cel_value::{CelError, Value, equal, weight};
 
 /// What an operator makes of one operand; nothing where it takes another count or another kind.

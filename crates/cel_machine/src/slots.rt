@@ -1,8 +1,8 @@
 ghost use Rattle.std.specs.Prelude.{◌≡◌, Some, true};
-ghost use Rattle.cel_code.specs.Outcomes.{outcome_fits, slots_fit as fits_slots};
+ghost use Rattle.cel_check.specs.Outcomes.{outcome_fits, slots_fit as fits_slots};
 
-use crate::cel_verify::Program;
 use cel_value::{CelError, CelType, Value, fits};
+use cel_verify::Program;
 use std::marker::Model;
 
 /// What the slots of a program hold, which contracts see as a list.
@@ -15,7 +15,7 @@ impl Model for Slots {
     ghost use Rattle.std.specs.Prelude.{List};
     ghost use Rattle.std.specs.Coded.{codes};
     ghost use Rattle.cel_value.specs.contracts.value.Value as cel_value;
-    ghost use Rattle.cel_code.specs.Outcomes.{Outcome};
+    ghost use Rattle.cel_check.specs.Outcomes.{Outcome};
 
     ghost Value = { List Outcome };
 

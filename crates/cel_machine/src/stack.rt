@@ -15,7 +15,7 @@ impl Model for Stack {
     ghost use Rattle.std.specs.Prelude.{List, reverse};
     ghost use Rattle.std.specs.Coded.{codes};
     ghost use Rattle.cel_value.specs.contracts.value.Value as cel_value;
-    ghost use Rattle.cel_code.specs.Outcomes.{Outcome};
+    ghost use Rattle.cel_check.specs.Outcomes.{Outcome};
 
     ghost Value = { List Outcome };
 

@@ -1,14 +1,14 @@
 ghost use Rattle.std.specs.Prelude.{◌≡◌, ◌+◌, ◌<◌, ◌^◌, List, IfOk, IsTrue, ◌↔◌, Some, Ok, slice_get};
 ghost use Rattle.cel_value.specs.declared.value.Value as value;
-ghost use Rattle.cel_code.specs.Meaning.{is_there};
-ghost use Rattle.cel_code.specs.Outcomes.{Outcome, Side};
-ghost use Rattle.cel_code.specs.Wants.{side_of};
+ghost use Rattle.cel_check.specs.Meaning.{is_there};
+ghost use Rattle.cel_check.specs.Outcomes.{Outcome, Side};
+ghost use Rattle.cel_check.specs.Wants.{side_of};
 ghost use Rattle.cel_code.specs.Machine.{Frame, act, inputs_of, push, constant as constant_of, operate_by, made as made_next, join as sides_joined};
 ghost use Rattle.cel_machine.specs.Follow.{metered, metered_one, metered_two, next_of, test_of, join_of, sides_of, branch_of};
 
 use crate::operate::{on_one, on_two};
 use crate::stack::Stack;
-use cel_code::cel_check::{Made, Operator};
+use cel_check::{Made, Operator};
 use cel_code::{Image, Instr};
 use cel_value::{CelError, Value};
 use std::alloc::{AllocError, Global};

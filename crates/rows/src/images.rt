@@ -2,9 +2,7 @@
 //! constants, its targets with their types, and its code.
 
 use crate::kinds::{Kind, instr_text, type_name, type_of, value_text};
-use cel_code::cel_check::{
-    CheckError, Operator, Scope, Typed, check, is_ordered, is_truth, is_whole,
-};
+use cel_check::{CheckError, Operator, Scope, Typed, check, is_ordered, is_truth, is_whole};
 use cel_code::{Image, Instr, Target, compile};
 use cel_parse::{Expr, Syntax, UnaryOperator, parse};
 use cel_value::{CelType, Value, assignable};

@@ -2,9 +2,9 @@
 
 use crate::kinds::{Constant, Kind, type_of, value_of, value_text};
 use cel_code::{Image, Instr, Target};
-use cel_machine::cel_verify::{Program, VerifyRule, verify};
 use cel_machine::{Run, Slots, run, slots_fit};
 use cel_value::{CelError, CelType, Value};
+use cel_verify::{Program, VerifyRule, verify};
 use plain::Items;
 use std::alloc::{AllocError, Global};
 use std::process::Abort;

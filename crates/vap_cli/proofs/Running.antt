@@ -2,17 +2,17 @@
 use Rattle.std.proofs.Common.{◌≡◌, ℕ, List, [], Option, Some, None, IsTrue, refl, sym, ap, ◌∙◌, subst}
 use Rattle.std.specs.Prelude.{Ok}
 use Rattle.cel_value.specs.declared.cel_type.CelType.{CelType}
-use Rattle.cel_code.specs.declared.cel_check.tree.TypedTree.{TypedTree}
+use Rattle.cel_check.specs.declared.tree.TypedTree.{TypedTree}
 use Rattle.cel_code.specs.declared.image.Image.{Image}
 use Rattle.cel_code.specs.Compiled.{IsCompiled}
 use Rattle.cel_code.specs.Correct.{Computes}
-use Rattle.cel_code.specs.Meaning.{value_of, type_of}
-use Rattle.cel_code.specs.Outcomes.{Outcome, outcome_fits, outside}
+use Rattle.cel_check.specs.Meaning.{value_of, type_of}
+use Rattle.cel_check.specs.Outcomes.{Outcome, outcome_fits, outside}
 use Rattle.cel_code.specs.Machine.{Run}
 use Rattle.cel_code.proofs.OneRun.{one_run}
-use Rattle.cel_machine.specs.Accepted.{IsRefused}
-use Rattle.cel_machine.specs.declared.cel_verify.fault.VerifyError.{VerifyError}
-use Rattle.cel_machine.specs.declared.cel_verify.fault.VerifyError.TheVariants as verifying
+use Rattle.cel_verify.specs.Accepted.{IsRefused}
+use Rattle.cel_verify.specs.declared.fault.VerifyError.{VerifyError}
+use Rattle.cel_verify.specs.declared.fault.VerifyError.TheVariants as verifying
 use Rattle.vap_cli.specs.declared.answer.Refusal.{Refusal}
 use Rattle.vap_cli.specs.declared.answer.Refusal.TheVariants as refusal
 use Rattle.vap_cli.specs.declared.evaluation.EvaluationError.{EvaluationError}

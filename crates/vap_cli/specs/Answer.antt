@@ -8,8 +8,8 @@ use Rattle.cel_lex.specs.declared.fault.LexFaultKind.{LexFaultKind}
 use Rattle.cel_lex.specs.declared.fault.LexFaultKind.TheVariants.{BadChar, Unterminated, BadEscape, IntRange, TooLong}
 use Rattle.cel_grammar.specs.declared.fault.ParseFault.{ParseFault}
 use Rattle.cel_grammar.specs.declared.fault.ParseFault.TheVariants.{Lex, Unexpected, BadMacro, TooDeep}
-use Rattle.cel_code.specs.declared.cel_check.fault.TypeRule.{TypeRule}
-use Rattle.cel_code.specs.declared.cel_check.fault.TypeRule.TheVariants.{UnknownName, NoOverload, Mixed, TooLarge}
+use Rattle.cel_check.specs.declared.fault.TypeRule.{TypeRule}
+use Rattle.cel_check.specs.declared.fault.TypeRule.TheVariants.{UnknownName, NoOverload, Mixed, TooLarge}
 use Rattle.vap_cli.specs.declared.answer.Refusal.{Refusal}
 use Rattle.vap_cli.specs.declared.answer.Refusal.TheVariants as refusal
 use Rattle.vap_cli.specs.declared.answer.Answer.{Answer}

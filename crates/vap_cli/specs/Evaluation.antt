@@ -4,18 +4,18 @@ use Rattle.cel_parse.specs.declared.expr.Expr.{Expr}
 use Rattle.cel_grammar.specs.declared.fault.ParseError.{ParseError}
 use Rattle.cel_grammar.specs.declared.fault.ParseError.TheVariants as parsing
 use Rattle.cel_parse.specs.Parsing.{IsParsed, IsRefused}
-use Rattle.cel_code.specs.declared.cel_check.fault.CheckError.{CheckError}
-use Rattle.cel_code.specs.declared.cel_check.fault.CheckError.TheVariants as checking
-use Rattle.cel_code.specs.declared.cel_check.tree.TypedTree.{TypedTree}
+use Rattle.cel_check.specs.declared.fault.CheckError.{CheckError}
+use Rattle.cel_check.specs.declared.fault.CheckError.TheVariants as checking
+use Rattle.cel_check.specs.declared.tree.TypedTree.{TypedTree}
 use Rattle.cel_code.specs.declared.image.Image.{Image}
 use Rattle.cel_code.specs.Compiled.{IsCompiled}
-use Rattle.cel_code.specs.Meaning.{value_of}
-use Rattle.cel_code.specs.Outcomes.{Outcome, outside}
-use Rattle.cel_code.specs.Typing.{Names, Checked, checked_within}
-use Rattle.cel_machine.specs.declared.cel_verify.fault.VerifyFault.{VerifyFault}
-use Rattle.cel_machine.specs.declared.cel_verify.fault.VerifyError.{VerifyError}
-use Rattle.cel_machine.specs.declared.cel_verify.fault.VerifyError.TheVariants as verifying
-use Rattle.cel_machine.specs.Accepted.{IsFault}
+use Rattle.cel_check.specs.Meaning.{value_of}
+use Rattle.cel_check.specs.Outcomes.{Outcome, outside}
+use Rattle.cel_check.specs.Typing.{Names, Checked, checked_within}
+use Rattle.cel_verify.specs.declared.fault.VerifyFault.{VerifyFault}
+use Rattle.cel_verify.specs.declared.fault.VerifyError.{VerifyError}
+use Rattle.cel_verify.specs.declared.fault.VerifyError.TheVariants as verifying
+use Rattle.cel_verify.specs.Accepted.{IsFault}
 use Rattle.vap_cli.specs.declared.answer.Refusal.{Refusal}
 use Rattle.vap_cli.specs.declared.answer.Refusal.TheVariants as refusal
 use Rattle.vap_cli.specs.declared.answer.Answer.{Answer}

@@ -4,7 +4,7 @@ ghost use Rattle.std.specs.Prelude.{◌≡◌, IfOk, string_bytes};
 ghost use Rattle.vap_cli.specs.Answer.{answer_line, lex_fault_name, status_of, type_rule_name};
 
 use crate::status::Status;
-use cel_code::cel_check::{TypeFault, TypeRule};
+use cel_check::{TypeFault, TypeRule};
 use cel_lex::LexFaultKind;
 use cel_parse::ParseFault;
 use cel_value::{CelError, Value};

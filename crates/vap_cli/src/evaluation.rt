@@ -3,20 +3,20 @@
 ghost use Rattle.std.specs.Prelude.{◌≡◌, ℕ, List, [], Some, Err, IfOk, IsErrOf};
 ghost use Rattle.cel_grammar.specs.declared.fault.ParseFault.{ParseFault};
 ghost use Rattle.cel_parse.specs.Parsing.{IsRefused};
-ghost use Rattle.cel_code.specs.declared.cel_check.fault.TypeFault.{TypeFault};
-ghost use Rattle.cel_code.specs.Meaning.{value_of};
-ghost use Rattle.cel_code.specs.Outcomes.{Outcome, outside};
+ghost use Rattle.cel_check.specs.declared.fault.TypeFault.{TypeFault};
+ghost use Rattle.cel_check.specs.Meaning.{value_of};
+ghost use Rattle.cel_check.specs.Outcomes.{Outcome, outside};
 ghost use Rattle.vap_cli.specs.declared.evaluation.EvaluationError.TheVariants.{OutOfMemory, Refused};
 ghost use Rattle.vap_cli.specs.declared.answer.Refusal.{Refusal};
 ghost use Rattle.vap_cli.specs.Evaluation.{ComesTo, IsAnswer, IsChecked, IsNotRunFor, IsRefusedFor, from_checking, from_parsing, from_verifying};
 
 use crate::answer::{Answer, Refusal};
-use cel_code::cel_check::{CheckError, Scope, Typed, check};
+use cel_check::{CheckError, Scope, Typed, check};
 use cel_code::compile;
-use cel_machine::cel_verify::{VerifyError, verify};
 use cel_machine::{Slots, run};
 use cel_parse::{ParseError, one_expression, parse};
 use cel_value::{CelError, Value};
+use cel_verify::{VerifyError, verify};
 use std::alloc::{AllocError, Global};
 
 /// Why an expression has no outcome.

@@ -3,7 +3,7 @@ use Rattle.cel_code.proofs.Jumped.{targets_are_jumps}
 use Rattle.cel_code.proofs.Unique.{one_image}
 use Rattle.cel_code.proofs.Written.{compiled}
 use Rattle.cel_code.proofs.Runs.{computes}
-use Rattle.cel_code.proofs.Preserved.{preserved_outside}
+use Rattle.cel_check.proofs.Preserved.{preserved_outside}
 use Rattle.cel_code.proofs.compiler.compile.Goals as goal
 
 pub returns-in_err-copy_types-clause-preserves : goal.returns-in_err-copy_types-clause-preserves

@@ -1,7 +1,7 @@
 use Rattle.std.proofs.Common.{◌+◌, [], length, sym, ap, arith}
-use Rattle.cel_machine.specs.Paths.{path_cost}
-use Rattle.cel_machine.proofs.Turns.{starts}
-use Rattle.cel_machine.proofs.Walking.{no_end}
+use Rattle.cel_verify.specs.Paths.{path_cost}
+use Rattle.cel_verify.proofs.Turns.{starts}
+use Rattle.cel_verify.proofs.Walking.{no_end}
 use Rattle.cel_machine.proofs.Running.{IsAt, here, goes, there, outcome_fits, not_stuck}
 use Rattle.cel_machine.proofs.machine.run.Goals as goal
 

@@ -1,6 +1,6 @@
 use Rattle.std.proofs.Common.{◌-◌, []}
 use Rattle.cel_code.specs.Machine.{Gets, on}
-use Rattle.cel_machine.specs.Paths.{path_steps}
+use Rattle.cel_verify.specs.Paths.{path_steps}
 use Rattle.cel_machine.proofs.machine.run.Given as goal
 
 abbrev pub invariant-loop-instr : goal.invariant-loop-instr

@@ -1,5 +1,5 @@
 use Rattle.std.proofs.Common.{◌≡◌, drop}
-use Rattle.cel_code.specs.Outcomes.{slots_fit}
+use Rattle.cel_check.specs.Outcomes.{slots_fit}
 use Rattle.cel_machine.proofs.slots.each_fits.Given as goal
 
 abbrev pub invariant-loop-cel_type : goal.invariant-loop-cel_type

@@ -1,5 +1,5 @@
 use Rattle.std.proofs.Common.{ap, ◌∙◌}
-use Rattle.cel_code.specs.Operators.{row}
+use Rattle.cel_check.specs.Operators.{row}
 use Rattle.cel_code.specs.Machine.{operate}
 use Rattle.cel_machine.specs.Follow.{metered}
 use Rattle.cel_machine.proofs.Meters.{by_two, by_not, by_negate, answer_is}

@@ -2,11 +2,11 @@ use Rattle.std.proofs.Common.{◌≡◌, ℕ, List, [], Option, Some, None, sym,
 use Rattle.std.specs.Prelude.{Ok, Err}
 use Rattle.cel_parse.specs.declared.expr.Expr.{Expr}
 use Rattle.cel_parse.specs.Parsing.{IsParsed}
-use Rattle.cel_code.specs.declared.cel_check.tree.TypedTree.{TypedTree}
-use Rattle.cel_code.specs.declared.cel_check.fault.TypeFault.{TypeFault}
-use Rattle.cel_code.specs.Meaning.{value_of}
-use Rattle.cel_code.specs.Outcomes.{Outcome, outside}
-use Rattle.cel_code.specs.Typing.{Checked, checked_within}
+use Rattle.cel_check.specs.declared.tree.TypedTree.{TypedTree}
+use Rattle.cel_check.specs.declared.fault.TypeFault.{TypeFault}
+use Rattle.cel_check.specs.Meaning.{value_of}
+use Rattle.cel_check.specs.Outcomes.{Outcome, outside}
+use Rattle.cel_check.specs.Typing.{Checked, checked_within}
 use Rattle.vap_cli.specs.Evaluation.{ComesTo, IsChecked, no_names}
 use Rattle.vap_cli.proofs.evaluation.one_outcome.Goals as goal
 

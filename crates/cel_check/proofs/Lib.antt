@@ -1,0 +1,8 @@
+pub mod Opened
+pub mod Checks
+pub mod Levels
+pub mod Preserved
+pub mod Rows
+mod WorkedRows
+mod Sizes
+mod Parts

@@ -1,0 +1,84 @@
+-- Values and types by their levels.
+use Rattle.std.proofs.Common.{◌≡◌, Bool, true, Some, ap, sym, ◌∙◌, refl, rules, true≢false}
+use Rattle.std.proofs.lemmas.Option.{none-some, same_Some}
+use Rattle.std.specs.Prelude.{ℤ, Ok, Err}
+use Rattle.cel_value.specs.declared.value.Value as value
+use Rattle.cel_value.specs.declared.value.Value.{Value, out-Value, roll-Value, the_lemmas as value_lemmas}
+use Rattle.cel_value.specs.declared.value.Value.TheOpen.{Value-F}
+use Rattle.cel_value.specs.declared.value.Value.TheVariants.{rolls-Bool}
+use Rattle.cel_value.specs.declared.cel_type.CelType as type
+use Rattle.cel_value.specs.declared.cel_type.CelType.{CelType, out-CelType, roll-CelType, the_lemmas as type_lemmas}
+use Rattle.cel_value.specs.declared.cel_type.CelType.TheOpen.{CelType-F}
+use Rattle.cel_value.specs.declared.cel_type.CelType.TheFolds.{map-CelType, fold_out-CelType}
+use Rattle.cel_value.specs.Fits.{fits, fits_at, fits_step}
+use Rattle.cel_check.specs.Outcomes.{Outcome, Side}
+use Rattle.cel_check.specs.Wants.{side_of, Truth, taken_at}
+
+-- one level of a type, with what each type inside admits
+abbrev pub opened : CelType-F CelType → CelType-F (Value → Bool)
+opened o = map-CelType _ _ (λ t v. fits v t) o
+
+-- what fits, level by level
+pub fits-out : (v : Value) (t : CelType) → fits v t ≡ fits_at (opened (out-CelType t)) (out-Value v)
+fits-out v t = ap (λ f. f v) (fold_out-CelType (Value → Bool) fits_step t)
+
+pub fits-levels : (v : Value) (t : CelType) (p : Value-F Value) (o : CelType-F CelType) → out-Value v ≡ p → out-CelType t ≡ o → fits v t ≡ fits_at (opened o) p
+fits-levels v t p o e f = fits-out v t ∙ ap (λ q. fits_at (opened (out-CelType t)) q) e ∙ ap (λ q. fits_at (opened q) p) f
+
+pub out-Bool : (b : Bool) → out-Value (value.Bool b) ≡ Value-F.Bool b
+out-Bool b = search (rules, value_lemmas)
+
+pub out-Int : (n : ℤ) → out-Value (value.Int n) ≡ Value-F.Int n
+out-Int n = search (rules, value_lemmas)
+
+pub out-type-Bool : out-CelType type.Bool ≡ CelType-F.Bool
+out-type-Bool = search (rules, type_lemmas)
+
+pub out-type-Int : out-CelType type.Int ≡ CelType-F.Int
+out-type-Int = search (rules, type_lemmas)
+
+pub out-type-Null : out-CelType type.Null ≡ CelType-F.Null
+out-type-Null = search (rules, type_lemmas)
+
+pub out-type-Uint : out-CelType type.Uint ≡ CelType-F.Uint
+out-type-Uint = search (rules, type_lemmas)
+
+pub out-type-Never : out-CelType type.Never ≡ CelType-F.Never
+out-type-Never = search (rules, type_lemmas)
+
+pub bool_fits : (b : Bool) → fits (value.Bool b) type.Bool ≡ true
+bool_fits b = fits-levels (value.Bool b) type.Bool (Value-F.Bool b) CelType-F.Bool (out-Bool b) out-type-Bool
+
+pub int_fits : (n : ℤ) → fits (value.Int n) type.Int ≡ true
+int_fits n = fits-levels (value.Int n) type.Int (Value-F.Int n) CelType-F.Int (out-Int n) out-type-Int
+
+-- no value has the type Never
+pub never_fits : (v : Value) → fits v type.Never ≡ true → ⊥
+never_fits v h = true≢false (sym h ∙ fits-levels v type.Never (out-Value v) CelType-F.Never refl out-type-Never)
+
+-- a value by its level
+pub is-Bool : (v : Value) (b : Bool) → out-Value v ≡ Value-F.Bool b → v ≡ value.Bool b
+is-Bool v b e =
+    let rolled : roll-Value (out-Value v) ≡ v = search (rules, value_lemmas) in
+    sym rolled ∙ ap roll-Value e ∙ rolls-Bool b
+
+-- a side as an outcome
+abbrev pub outcome_of : Side → Outcome
+outcome_of (Ok b) = Ok (value.Bool b)
+outcome_of (Err e) = Err e
+
+pub side-Bool : (b : Bool) → side_of (Some (Ok (value.Bool b))) ≡ Some (Ok b)
+side-Bool b = ap (taken_at Truth (value.Bool b)) (out-Bool b)
+
+pub side_of_outcome : (s : Side) → side_of (Some (outcome_of s)) ≡ Some s
+side_of_outcome (Ok b) = side-Bool b
+side_of_outcome (Err e) = refl
+
+level_is : (v : Value) (p : Value-F Value) (s : Side) → out-Value v ≡ p → taken_at Truth v p ≡ Some s → Ok v ≡ outcome_of s
+level_is v (Value-F.Bool b) s e h = ap Ok (is-Bool v b e) ∙ ap outcome_of (same_Some _ _ h)
+level_is v _ s e h = absurd (none-some _ h)
+
+-- an outcome that is a side
+pub side_is : (x : Outcome) (s : Side) → side_of (Some x) ≡ Some s → x ≡ outcome_of s
+side_is (Err e) s h = ap outcome_of (same_Some _ _ h)
+side_is (Ok v) s h = level_is v (out-Value v) s refl h

@@ -1,0 +1,213 @@
+-- What an operator answers is of the type that its row gives, and its charge is at most the greatest.
+use Rattle.std.proofs.Common.{◌≡◌, ℕ, zero, suc, cond, ◌≤◌, Bool, true, false, not, Option, Some, None, refl, sym, ◌∙◌, subst, arith, true≢false}
+use Rattle.std.specs.Prelude.{Result, Ok, Err, ℤ, pos, negsuc, ◌+ℤ◌, ◌-ℤ◌, ◌*ℤ◌, neg_ℤ, int_div, int_rem, int_lt}
+use Rattle.std.proofs.lemmas.Option.{none-some, same_Some}
+use Rattle.cel_value.specs.declared.value.Value.{Value, out-Value}
+use Rattle.cel_value.specs.declared.value.Value as value
+use Rattle.cel_value.specs.declared.value.Value.TheOpen.{Value-F}
+use Rattle.cel_value.specs.declared.cel_type.CelType.{CelType, out-CelType}
+use Rattle.cel_value.specs.declared.cel_type.CelType as type
+use Rattle.cel_value.specs.declared.cel_type.CelType.TheOpen.{CelType-F}
+use Rattle.cel_value.specs.declared.cel_error.CelError.{CelError}
+use Rattle.cel_value.specs.declared.cel_error.CelError.TheVariants.{Overflow}
+use Rattle.cel_value.specs.CelType.{fits, assignable, join as type_join}
+use Rattle.cel_value.specs.Fits.{fits_at}
+use Rattle.cel_value.specs.Value.{same, bool_lt}
+use Rattle.cel_value.proofs.Bounds.{weight_of-le}
+use Rattle.cel_value.proofs.Soundness.{IsWithin-from_assignable}
+use Rattle.cel_value.proofs.Joins.{join-Bool-Int, join-Int-Bool}
+use Rattle.cel_check.proofs.Opened.{opened, fits-out, bool_fits, int_fits}
+use Rattle.cel_check.specs.declared.operator.Operator.{Operator}
+use Rattle.cel_check.specs.declared.operator.Operator.TheVariants.{Not, Negate, Add, Subtract, Multiply, Divide, Remainder, Equal, NotEqual, Less, AtMost, Greater, AtLeast}
+use Rattle.cel_check.specs.declared.fault.TypeRule.{TypeRule}
+use Rattle.cel_check.specs.Outcomes.{Outcome, outcome_fits}
+use Rattle.cel_check.specs.Wants.{Want, Any, Truth, Whole, Ordered, Of, taken_at, taken_value, taken, Limit, limit_at, limit_of, Within, IsOrdered, IsOrderedLevel}
+use Rattle.cel_check.specs.Operators.{OneRow, TwoRow, Row, One, Two, row, in_range, int_or_overflow, divided, less_at, truth_of, untruth_of, bool_where, lesser_weight, lesser_greatest, arithmetic_row, equality_row, order_row, Made, makes, one, two, at_one, at_two, outcome_made, charge_made, of_limit, of_limits, type_of_one, type_of_two, most, most_of_two, greatest_of_one, greatest_of_two}
+
+-- an operand of the right type, taken as one of the kind, is an error or within the limit
+abbrev pub Taken : (w : Want) → Limit w → Option (Result (Of w) CelError) → Type 0
+Taken w l None = ⊥
+Taken w l (Some (Err e)) = Unit {0}
+Taken w l (Some (Ok a)) = Within w l a
+
+in_order : (t : CelType) (o : CelType-F CelType) → out-CelType t ≡ o → IsOrderedLevel o → IsOrdered t
+in_order t o e h = subst IsOrderedLevel (sym e) h
+
+truth_taken : (v : Value) (o : CelType-F CelType) (p : Value-F Value) (t : CelType) (l : Limit Truth) → limit_at Truth t o ≡ Some l → fits_at (opened o) p ≡ true → Taken Truth l (taken_at Truth v p)
+truth_taken v CelType-F.Never p t l e h = absurd (true≢false (sym h))
+truth_taken v CelType-F.Bool (Value-F.Bool b) t l e h = tt
+truth_taken v CelType-F.Bool _ t l e h = absurd (true≢false (sym h))
+truth_taken v _ p t l e h = absurd (none-some _ e)
+
+whole_taken : (v : Value) (o : CelType-F CelType) (p : Value-F Value) (t : CelType) (l : Limit Whole) → limit_at Whole t o ≡ Some l → fits_at (opened o) p ≡ true → Taken Whole l (taken_at Whole v p)
+whole_taken v CelType-F.Never p t l e h = absurd (true≢false (sym h))
+whole_taken v CelType-F.Int (Value-F.Int n) t l e h = tt
+whole_taken v CelType-F.Int _ t l e h = absurd (true≢false (sym h))
+whole_taken v _ p t l e h = absurd (none-some _ e)
+
+ordered_taken : (v : Value) (o : CelType-F CelType) (p : Value-F Value) (t : CelType) (l : Limit Ordered) → out-CelType t ≡ o → limit_at Ordered t o ≡ Some l → fits_at (opened o) p ≡ true → fits v t ≡ true → Taken Ordered l (taken_at Ordered v p)
+ordered_taken v CelType-F.Never p t l i e h f = absurd (true≢false (sym h))
+ordered_taken v CelType-F.Bool (Value-F.Bool b) t l i e h f = let same = same_Some _ _ e in (subst (λ s. fits v s ≡ true) same f, subst IsOrdered same (in_order t CelType-F.Bool i tt))
+ordered_taken v CelType-F.Bool _ t l i e h f = absurd (true≢false (sym h))
+ordered_taken v CelType-F.Int (Value-F.Int n) t l i e h f = let same = same_Some _ _ e in (subst (λ s. fits v s ≡ true) same f, subst IsOrdered same (in_order t CelType-F.Int i tt))
+ordered_taken v CelType-F.Int _ t l i e h f = absurd (true≢false (sym h))
+ordered_taken v _ p t l i e h f = absurd (none-some _ e)
+
+value_taken : (w : Want) (t : CelType) (v : Value) (l : Limit w) → limit_of w t ≡ Some l → fits v t ≡ true → Taken w l (taken_value w v)
+value_taken Any t v l e h = subst (λ s. fits v s ≡ true) (same_Some _ _ e) h
+value_taken Truth t v l e h = truth_taken v (out-CelType t) (out-Value v) t l e (sym (fits-out v t) ∙ h)
+value_taken Whole t v l e h = whole_taken v (out-CelType t) (out-Value v) t l e (sym (fits-out v t) ∙ h)
+value_taken Ordered t v l e h = ordered_taken v (out-CelType t) (out-Value v) t l refl e (sym (fits-out v t) ∙ h) h
+
+pub taken_fits : (w : Want) (t : CelType) (x : Option Outcome) (l : Limit w) → limit_of w t ≡ Some l → outcome_fits t x ≡ true → Taken w l (taken w x)
+taken_fits w t None l e h = absurd (true≢false (sym h))
+taken_fits w t (Some (Err f)) l e h = tt
+taken_fits w t (Some (Ok v)) l e h = value_taken w t v l e h
+
+-- where there is a type, it has this
+abbrev pub Gives : Result CelType TypeRule → (CelType → Type 0) → Type 0
+Gives (Err e) P = Unit {0}
+Gives (Ok t) P = P t
+
+-- at operands within their limits: an answer of the type, for at most the greatest charge, which is no less than 1
+abbrev pub OneGood : (w : Want) → OneRow w → Limit w → CelType → Type 0
+OneGood w r l t = (1 ≤ r.greatest l) × ((a : Of w) → Within w l a → (outcome_fits t (r.answer a) ≡ true) × (r.charge a ≤ r.greatest l))
+
+abbrev pub TwoGood : (v w : Want) → TwoRow v w → Limit v → Limit w → CelType → Type 0
+TwoGood v w r l m t = (1 ≤ r.greatest l m) × ((a : Of v) (b : Of w) → Within v l a → Within w m b → (outcome_fits t (r.answer a b) ≡ true) × (r.charge a b ≤ r.greatest l m))
+
+abbrev pub RowRight : Row → Type 0
+RowRight (One w r) = (l : Limit w) → Gives (r.result l) (OneGood w r l)
+RowRight (Two v w r) = (l : Limit v) (m : Limit w) → Gives (r.result l m) (TwoGood v w r l m)
+
+range_fits : (b : Bool) (n : ℤ) → outcome_fits type.Int (Some (cond b (Ok (value.Int n)) (Err Overflow))) ≡ true
+range_fits true n = int_fits n
+range_fits false n = refl
+
+checked_fits : (n : ℤ) → outcome_fits type.Int (Some (int_or_overflow n)) ≡ true
+checked_fits n = range_fits (in_range n) n
+
+divided_fits : (f : ℤ → ℤ → ℤ) (a b : ℤ) → outcome_fits type.Int (Some (divided f a b)) ≡ true
+divided_fits f a (pos zero) = refl
+divided_fits f a (pos (suc n)) = range_fits (in_range (int_div a (pos (suc n)))) (f a (pos (suc n)))
+divided_fits f a (negsuc n) = range_fits (in_range (int_div a (negsuc n))) (f a (negsuc n))
+
+arithmetic_right : (f : ℤ → ℤ → Outcome) → ((a b : ℤ) → outcome_fits type.Int (Some (f a b)) ≡ true) → RowRight (Two Whole Whole (arithmetic_row f))
+arithmetic_right f h = λ l m. (omega arith, λ a b p q. (h a b, omega arith))
+
+-- what fits weighs at most the greatest weight, and that is 1 at least
+one_greatest : (s t : CelType) → 1 ≤ lesser_greatest s t
+one_greatest s t = omega (arith, (weight_of-le s).0, (weight_of-le t).0)
+
+weight_within : (v w : Value) (s t : CelType) → fits v s ≡ true → fits w t ≡ true → lesser_weight v w ≤ lesser_greatest s t
+weight_within v w s t h k = omega (arith, (weight_of-le s).1 v h, (weight_of-le t).1 w k)
+
+where_right : (o : Option CelType) (P : CelType → Type 0) → P type.Bool → Gives (bool_where o) P
+where_right None P h = tt
+where_right (Some t) P h = h
+
+equality_right : (f : Bool → Bool) → RowRight (Two Any Any (equality_row f))
+equality_right f = λ s t. where_right (type_join s t) (TwoGood Any Any (equality_row f) s t) (one_greatest s t, λ v w p q. (bool_fits (f (same v w)), weight_within v w s t p q))
+
+-- two values of types that have a join are of one kind
+abbrev LessFits : Value → Value → Value-F Value → Value-F Value → Option CelType → Type 0
+LessFits v w p q o = Gives (bool_where o) (λ u. (outcome_fits u (truth_of (less_at p q)) ≡ true) × (outcome_fits u (untruth_of (less_at p q)) ≡ true) × (outcome_fits u (truth_of (less_at q p)) ≡ true) × (outcome_fits u (untruth_of (less_at q p)) ≡ true))
+
+comparison : (v w : Value) (p q : Value-F Value) (o : Option CelType) (a b : Bool) → less_at p q ≡ Some a → less_at q p ≡ Some b → LessFits v w p q o
+comparison v w p q None a b e f = tt
+comparison v w p q (Some t) a b e f = rw (e, f) (bool_fits a, bool_fits (not a), bool_fits b, bool_fits (not b))
+
+less_levels : (v w : Value) (p q : Value-F Value) (s t : CelType) (o r : CelType-F CelType) → out-CelType s ≡ o → out-CelType t ≡ r → fits_at (opened o) p ≡ true → fits_at (opened r) q ≡ true → IsOrderedLevel o → IsOrderedLevel r → LessFits v w p q (type_join s t)
+less_levels v w p q s t CelType-F.Never r e f h k i j = absurd (true≢false (sym h))
+less_levels v w p q s t o CelType-F.Never e f h k i j = absurd (true≢false (sym k))
+less_levels v w (Value-F.Bool a) (Value-F.Bool b) s t CelType-F.Bool CelType-F.Bool e f h k i j = comparison v w (Value-F.Bool a) (Value-F.Bool b) (type_join s t) (bool_lt a b) (bool_lt b a) refl refl
+less_levels v w (Value-F.Int a) (Value-F.Int b) s t CelType-F.Int CelType-F.Int e f h k i j = comparison v w (Value-F.Int a) (Value-F.Int b) (type_join s t) (int_lt a b) (int_lt b a) refl refl
+less_levels v w p q s t CelType-F.Bool CelType-F.Int e f h k i j = rw (join-Bool-Int s t e f) tt
+less_levels v w p q s t CelType-F.Int CelType-F.Bool e f h k i j = rw (join-Int-Bool s t e f) tt
+less_levels v w (Value-F.Bool a) _ s t CelType-F.Bool CelType-F.Bool e f h k i j = absurd (true≢false (sym k))
+less_levels v w (Value-F.Int a) _ s t CelType-F.Int CelType-F.Int e f h k i j = absurd (true≢false (sym k))
+less_levels v w _ q s t CelType-F.Bool CelType-F.Bool e f h k i j = absurd (true≢false (sym h))
+less_levels v w _ q s t CelType-F.Int CelType-F.Int e f h k i j = absurd (true≢false (sym h))
+less_levels v w p q s t CelType-F.Bool _ e f h k i j = absurd j
+less_levels v w p q s t CelType-F.Int _ e f h k i j = absurd j
+less_levels v w p q s t _ r e f h k i j = absurd i
+
+less_fits : (v w : Value) (s t : CelType) → Within Ordered s v → Within Ordered t w → LessFits v w (out-Value v) (out-Value w) (type_join s t)
+less_fits v w s t p q = less_levels v w (out-Value v) (out-Value w) s t (out-CelType s) (out-CelType t) refl refl (sym (fits-out v s) ∙ p.0) (sym (fits-out w t) ∙ q.0) p.1 q.1
+
+-- what holds of the type that is given, for one type after another
+gives_map : (r : Result CelType TypeRule) (P Q : CelType → Type 0) → ((t : CelType) → P t → Q t) → Gives r P → Gives r Q
+gives_map (Err e) P Q f h = tt
+gives_map (Ok t) P Q f h = f t h
+
+order_gives : (f : Value → Value → Option Outcome) (s t : CelType) (o : Option CelType) → ((v w : Value) → Within Ordered s v → Within Ordered t w → Gives (bool_where o) (λ u. outcome_fits u (f v w) ≡ true)) → Gives (bool_where o) (TwoGood Ordered Ordered (order_row f) s t)
+order_gives f s t None h = tt
+order_gives f s t (Some u) h = (one_greatest s t, λ v w p q. (h v w p q, weight_within v w s t p.0 q.0))
+
+pub row_right : (op : Operator) → RowRight (row op)
+row_right Not = λ l. (omega arith, λ b p. (bool_fits (not b), omega arith))
+row_right Negate = λ l. (omega arith, λ n p. (checked_fits (neg_ℤ n), omega arith))
+row_right Add = arithmetic_right _ (λ a b. checked_fits (a +ℤ b))
+row_right Subtract = arithmetic_right _ (λ a b. checked_fits (a -ℤ b))
+row_right Multiply = arithmetic_right _ (λ a b. checked_fits (a *ℤ b))
+row_right Divide = arithmetic_right _ (divided_fits int_div)
+row_right Remainder = arithmetic_right _ (divided_fits int_rem)
+row_right Equal = equality_right (λ b. b)
+row_right NotEqual = equality_right not
+row_right Less = λ s t. order_gives _ s t (type_join s t) (λ v w p q. gives_map (bool_where (type_join s t)) _ _ (λ u z. z.0) (less_fits v w s t p q))
+row_right AtMost = λ s t. order_gives _ s t (type_join s t) (λ v w p q. gives_map (bool_where (type_join s t)) _ _ (λ u z. z.3) (less_fits v w s t p q))
+row_right Greater = λ s t. order_gives _ s t (type_join s t) (λ v w p q. gives_map (bool_where (type_join s t)) _ _ (λ u z. z.2) (less_fits v w s t p q))
+row_right AtLeast = λ s t. order_gives _ s t (type_join s t) (λ v w p q. gives_map (bool_where (type_join s t)) _ _ (λ u z. z.1) (less_fits v w s t p q))
+
+-- an outcome of a type is one of each type that takes it
+pub wider : (s t : CelType) (x : Option Outcome) → assignable s t ≡ true → outcome_fits s x ≡ true → outcome_fits t x ≡ true
+wider s t None a h = absurd (true≢false (sym h))
+wider s t (Some (Err e)) a h = refl
+wider s t (Some (Ok v)) a h = (IsWithin-from_assignable t s a).1 v h
+
+-- what was made is of the type, for at most n
+abbrev pub MadeRight : CelType → Option Made → ℕ → Type 0
+MadeRight t o n = (outcome_fits t (outcome_made o) ≡ true) × (charge_made o ≤ n)
+
+makes_right : (t : CelType) (o : Option Outcome) (c n : ℕ) → outcome_fits t o ≡ true → c ≤ n → MadeRight t (makes o c) n
+makes_right t None c n h k = absurd (true≢false (sym h))
+makes_right t (Some x) c n h k = (h, k)
+
+one_made : (w : Want) (r : OneRow w) (l : Limit w) (t : CelType) (x : Option (Result (Of w) CelError)) → OneGood w r l t → Taken w l x → MadeRight t (one (λ a. makes (r.answer a) (r.charge a)) x) (r.greatest l)
+one_made w r l t None g h = absurd h
+one_made w r l t (Some (Err e)) g h = (refl, g.0)
+one_made w r l t (Some (Ok a)) g h = let p = g.1 a h in makes_right t (r.answer a) (r.charge a) (r.greatest l) p.0 p.1
+
+two_made : (v w : Want) (r : TwoRow v w) (l : Limit v) (m : Limit w) (t : CelType) (x : Option (Result (Of v) CelError)) (y : Option (Result (Of w) CelError)) → TwoGood v w r l m t → Taken v l x → Taken w m y → MadeRight t (two (λ a b. makes (r.answer a b) (r.charge a b)) x y) (r.greatest l m)
+two_made v w r l m t None y g h k = absurd h
+two_made v w r l m t (Some (Err e)) None g h k = absurd k
+two_made v w r l m t (Some (Ok a)) None g h k = absurd k
+two_made v w r l m t (Some (Err e)) (Some y) g h k = (refl, g.0)
+two_made v w r l m t (Some (Ok a)) (Some (Err e)) g h k = (refl, g.0)
+two_made v w r l m t (Some (Ok a)) (Some (Ok b)) g h k = let p = g.1 a b h k in makes_right t (r.answer a b) (r.charge a b) (r.greatest l m) p.0 p.1
+
+-- the type that a row gives, and a wider one
+gives_ok : (r : Result CelType TypeRule) (P : CelType → Type 0) (s : CelType) → r ≡ Ok s → Gives r P → P s
+gives_ok r P s e g = let h : Gives (Ok s) P = subst (λ x. Gives x P) e g in h
+
+made_wider : (s t : CelType) (o : Option Made) (n : ℕ) → assignable s t ≡ true → MadeRight s o n → MadeRight t o n
+made_wider s t o n a h = (wider s t (outcome_made o) a h.0, h.1)
+
+-- an operator at one operand of the right type
+pub one_operand : (r : Row) (s t : CelType) (x : Option Outcome) → RowRight r → type_of_one r s ≡ Ok t → outcome_fits s x ≡ true → MadeRight t (at_one r x) (greatest_of_one r s)
+one_operand (One w r) s t x g e h = one_at (limit_of w s) refl e
+  where
+    one_at : (o : Option (Limit w)) → limit_of w s ≡ o → of_limit r.result o ≡ Ok t → MadeRight t (one (λ a. makes (r.answer a) (r.charge a)) (taken w x)) (most r.greatest o)
+    one_at None q e = cc
+    one_at (Some l) q e = one_made w r l t (taken w x) (gives_ok (r.result l) (OneGood w r l) t e (g l)) (taken_fits w s x l q h)
+one_operand (Two v w r) s t x g e h = cc
+
+-- an operator at two
+pub two_operands : (r : Row) (s u t : CelType) (x y : Option Outcome) → RowRight r → type_of_two r s u ≡ Ok t → outcome_fits s x ≡ true → outcome_fits u y ≡ true → MadeRight t (at_two r x y) (greatest_of_two r s u)
+two_operands (One w r) s u t x y g e h k = cc
+two_operands (Two v w r) s u t x y g e h k = two_at (limit_of v s) (limit_of w u) refl refl e
+  where
+    two_at : (o : Option (Limit v)) (p : Option (Limit w)) → limit_of v s ≡ o → limit_of w u ≡ p → of_limits r.result o p ≡ Ok t → MadeRight t (two (λ a b. makes (r.answer a b) (r.charge a b)) (taken v x) (taken w y)) (most_of_two r.greatest o p)
+    two_at None p q z e = cc
+    two_at (Some l) None q z e = cc
+    two_at (Some l) (Some m) q z e = two_made v w r l m t (taken v x) (taken w y) (gives_ok (r.result l m) (TwoGood v w r l m) t e (g l m)) (taken_fits v s x l q h) (taken_fits w u y m z k)

@@ -1,0 +1,5 @@
+pub mod Meaning
+pub mod Operators
+pub mod Outcomes
+pub mod Typing
+pub mod Wants

@@ -1,0 +1,24 @@
+//! Types of expressions, and the operators that they choose: [`check`] answers the typed tree of an expression in a
+//! scope of names, or the first rule that it breaks.
+//!
+//! The table of the operators is here, with what each charges at most, and so are the value and the cost of a typed tree.
+#![tactic(auto)]
+
+mod checker;
+mod fault;
+mod greatest;
+mod node;
+mod operator;
+mod overload;
+mod scope;
+mod size;
+mod tree;
+mod typed;
+
+pub use checker::check;
+pub use fault::{CheckError, TypeFault, TypeRule, Untyped};
+pub use greatest::{greatest_of_one, greatest_of_two};
+pub use operator::{Made, Operator, Overload, is_ordered, is_truth, is_whole};
+pub use scope::Scope;
+pub use tree::{Form, TypedTree};
+pub use typed::Typed;

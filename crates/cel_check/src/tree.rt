@@ -1,0 +1,21 @@
+use crate::operator::Operator;
+use cel_value::{CelType, Value};
+use plain::Boxed;
+
+/// One level of a typed expression.
+#[derive(Drop)]
+pub enum Form<T> {
+    Literal(Value),
+    Unary(Operator, Boxed<T>),
+    Binary(Operator, Boxed<T>, Boxed<T>),
+    And(Boxed<T>, Boxed<T>),
+    Or(Boxed<T>, Boxed<T>),
+    Conditional(Boxed<T>, Boxed<T>, Boxed<T>),
+}
+
+/// An expression whose operators are chosen, each node with its type.
+#[derive(Drop)]
+pub struct TypedTree {
+    pub cel_type: CelType,
+    pub form: Form<TypedTree>,
+}

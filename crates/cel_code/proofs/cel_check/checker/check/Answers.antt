@@ -1,8 +1,0 @@
-use Rattle.std.proofs.Common.{ap, ◌∙◌}
-use Rattle.cel_code.specs.Typing.{names_of, types_in}
-use Rattle.cel_code.proofs.Checks.{right_outside}
-use Rattle.cel_code.proofs.cel_check.checker.check.Goals as goal
-
-pub invariant_of-result : goal.invariant_of-result
-invariant_of-result c =
-    record { well_typed = right_outside c.args.expr.now c.args.scope.now _ _ (c.in_ok-tree.ensures (names_of c.args.scope.now)) (c.in_ok-slots.ensures ∙ ap types_in c.as_slice.ensures) }

@@ -1,9 +1,0 @@
-use Rattle.std.proofs.Common.{◌-◌, length}
-use Rattle.cel_machine.specs.Walked.{IsBefore}
-use Rattle.cel_machine.proofs.cel_verify.walk.walk.Given as goal
-
-abbrev pub invariant-loop-instr : goal.invariant-loop-instr
-invariant-loop-instr l = IsBefore l.image l.at l.label l.charges.items
-
-abbrev pub decreases-loop-instr : goal.decreases-loop-instr
-decreases-loop-instr l = length l.image.code - l.at

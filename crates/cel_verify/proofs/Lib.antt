@@ -1,0 +1,11 @@
+pub mod Labels
+pub mod Operations
+pub mod Pairwise
+pub mod PathSums
+pub mod Routes
+pub mod RuleParts
+pub mod Sides
+pub mod Steps
+pub mod Turns
+pub mod Walking
+mod WorkedRows

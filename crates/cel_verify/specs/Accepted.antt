@@ -1,0 +1,78 @@
+-- Which images are accepted, and why one is not.
+use Rattle.std.specs.Prelude.{◌≡◌, ◌≢◌, ℕ, ◌+◌, ◌-◌, ◌<◌, ◌≤◌, ◌⊎◌, ◌&&◌, nat_le, nat_lt, List, [], ◌∷◌, length, slice_get, if◌then◌else◌, Option, Some, None}
+use Rattle.cel_code.specs.declared.instr.Instr.{Instr}
+use Rattle.cel_code.specs.declared.instr.Instr.TheVariants.{End}
+use Rattle.cel_code.specs.declared.image.Image.{Image}
+use Rattle.cel_code.specs.declared.image.Target.{Target}
+use Rattle.cel_verify.specs.declared.fault.VerifyRule.{VerifyRule}
+use Rattle.cel_verify.specs.declared.fault.VerifyRule.TheVariants.{BadTarget, TooDeep, OverBudget}
+use Rattle.cel_verify.specs.declared.fault.VerifyFault.{VerifyFault}
+use Rattle.cel_verify.specs.declared.fault.VerifyError.{VerifyError}
+use Rattle.cel_verify.specs.declared.fault.VerifyError.TheVariants.{OutOfMemory, Fault}
+use Rattle.cel_verify.specs.Sound.{EndsOnce, IsSound, IsFirstFault}
+use Rattle.cel_verify.specs.Paths.{path_cost}
+
+-- the most instructions, constants, slots and targets
+abbrev pub max_count : ℕ
+max_count = 65536
+
+-- the most that the dearest route may charge
+abbrev pub budget : ℕ
+budget = 10000000
+
+-- each list of the image is within the limit of counts
+pub record IsCounted (image : Image) : Type 0 where
+  pub code : length image.code ≤ max_count
+  pub constants : length image.constants ≤ max_count
+  pub slots : length image.slots ≤ max_count
+  pub targets : length image.targets ≤ max_count
+
+-- an END before the last instruction, and the first
+pub record IsEarlyEnd (code : List Instr) (at : ℕ) : Type 0 where
+  pub is : slice_get code at ≡ Some End
+  pub early : at + 1 < length code
+  pub first : (i : ℕ) → i < at → slice_get code i ≢ Some End
+
+-- there is no END; it is missed at the last instruction, or at 0 where there is none
+pub record IsMissingEnd (code : List Instr) (at : ℕ) : Type 0 where
+  pub none : (i : ℕ) → slice_get code i ≢ Some End
+  pub last : at ≡ length code - 1
+
+-- an END out of its place, or none
+abbrev pub IsWrongEnd : List Instr → ℕ → Type 0
+IsWrongEnd code at = IsEarlyEnd code at ⊎ IsMissingEnd code at
+
+-- the number of the first entry that is no instruction's, or not above that of the entry before it, where there are so
+-- many instructions and this is the least number that may come
+abbrev pub misplaced : ℕ → ℕ → List Target → Option ℕ
+misplaced count least [] = None
+misplaced count least (e ∷ es) = if nat_le least e.at && nat_lt e.at count then misplaced count (e.at + 1) es else Some e.at
+
+-- the number of an image's first entry that is out of its place, if one is
+abbrev pub misplaced_entry : Image → Option ℕ
+misplaced_entry image = misplaced (length image.code) 0 image.targets
+
+-- an image that is accepted
+pub record IsAccepted (image : Image) : Type 0 where
+  pub counted : IsCounted image
+  pub sound : IsSound image
+  pub placed : misplaced_entry image ≡ None
+  pub cheap : path_cost image ≤ budget
+
+-- a fault by its rule and its instruction
+abbrev pub fault : VerifyRule → ℕ → VerifyFault
+fault broken at = record { rule = broken; at = at }
+
+-- why an image is not accepted: in this order, a list is too long, END is not last and alone, an instruction breaks its
+-- rule, an entry is out of its place, the dearest route charges too much
+pub data IsFault (image : Image) (f : VerifyFault) : Type 0 where
+  TooMany : ¬ IsCounted image → f ≡ fault TooDeep 0 → IsFault image f
+  EndsWrong : IsCounted image → IsWrongEnd image.code f.at → f.rule ≡ BadTarget → IsFault image f
+  Breaks : IsCounted image → EndsOnce image.code → IsFirstFault image f.at f.rule → IsFault image f
+  Misplaced : IsCounted image → IsSound image → misplaced_entry image ≡ Some f.at → f.rule ≡ BadTarget → IsFault image f
+  TooDear : IsCounted image → IsSound image → misplaced_entry image ≡ None → budget < path_cost image → f ≡ fault OverBudget (length image.code - 1) → IsFault image f
+
+-- a refusal: for want of memory, or for the image's fault, with which it is not accepted
+abbrev pub IsRefused : Image → VerifyError → Type 0
+IsRefused image OutOfMemory = Unit {0}
+IsRefused image (Fault f) = IsFault image f × ¬ IsAccepted image

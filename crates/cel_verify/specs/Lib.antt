@@ -1,0 +1,7 @@
+pub mod Accepted
+pub mod Paths
+pub mod Sound
+pub mod StackTypes
+pub mod Walked
+pub mod Typed
+pub mod Labelled

@@ -1,0 +1,96 @@
+-- The greatest sums over the forward routes.
+use Rattle.std.specs.Prelude.{◌≡◌, ℕ, ◌+◌, ◌-◌, ◌*◌, ◌<◌, ◌≤◌, max, ◌⊎◌, List, [], ◌∷◌, slice_get, slice_index, Option, Some, None}
+use Rattle.cel_check.specs.declared.operator.Operator.{Operator}
+use Rattle.cel_code.specs.declared.instr.Instr.{Instr}
+use Rattle.cel_code.specs.declared.instr.Instr.TheVariants.{Op, AndTest, OrTest, Cond, Jump, End}
+use Rattle.cel_code.specs.declared.image.Image.{Image}
+use Rattle.cel_check.specs.Operators.{Row, One, Two, row, operator_of, greatest_of_one, greatest_of_two}
+use Rattle.cel_verify.specs.StackTypes.{StackTypes}
+use Rattle.cel_verify.specs.Sound.{label_at}
+
+-- the greatest charge of an operator at these types
+abbrev pub row_charge : Row → StackTypes → ℕ
+row_charge (One w r) (s ∷ ts) = greatest_of_one (One w r) s
+row_charge (Two v w r) (t ∷ s ∷ ts) = greatest_of_two (Two v w r) s t
+row_charge _ _ = 0
+
+-- the greatest charge of an operator that is named by its number
+abbrev pub op_charge : Option Operator → StackTypes → ℕ
+op_charge None ts = 0
+op_charge (Some op) ts = row_charge (row op) ts
+
+-- the greatest charge of an instruction at these types
+abbrev pub charge_of : Instr → StackTypes → ℕ
+charge_of (Op o) ts = op_charge (operator_of o) ts
+charge_of (AndTest to) ts = 1
+charge_of (OrTest to) ts = 1
+charge_of (Cond if_false if_error) ts = 1
+charge_of _ ts = 0
+
+-- the greatest charge of an instruction at its types; nothing where it is not reached
+abbrev pub charge_in : Option Instr → Option StackTypes → ℕ
+charge_in (Some i) (Some ts) = charge_of i ts
+charge_in _ _ = 0
+
+-- where an instruction may go on in the body in which it stands
+abbrev pub goes_to : Instr → ℕ → List ℕ
+goes_to (AndTest to) at = to ∷ (at + 1) ∷ []
+goes_to (OrTest to) at = to ∷ (at + 1) ∷ []
+goes_to (Cond if_false if_error) at = (at + 1) ∷ if_false ∷ if_error ∷ []
+goes_to (Jump to) at = to ∷ []
+goes_to End at = []
+goes_to _ at = (at + 1) ∷ []
+
+-- the greatest of what f tells of these; nothing where there are none
+abbrev pub greatest : (ℕ → ℕ) → List ℕ → ℕ
+greatest f [] = 0
+greatest f (t ∷ ts) = max (f t) (greatest f ts)
+
+-- how often the instructions behind an instruction count as its loop's body; none begins a loop
+abbrev pub rounds_of : Instr → ℕ → ℕ
+rounds_of i times = 0
+
+-- from one instruction, where f tells those behind it
+abbrev pub from_one : (ℕ → ℕ) → (ℕ → ℕ) → Instr → ℕ → (ℕ → ℕ) → ℕ
+from_one weigh times i at f = weigh at + (rounds_of i (times at) * f (at + 1) + greatest f (goes_to i at))
+
+-- from each of these instructions to the end of its body, where the first has this number
+abbrev pub to_go : (ℕ → ℕ) → (ℕ → ℕ) → List Instr → ℕ → List ℕ
+to_go weigh times [] at = []
+to_go weigh times (i ∷ is) at =
+    from_one weigh times i at (λ t. slice_index (to_go weigh times is (at + 1)) (t - (at + 1))) ∷ to_go weigh times is (at + 1)
+
+-- how often the body of the loop that begins here counts; none begins
+abbrev pub times_at : Image → ℕ → ℕ
+times_at image at = 0
+
+-- the greatest charge of an instruction at its label
+abbrev pub charge_at : Image → ℕ → ℕ
+charge_at image at = charge_in (slice_get image.code at) (label_at image at).types
+
+-- the greatest sum of weights from an instruction on
+abbrev pub path_from : Image → (ℕ → ℕ) → ℕ → ℕ
+path_from image weigh at = slice_index (to_go weigh (times_at image) image.code 0) at
+
+-- the charge of the dearest route
+abbrev pub path_cost : Image → ℕ
+path_cost image = path_from image (charge_at image) 0
+
+-- the instructions of the longest route
+abbrev pub path_steps : Image → ℕ
+path_steps image = path_from image (λ _. 1) 0
+
+-- a number is one of these
+abbrev pub IsIn : ℕ → List ℕ → Type 0
+IsIn t [] = ⊥
+IsIn t (u ∷ us) = (t ≡ u) ⊎ IsIn t us
+
+-- a forward route from an instruction to the end, and the sum of its weights
+pub data Route (weigh : ℕ → ℕ) (code : List Instr) : ℕ → ℕ → Type 0 where
+  Stops : {at sum : ℕ} (i : Instr) → slice_get code at ≡ Some i → goes_to i at ≡ [] → sum ≡ weigh at → Route weigh code at sum
+  Via : {at sum : ℕ} (i : Instr) (to rest : ℕ) → slice_get code at ≡ Some i → IsIn to (goes_to i at) → at < to → Route weigh code to rest → sum ≡ weigh at + rest → Route weigh code at sum
+
+-- the greatest sum of the routes from an instruction
+pub record IsGreatest (weigh : ℕ → ℕ) (code : List Instr) (at greatest : ℕ) : Type 0 where
+  pub bound : (sum : ℕ) → Route weigh code at sum → sum ≤ greatest
+  pub attained : Route weigh code at greatest

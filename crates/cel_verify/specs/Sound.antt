@@ -1,0 +1,224 @@
+-- Sound images: each instruction keeps its rule at the types of the stack there.
+use Rattle.std.specs.Prelude.{◌≡◌, ℕ, zero, suc, ◌+◌, ◌<◌, Bool, true, false, not, ◌&&◌, ◌||◌, nat_eq, nat_lt, nat_le, List, [], ◌∷◌, reverse, length, slice_get, if◌then◌else◌, Option, Some, None, Result, Ok, Err}
+use Rattle.cel_value.specs.declared.cel_type.CelType.{CelType}
+use Rattle.cel_value.specs.declared.cel_type.CelType as type
+use Rattle.cel_value.specs.CelType.{assignable}
+use Rattle.cel_check.specs.declared.fault.TypeRule.{TypeRule}
+use Rattle.cel_check.specs.declared.operator.Operator.{Operator}
+use Rattle.cel_code.specs.declared.instr.Instr.{Instr}
+use Rattle.cel_code.specs.declared.instr.Instr.TheVariants.{Const, Op, AndTest, OrTest, And, Or, Cond, Jump, End}
+use Rattle.cel_code.specs.declared.image.Image.{Image}
+use Rattle.cel_code.specs.declared.image.Target.{Target}
+use Rattle.cel_check.specs.Meaning.{is_there, is_truth}
+use Rattle.cel_check.specs.Operators.{Row, One, Two, row, operator_of, type_of_one, type_of_two}
+use Rattle.cel_verify.specs.declared.fault.VerifyRule.{VerifyRule}
+use Rattle.cel_verify.specs.declared.fault.VerifyRule.TheVariants.{Underflow, WrongKind, BadTarget, BadNesting, BadConstant, TooDeep}
+use Rattle.cel_verify.specs.StackTypes.{StackTypes, all_assignable, constant_type}
+
+-- an open loop: where it begins and where it leads, the type and the most of its items, the types below its frame and
+-- those where it leads
+pub record Open : Type 0 where
+  pub start : ℕ
+  pub exit : ℕ
+  pub item : CelType
+  pub max : ℕ
+  pub below : StackTypes
+  pub after : StackTypes
+
+-- the types above the innermost frame, where the instruction is reached, and the open loops, the innermost first
+pub record Label : Type 0 where
+  pub types : Option StackTypes
+  pub opens : List Open
+
+-- what goes on to the next instruction, types or nothing, or the rule that is broken
+abbrev pub Falls : Type 0
+Falls = Result (Option StackTypes) VerifyRule
+
+-- the types where jumps arrive at an instruction, the top first
+abbrev pub entry_in : List Target → ℕ → Option StackTypes
+entry_in [] at = None
+entry_in (e ∷ es) at = if nat_eq e.at at then Some (reverse e.types) else entry_in es at
+
+-- a condition of a rule, or the rule that is broken
+abbrev pub needs : Bool → VerifyRule → Falls → Falls
+needs true broken r = r
+needs false broken r = Err broken
+
+-- where an instruction jumps
+abbrev pub jumps_of : Instr → List ℕ
+jumps_of (AndTest to) = to ∷ []
+jumps_of (OrTest to) = to ∷ []
+jumps_of (Cond if_false if_error) = if_false ∷ if_error ∷ []
+jumps_of (Jump to) = to ∷ []
+jumps_of _ = []
+
+-- each of these passes
+abbrev pub every : (ℕ → Bool) → List ℕ → Bool
+every p [] = true
+every p (t ∷ ts) = p t && every p ts
+
+-- one of these passes
+abbrev pub some_of : (ℕ → Bool) → List ℕ → Bool
+some_of p [] = false
+some_of p (t ∷ ts) = p t || some_of p ts
+
+-- an instruction's constant or operator is there
+abbrev pub is_named : Image → Instr → Bool
+is_named image (Const k) = is_there (constant_type (slice_get image.constants k))
+is_named image (Op o) = is_there (operator_of o)
+is_named image _ = true
+
+-- a jump goes forward, to an instruction that has types
+abbrev pub is_target : Image → ℕ → ℕ → Bool
+is_target image at to = (nat_lt at to && nat_lt to (length image.code)) && is_there (entry_in image.targets to)
+
+-- whether one of the instructions jumps to this one
+abbrev pub is_jumped : List Instr → ℕ → Bool
+is_jumped [] to = false
+is_jumped (i ∷ is) to = some_of (λ t. nat_eq t to) (jumps_of i) || is_jumped is to
+
+-- an instruction that has types is one to which an instruction jumps
+abbrev pub is_wanted : Image → ℕ → Bool
+is_wanted image at = not (is_there (entry_in image.targets at)) || is_jumped image.code at
+
+-- jumps stay in the body of their innermost loop; no instruction begins a loop
+abbrev pub is_nested : Image → ℕ → Instr → List Open → Bool
+is_nested image at i opens = true
+
+-- the type that an operator gives, on top of those below its operands
+abbrev pub given : Result CelType TypeRule → StackTypes → Falls
+given (Err e) ts = Err WrongKind
+given (Ok t) ts = Ok (Some (t ∷ ts))
+
+-- an operator at the types of its operands
+abbrev pub row_rule : Row → StackTypes → Falls
+row_rule (One w r) (s ∷ ts) = given (type_of_one (One w r) s) ts
+row_rule (Two v w r) (t ∷ s ∷ ts) = given (type_of_two (Two v w r) s t) ts
+row_rule _ _ = Err Underflow
+
+-- the operator of a number
+abbrev pub op_rule : Option Operator → StackTypes → Falls
+op_rule None ts = Err BadConstant
+op_rule (Some op) ts = row_rule (row op) ts
+
+-- the type of a constant, on top
+abbrev pub constant_rule : Option CelType → StackTypes → Falls
+constant_rule None ts = Err BadConstant
+constant_rule (Some t) ts = Ok (Some (t ∷ ts))
+
+-- these types may stand at an entry
+abbrev pub enters : Option StackTypes → StackTypes → Bool
+enters None ts = false
+enters (Some es) ts = all_assignable ts es
+
+-- a side, which is a truth value where it ends the operator
+abbrev pub test_rule : Option StackTypes → StackTypes → Falls
+test_rule es [] = Err Underflow
+test_rule es (t ∷ ts) = needs (is_truth t && enters es (type.Bool ∷ ts)) WrongKind (Ok (Some (t ∷ ts)))
+
+-- both sides
+abbrev pub join_rule : StackTypes → Falls
+join_rule (t ∷ s ∷ ts) = needs (is_truth s && is_truth t) WrongKind (Ok (Some (type.Bool ∷ ts)))
+join_rule _ = Err Underflow
+
+-- a condition, whose error goes behind both branches
+abbrev pub cond_rule : Option StackTypes → Option StackTypes → StackTypes → Falls
+cond_rule fs es [] = Err Underflow
+cond_rule fs es (t ∷ ts) = needs (is_truth t && (enters fs ts && enters es (type.Never ∷ ts))) WrongKind (Ok (Some ts))
+
+-- a jump, where all types may stand
+abbrev pub jump_rule : Option StackTypes → StackTypes → Falls
+jump_rule es ts = needs (enters es ts) WrongKind (Ok None)
+
+-- the outcome alone
+abbrev pub end_rule : CelType → StackTypes → Falls
+end_rule result [] = Err Underflow
+end_rule result (t ∷ []) = needs (assignable t result) WrongKind (Ok None)
+end_rule result _ = Err WrongKind
+
+-- one instruction at the types above the innermost frame
+abbrev pub typed_rule : Image → Instr → List Open → StackTypes → Falls
+typed_rule image (Const k) opens ts = constant_rule (constant_type (slice_get image.constants k)) ts
+typed_rule image (Op o) opens ts = op_rule (operator_of o) ts
+typed_rule image (AndTest to) opens ts = test_rule (entry_in image.targets to) ts
+typed_rule image (OrTest to) opens ts = test_rule (entry_in image.targets to) ts
+typed_rule image And opens ts = join_rule ts
+typed_rule image Or opens ts = join_rule ts
+typed_rule image (Cond if_false if_error) opens ts = cond_rule (entry_in image.targets if_false) (entry_in image.targets if_error) ts
+typed_rule image (Jump to) opens ts = jump_rule (entry_in image.targets to) ts
+typed_rule image End opens ts = end_rule image.result ts
+
+-- what goes on may stand at the next instruction's entry
+abbrev pub entered : Option StackTypes → Falls → Falls
+entered (Some es) (Ok (Some ts)) = needs (all_assignable ts es) WrongKind (Ok (Some ts))
+entered _ r = r
+
+-- the most operands
+abbrev pub max_depth : ℕ
+max_depth = 16384
+
+-- what goes on is no deeper than the stack may be
+abbrev pub shallow : Falls → Falls
+shallow (Ok (Some ts)) = needs (nat_le (length ts) max_depth) TooDeep (Ok (Some ts))
+shallow r = r
+
+-- what a rule says of the types at an instruction, where it is reached
+abbrev pub reached : Option StackTypes → (StackTypes → Falls) → Falls
+reached None f = Err BadTarget
+reached (Some ts) f = f ts
+
+-- an instruction's rule; its first part that is broken is the fault
+abbrev pub rule : Image → ℕ → Instr → Label → Falls
+rule image at i l =
+    needs (is_named image i) BadConstant (needs (is_wanted image at && every (is_target image at) (jumps_of i)) BadTarget (reached l.types (λ ts. needs (is_nested image at i l.opens) BadNesting (shallow (entered (entry_in image.targets (at + 1)) (typed_rule image i l.opens ts))))))
+
+-- the rule of the instruction at a place, if there is one
+abbrev pub rule_at : Image → ℕ → Option Instr → Label → Falls
+rule_at image at None l = Err BadTarget
+rule_at image at (Some i) l = rule image at i l
+
+-- what goes on, where the rule holds
+abbrev pub fallen : Falls → Option StackTypes
+fallen (Ok o) = o
+fallen (Err broken) = None
+
+-- the types where jumps arrive, or else those that go on
+abbrev pub entry_or : Option StackTypes → Option StackTypes → Option StackTypes
+entry_or (Some es) o = Some es
+entry_or None o = o
+
+-- the open loops behind an instruction; none begins or ends one
+abbrev pub opens_after : ℕ → Option Instr → Label → List Open
+opens_after at o l = l.opens
+
+-- the label of the next instruction: the types where jumps arrive there, or else what goes on to it
+abbrev pub next_label : Image → ℕ → Option Instr → Label → Label
+next_label image at o l = record { types = entry_or (entry_in image.targets (suc at)) (fallen (rule_at image at o l)); opens = opens_after at o l }
+
+-- the label of each instruction, one after another; at the first the stack is empty
+abbrev pub label_at : Image → ℕ → Label
+label_at image zero = record { types = Some []; opens = [] }
+label_at image (suc at) = next_label image at (slice_get image.code at) (label_at image at)
+
+-- the rule of an instruction holds at its label
+pub record Holds (image : Image) (at : ℕ) : Type 0 where
+  pub next : Option StackTypes
+  pub is : rule_at image at (slice_get image.code at) (label_at image at) ≡ Ok next
+
+-- END is the last instruction and stands nowhere else
+pub record EndsOnce (code : List Instr) : Type 0 where
+  pub last : ℕ
+  pub long : length code ≡ last + 1
+  pub ends : slice_get code last ≡ Some End
+  pub alone : (at : ℕ) → slice_get code at ≡ Some End → at ≡ last
+
+-- each instruction keeps its rule
+pub record IsSound (image : Image) : Type 0 where
+  pub ends : EndsOnce image.code
+  pub each : (at : ℕ) → at < length image.code → Holds image at
+
+-- the first instruction that breaks its rule
+pub record IsFirstFault (image : Image) (at : ℕ) (broken : VerifyRule) : Type 0 where
+  pub inside : at < length image.code
+  pub before : (i : ℕ) → i < at → Holds image i
+  pub is : rule_at image at (slice_get image.code at) (label_at image at) ≡ Err broken

@@ -1,0 +1,41 @@
+-- The types of operand stacks.
+use Rattle.std.specs.Prelude.{◌≡◌, Bool, true, false, ◌&&◌, List, [], ◌∷◌, Option, Some, None}
+use Rattle.cel_value.specs.declared.value.Value.{Value, out-Value}
+use Rattle.cel_value.specs.declared.value.Value.TheOpen.{Value-F}
+use Rattle.cel_value.specs.declared.cel_type.CelType.{CelType}
+use Rattle.cel_value.specs.declared.cel_type.CelType as type
+use Rattle.cel_value.specs.CelType.{assignable}
+use Rattle.cel_check.specs.Outcomes.{Outcome, outcome_fits}
+
+-- a stack's types, the top first
+abbrev pub StackTypes : Type 0
+StackTypes = List CelType
+
+-- whether what has the first types may stand where the second are asked
+abbrev pub all_assignable : StackTypes → StackTypes → Bool
+all_assignable [] [] = true
+all_assignable (s ∷ ss) (t ∷ ts) = assignable s t && all_assignable ss ts
+all_assignable _ _ = false
+
+-- a value or an error of a type; an error is of each
+abbrev pub Fits : Outcome → CelType → Type 0
+Fits x t = outcome_fits t (Some x) ≡ true
+
+-- a stack of these types
+abbrev pub AllFit : List Outcome → StackTypes → Type 0
+AllFit [] [] = Unit {0}
+AllFit (x ∷ stack) (t ∷ ts) = Fits x t × AllFit stack ts
+AllFit _ _ = ⊥
+
+-- the type of a level that may be a constant: null, a truth value or a number
+abbrev pub constant_type_at : Value-F Value → Option CelType
+constant_type_at Value-F.Null = Some type.Null
+constant_type_at (Value-F.Bool b) = Some type.Bool
+constant_type_at (Value-F.Int n) = Some type.Int
+constant_type_at (Value-F.Uint n) = Some type.Uint
+constant_type_at _ = None
+
+-- the type of a constant, where there is one and its value may be one
+abbrev pub constant_type : Option Value → Option CelType
+constant_type None = None
+constant_type (Some v) = constant_type_at (out-Value v)

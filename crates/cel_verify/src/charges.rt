@@ -1,0 +1,85 @@
+ghost use Rattle.std.specs.Prelude.{◌≡◌, ◌+◌, ◌-◌, ◌<◌, ◌^◌, min, Some, length, reverse, slice_index};
+ghost use Rattle.cel_check.specs.Operators.{row};
+ghost use Rattle.cel_verify.specs.Sound.{IsSound};
+ghost use Rattle.cel_verify.specs.Paths.{row_charge, charge_in, goes_to, greatest, path_cost as cost_of_path};
+ghost use Rattle.cel_verify.specs.Walked.{AreCharges};
+
+use crate::type_stack::TypeStack;
+use cel_check::{Operator, greatest_of_one, greatest_of_two};
+use cel_code::{Image, Instr};
+use cel_value::CelType;
+
+/// The greatest charge of an instruction at the types of the stack; nothing where it is not reached.
+pub fn charge(instr: Instr, label: &Option<TypeStack>) -> u64
+    ensures { result ≡ min (charge_in (Some instr) label.now) (2 ^ 64 - 1) }
+{
+    let Some(types) = label else {
+        return 0;
+    };
+    match instr {
+        Instr::Op(code) => match Operator::from_code(code) {
+            Some(op) => operator_charge(op, types.as_slice()),
+            None => 0,
+        },
+        Instr::AndTest(_) | Instr::OrTest(_) | Instr::Cond(_, _) => 1,
+        _ => 0,
+    }
+}
+
+fn operator_charge(op: Operator, types: &[CelType]) -> u64
+    ensures { result ≡ min (row_charge (row op) (reverse types.now)) (2 ^ 64 - 1) }
+{
+    let [below @ .., t] = types else {
+        return 0;
+    };
+    if matches!(op, Operator::Not | Operator::Negate) {
+        return greatest_of_one(op, t);
+    }
+    let [.., s] = below else {
+        return 0;
+    };
+    greatest_of_two(op, s, t)
+}
+
+/// The charge of the dearest route through the code, or the greatest number where it charges more.
+pub fn path_cost(image: &Image, charges: Vec<u64>) -> u64
+    requires sound { IsSound image.now }
+    requires charged { AreCharges image.now (length image.now.code) charges.items }
+    ensures { result ≡ min (cost_of_path image.now) (2 ^ 64 - 1) }
+{
+    let mut costs = charges;
+    let mut at = image.code.len();
+    while at > 0 {
+        at -= 1;
+        let Some(instr) = image.code.get(at) else {
+            unreachable!();
+        };
+        costs[at] = costs[at].saturating_add(dearest(costs.as_slice(), *instr, at));
+    }
+    cost_at(costs.as_slice(), 0)
+}
+
+// The greatest cost of where an instruction may go.
+fn dearest(costs: &[u64], instr: Instr, at: usize) -> u64
+    requires { at + 1 < 2 ^ 64 }
+    ensures { result ≡ greatest (λ t. slice_index costs.now t) (goes_to instr at) }
+{
+    match instr {
+        Instr::AndTest(to) | Instr::OrTest(to) => cost_at(costs, to).max(cost_at(costs, at + 1)),
+        Instr::Cond(if_false, if_error) => cost_at(costs, at + 1)
+            .max(cost_at(costs, if_false))
+            .max(cost_at(costs, if_error)),
+        Instr::Jump(to) => cost_at(costs, to),
+        Instr::End => 0,
+        Instr::Const(_) | Instr::Op(_) | Instr::And | Instr::Or => cost_at(costs, at + 1),
+    }
+}
+
+fn cost_at(costs: &[u64], at: usize) -> u64
+    ensures { result ≡ slice_index costs.now at }
+{
+    match costs.get(at) {
+        Some(cost) => *cost,
+        None => 0,
+    }
+}

@@ -1,0 +1,64 @@
+ghost use Rattle.std.specs.Prelude.{◌≡◌};
+ghost use Rattle.cel_verify.specs.declared.fault.VerifyError.TheVariants.{OutOfMemory};
+
+use std::alloc::{AllocError, AllocFailed};
+use std::fmt;
+use thiserror::Error;
+
+/// Which rule of the verifier an image breaks.
+#[derive(Clone, Copy, Debug, PartialEq, Eq)]
+pub enum VerifyRule {
+    /// An operand is missing.
+    Underflow = 1,
+    /// A type does not fit where it goes.
+    WrongKind = 2,
+    /// A jump goes nowhere, an instruction is not reached, END is not last, or a target is none.
+    BadTarget = 3,
+    /// A part of a loop is out of its place.
+    BadNesting = 4,
+    /// There is no such constant or operator.
+    BadConstant = 5,
+    /// A list of the image is too long, or the operands are too many.
+    TooDeep = 6,
+    /// A run may charge too much.
+    OverBudget = 7,
+}
+
+/// Where an image breaks which rule: the number of the instruction.
+#[derive(Clone, Copy, Debug, PartialEq, Eq)]
+pub struct VerifyFault {
+    pub rule: VerifyRule,
+    pub at: usize,
+}
+
+impl fmt::Display for VerifyFault {
+    fn fmt<W: fmt::Write>(&self, f: &mut fmt::Formatter<W>) -> fmt::Result {
+        let VerifyFault { rule, at } = *self;
+        write!(f, "{rule:?} at {at}")
+    }
+}
+
+/// Why an image is not accepted.
+#[derive(Clone, Copy, Debug, PartialEq, Eq, Error)]
+pub enum VerifyError {
+    #[error("out of memory")]
+    OutOfMemory,
+    #[error("{0}")]
+    Fault(VerifyFault),
+}
+
+impl From<AllocError> for VerifyError {
+    ghost from_gives = { λ _ e. e ≡ OutOfMemory };
+
+    fn from(_error: AllocError) -> VerifyError {
+        VerifyError::OutOfMemory
+    }
+}
+
+impl<T: Drop> From<AllocFailed<T>> for VerifyError {
+    ghost from_gives = { λ _ e. e ≡ OutOfMemory };
+
+    fn from(_error: AllocFailed<T>) -> VerifyError {
+        VerifyError::OutOfMemory
+    }
+}

@@ -1,0 +1,17 @@
+//! Tells which images run without a missing operand, an operand of a wrong kind or a charge past the budget.
+//!
+//! [`verify`] makes a [`Program`] of an image, or answers the first rule that the image breaks.
+#![tactic(auto)]
+
+mod charges;
+mod constants;
+mod fault;
+mod program;
+mod refusal;
+mod rules;
+mod targets;
+mod type_stack;
+mod walk;
+
+pub use fault::{VerifyError, VerifyFault, VerifyRule};
+pub use program::{Program, verify};

@@ -1,0 +1,114 @@
+ghost use Rattle.std.specs.Prelude.{◌≡◌, ◌↔◌, true, List, IsTrue, Err, IfOk, IfErr, MatchOption, MatchResult};
+ghost use Rattle.cel_check.specs.Outcomes.{Outcome, slots_fit};
+ghost use Rattle.cel_verify.specs.Sound.{EndsOnce, IsSound};
+ghost use Rattle.cel_verify.specs.Labelled.{HasLabelling};
+ghost use Rattle.cel_verify.specs.Paths.{IsGreatest, charge_at, path_cost as cost_of_path};
+ghost use Rattle.cel_verify.specs.Typed.{RunsWithin};
+ghost use Rattle.cel_verify.specs.Accepted.{IsCounted, IsWrongEnd, IsAccepted, IsRefused, fault};
+
+use crate::charges::path_cost;
+use crate::fault::{VerifyError, VerifyFault, VerifyRule};
+use crate::targets::first_misplaced;
+use crate::walk::walk;
+use cel_code::{Image, Instr};
+use std::alloc::Global;
+use std::marker::Model;
+
+const MAX_COUNT: usize = 65_536;
+
+const BUDGET: u64 = 10_000_000;
+
+/// An image that was accepted.
+#[derive(Drop)]
+pub struct Program {
+    image: Image,
+}
+
+impl Model for Program {
+    ghost use Rattle.std.specs.Coded.{codes};
+    ghost use Rattle.cel_value.specs.contracts.cel_type.CelType as cel_type;
+    ghost use Rattle.cel_value.specs.contracts.value.Value as cel_value;
+    ghost use Rattle.cel_code.specs.declared.image.Image.{Image};
+    ghost use Rattle.cel_verify.specs.Accepted.{IsAccepted};
+
+    ghost Value = { Image };
+
+    ghost coded = { Prim.hlevel (codes, cel_value.the_row.coded, cel_type.the_row.coded) };
+
+    ghost view = { λ p. p.image };
+
+    ghost invariant = { λ p. IsAccepted p.image };
+}
+
+impl Program {
+    pub fn image(&self) -> &Image
+        ensures image { result.now ≡ self.now }
+        ensures accepted { IsAccepted self.now }
+    {
+        &self.image
+    }
+}
+
+/// The program of an image, exactly where the image is accepted; else the first fault, and the image.
+///
+/// An accepted image is labelled by the types of its stack, its dearest route charges no more than the budget, and the
+/// machine is never stuck in it: each run ends within as many steps as there are instructions.
+pub fn verify(alloc: Global, image: Image) -> Result<Program, (VerifyError, Image)>
+    ensures accepted { MatchResult result (λ p. (p ≡ image) × IsAccepted image) (λ e. IsRefused image e.0) }
+    ensures back { IfErr result (λ e. e.1 ≡ image) }
+    ensures labelled { IsSound image ↔ HasLabelling image }
+    ensures dearest { IfOk result (λ p. IsGreatest (charge_at image) image.code 0 (cost_of_path image)) }
+    ensures runs { IfOk result (λ p. (slots : List Outcome) → slots_fit image.slots slots ≡ true → RunsWithin image slots) }
+{
+    match check(alloc, &image) {
+        Ok(()) => Ok(Program { image }),
+        Err(error) => Err((error, image)),
+    }
+}
+
+fn check(alloc: Global, image: &Image) -> Result<(), VerifyError>
+    ensures { MatchResult result (λ _. IsAccepted image.now) (λ e. IsRefused image.now e) }
+{
+    if !is_counted(image) {
+        return refuse(VerifyRule::TooDeep, 0);
+    }
+    if let Some(at) = wrong_end(image.code.as_slice()) {
+        return refuse(VerifyRule::BadTarget, at);
+    }
+    let charges = walk(alloc, image)?;
+    if let Some(at) = first_misplaced(image) {
+        return refuse(VerifyRule::BadTarget, at);
+    }
+    if path_cost(image, charges) > BUDGET {
+        return refuse(VerifyRule::OverBudget, image.code.len() - 1);
+    }
+    Ok(())
+}
+
+fn refuse(rule: VerifyRule, at: usize) -> Result<(), VerifyError>
+    ensures { result ≡ Err (VerifyError.Fault (fault rule at)) }
+{
+    Err(VerifyError::Fault(VerifyFault { rule, at }))
+}
+
+// Whether each list of the image is within the limit of counts.
+fn is_counted(image: &Image) -> bool
+    ensures { IsTrue result ↔ IsCounted image.now }
+{
+    image.code.len() <= MAX_COUNT
+        && image.constants.len() <= MAX_COUNT
+        && image.slots.len() <= MAX_COUNT
+        && image.targets.len() <= MAX_COUNT
+}
+
+// Where an END stands that is not the last instruction, or is missed.
+fn wrong_end(code: &[Instr]) -> Option<usize>
+    ensures { MatchOption result (EndsOnce code.now) (λ at. IsWrongEnd code.now at) }
+{
+    for at in 0..code.len() {
+        if matches!(code[at], Instr::End) {
+            return if at + 1 == code.len() { None } else { Some(at) };
+        }
+    }
+    Some(code.len().saturating_sub(1))
+}

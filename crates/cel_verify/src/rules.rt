@@ -1,0 +1,194 @@
+ghost use Rattle.std.specs.Prelude.{◌≡◌, List, Some, None, Ok, Err, MatchResult, MatchOption, slice_get};
+ghost use Rattle.cel_check.specs.Operators.{row, type_of_two};
+ghost use Rattle.cel_verify.specs.StackTypes.{constant_type};
+ghost use Rattle.cel_verify.specs.Sound.{Open, given as given_rule, row_rule, op_rule, constant_rule, enters as may_enter, entry_in, test_rule, join_rule, cond_rule, jump_rule, end_rule, typed_rule};
+ghost use Rattle.cel_verify.specs.Walked.{Refuses, rule_of_one, rule_of_two};
+
+use crate::constants::constant_type;
+use crate::fault::VerifyRule;
+use crate::refusal::Refusal;
+use crate::targets::entry;
+use crate::type_stack::TypeStack;
+use cel_check::{Operator, TypeRule, Untyped, is_truth};
+use cel_code::{Image, Instr};
+use cel_value::{CelType, assignable};
+use std::alloc::Global;
+
+/// The rule of one instruction at the types of the stack: the types that go on to the next one, if any do.
+pub fn typed(
+    alloc: Global,
+    image: &Image,
+    instr: Instr,
+    types: TypeStack,
+) -> Result<Option<TypeStack>, Refusal>
+    ensures { (opens : List Open) → MatchResult result (λ falls. typed_rule image.now instr opens types ≡ Ok falls) (λ r. Refuses r (typed_rule image.now instr opens types)) }
+{
+    match instr {
+        Instr::Const(number) => constant(image, number, types),
+        Instr::Op(code) => match Operator::from_code(code) {
+            Some(op) => operation(alloc, op, types),
+            None => Err(Refusal::Broken(VerifyRule::BadConstant)),
+        },
+        Instr::AndTest(to) | Instr::OrTest(to) => test(image, to, types),
+        Instr::And | Instr::Or => both_sides(types),
+        Instr::Cond(if_false, if_error) => condition(image, if_false, if_error, types),
+        Instr::Jump(to) => {
+            if !enters(image, to, &types) {
+                return Err(Refusal::Broken(VerifyRule::WrongKind));
+            }
+            Ok(None)
+        }
+        Instr::End => end(&image.result, types),
+    }
+}
+
+fn constant(
+    image: &Image,
+    number: usize,
+    mut types: TypeStack,
+) -> Result<Option<TypeStack>, Refusal>
+    ensures { MatchResult result (λ falls. constant_rule (constant_type (slice_get image.now.constants number)) types ≡ Ok falls) (λ r. Refuses r (constant_rule (constant_type (slice_get image.now.constants number)) types)) }
+{
+    let Some(cel_type) = constant_type(image, number) else {
+        return Err(Refusal::Broken(VerifyRule::BadConstant));
+    };
+    types.push(cel_type)?;
+    Ok(Some(types))
+}
+
+fn operation(alloc: Global, op: Operator, types: TypeStack) -> Result<Option<TypeStack>, Refusal>
+    ensures { MatchResult result (λ falls. row_rule (row op) types ≡ Ok falls) (λ r. Refuses r (row_rule (row op) types)) }
+{
+    match op {
+        Operator::Not => operation_on_one(op, types),
+        Operator::Negate => operation_on_one(op, types),
+        _ => operation_on_two(alloc, op, types),
+    }
+}
+
+fn operation_on_one(op: Operator, mut types: TypeStack) -> Result<Option<TypeStack>, Refusal>
+    ensures { MatchResult result (λ falls. rule_of_one op types ≡ Ok falls) (λ r. Refuses r (rule_of_one op types)) }
+{
+    let Some(s) = types.pop() else {
+        return Err(Refusal::Broken(VerifyRule::Underflow));
+    };
+    given(op.type_of_one(&s), types)
+}
+
+fn operation_on_two(
+    alloc: Global,
+    op: Operator,
+    mut types: TypeStack,
+) -> Result<Option<TypeStack>, Refusal>
+    ensures { MatchResult result (λ falls. rule_of_two op types ≡ Ok falls) (λ r. Refuses r (rule_of_two op types)) }
+{
+    let Some(t) = types.pop() else {
+        return Err(Refusal::Broken(VerifyRule::Underflow));
+    };
+    let Some(s) = types.pop() else {
+        return Err(Refusal::Broken(VerifyRule::Underflow));
+    };
+    given_of_two(alloc, op, &s, &t, types)
+}
+
+fn given_of_two(
+    alloc: Global,
+    op: Operator,
+    s: &CelType,
+    t: &CelType,
+    types: TypeStack,
+) -> Result<Option<TypeStack>, Refusal>
+    ensures { MatchResult result (λ falls. given_rule (type_of_two (row op) s.now t.now) types ≡ Ok falls) (λ r. Refuses r (given_rule (type_of_two (row op) s.now t.now) types)) }
+{
+    match op.type_of_two(alloc, s, t) {
+        Ok(answer) => given(Ok(answer), types),
+        Err(Untyped::Rule(rule)) => given(Err(rule), types),
+        Err(Untyped::OutOfMemory) => Err(Refusal::NoMemory),
+    }
+}
+
+fn given(
+    answer: Result<CelType, TypeRule>,
+    mut types: TypeStack,
+) -> Result<Option<TypeStack>, Refusal>
+    ensures { MatchResult result (λ falls. given_rule answer types ≡ Ok falls) (λ r. Refuses r (given_rule answer types)) }
+{
+    let Ok(answer) = answer else {
+        return Err(Refusal::Broken(VerifyRule::WrongKind));
+    };
+    types.push(answer)?;
+    Ok(Some(types))
+}
+
+// Whether these types may stand where a jump arrives.
+fn enters(image: &Image, to: usize, types: &TypeStack) -> bool
+    ensures { result ≡ may_enter (entry_in image.now.targets to) types.now }
+{
+    match entry(image, to) {
+        Some(entry) => types.fits(entry),
+        None => false,
+    }
+}
+
+fn test(image: &Image, to: usize, mut types: TypeStack) -> Result<Option<TypeStack>, Refusal>
+    ensures { MatchResult result (λ falls. test_rule (entry_in image.now.targets to) types ≡ Ok falls) (λ r. Refuses r (test_rule (entry_in image.now.targets to) types)) }
+{
+    let Some(t) = types.pop() else {
+        return Err(Refusal::Broken(VerifyRule::Underflow));
+    };
+    types.push(CelType::Bool)?;
+    if !(is_truth(&t) && enters(image, to, &types)) {
+        return Err(Refusal::Broken(VerifyRule::WrongKind));
+    }
+    types.pop();
+    types.push(t)?;
+    Ok(Some(types))
+}
+
+fn both_sides(mut types: TypeStack) -> Result<Option<TypeStack>, Refusal>
+    ensures { MatchResult result (λ falls. join_rule types ≡ Ok falls) (λ r. Refuses r (join_rule types)) }
+{
+    let Some(t) = types.pop() else {
+        return Err(Refusal::Broken(VerifyRule::Underflow));
+    };
+    let Some(s) = types.pop() else {
+        return Err(Refusal::Broken(VerifyRule::Underflow));
+    };
+    if !(is_truth(&s) && is_truth(&t)) {
+        return Err(Refusal::Broken(VerifyRule::WrongKind));
+    }
+    types.push(CelType::Bool)?;
+    Ok(Some(types))
+}
+
+fn condition(
+    image: &Image,
+    if_false: usize,
+    if_error: usize,
+    mut types: TypeStack,
+) -> Result<Option<TypeStack>, Refusal>
+    ensures { MatchResult result (λ falls. cond_rule (entry_in image.now.targets if_false) (entry_in image.now.targets if_error) types ≡ Ok falls) (λ r. Refuses r (cond_rule (entry_in image.now.targets if_false) (entry_in image.now.targets if_error) types)) }
+{
+    let Some(t) = types.pop() else {
+        return Err(Refusal::Broken(VerifyRule::Underflow));
+    };
+    let holds = is_truth(&t) && enters(image, if_false, &types);
+    types.push(CelType::Never)?;
+    if !(holds && enters(image, if_error, &types)) {
+        return Err(Refusal::Broken(VerifyRule::WrongKind));
+    }
+    types.pop();
+    Ok(Some(types))
+}
+
+fn end(result_type: &CelType, mut types: TypeStack) -> Result<Option<TypeStack>, Refusal>
+    ensures { MatchResult result (λ falls. end_rule result_type.now types ≡ Ok falls) (λ r. Refuses r (end_rule result_type.now types)) }
+{
+    let Some(t) = types.pop() else {
+        return Err(Refusal::Broken(VerifyRule::Underflow));
+    };
+    if types.pop().is_some() || !assignable(&t, result_type) {
+        return Err(Refusal::Broken(VerifyRule::WrongKind));
+    }
+    Ok(None)
+}

@@ -1,0 +1,95 @@
+ghost use Rattle.std.specs.Prelude.{◌≡◌, ◌+◌, ◌<◌, ◌^◌, Some, Ok, Err, false, IsTrue, MatchResult, length, slice_get};
+ghost use Rattle.cel_verify.specs.Sound.{rule_at, entered, shallow, entry_in, entry_or};
+ghost use Rattle.cel_verify.specs.Walked.{Refuses, Advances, AllHold, AreCharges, IsWalkFault, labelled};
+
+use crate::charges::charge;
+use crate::fault::{VerifyError, VerifyFault, VerifyRule};
+use crate::refusal::Refusal;
+use crate::rules::typed;
+use crate::targets::{entry, entry_is_wanted, has_name, has_targets};
+use crate::type_stack::TypeStack;
+use cel_code::{Image, Instr};
+use std::alloc::Global;
+
+const MAX_DEPTH: usize = 16_384;
+
+/// Each instruction in turn: the greatest charges, where each keeps its rule.
+pub fn walk(alloc: Global, image: &Image) -> Result<Vec<u64>, VerifyError>
+    ensures { MatchResult result (λ charges. AllHold image.now × AreCharges image.now (length image.now.code) charges.items) (λ e. IsWalkFault image.now e) }
+{
+    let _len = image.code.len();
+    let mut charges = Vec::new(alloc);
+    let mut label = Some(TypeStack::new(alloc));
+    let mut at = 0;
+    while let Some(instr) = image.code.get(at) {
+        charges.push(charge(*instr, &label))?;
+        match advance(alloc, image, *instr, at, label) {
+            Ok(there) => label = there,
+            Err(Refusal::Broken(rule)) => return Err(VerifyError::Fault(VerifyFault { rule, at })),
+            Err(Refusal::NoMemory) => return Err(VerifyError::OutOfMemory),
+        }
+        at += 1;
+    }
+    Ok(charges)
+}
+
+// The rule of one instruction: the types of the stack at the next one, if it is reached.
+fn advance(
+    alloc: Global,
+    image: &Image,
+    instr: Instr,
+    at: usize,
+    label: Option<TypeStack>,
+) -> Result<Option<TypeStack>, Refusal>
+    requires there { slice_get image.now.code at ≡ Some instr }
+    requires room { at + 1 < 2 ^ 64 }
+    ensures { MatchResult result (λ there. Advances image.now at label there) (λ r. Refuses r (rule_at image.now at (slice_get image.now.code at) (labelled label))) }
+{
+    if !has_name(image, instr) {
+        return Err(Refusal::Broken(VerifyRule::BadConstant));
+    }
+    if !(entry_is_wanted(image, at) && has_targets(image, at, instr)) {
+        return Err(Refusal::Broken(VerifyRule::BadTarget));
+    }
+    let Some(types) = label else {
+        return Err(Refusal::Broken(VerifyRule::BadTarget));
+    };
+    let falls = typed(alloc, image, instr, types)?;
+    go_on(alloc, image, at + 1, falls)
+}
+
+// The types of the stack at an instruction, where these go on to it.
+fn go_on(
+    alloc: Global,
+    image: &Image,
+    to: usize,
+    falls: Option<TypeStack>,
+) -> Result<Option<TypeStack>, Refusal>
+    ensures { MatchResult result (λ there. (shallow (entered (entry_in image.now.targets to) (Ok falls)) ≡ Ok falls) × (entry_or (entry_in image.now.targets to) falls ≡ there)) (λ r. Refuses r (shallow (entered (entry_in image.now.targets to) (Ok falls)))) }
+{
+    let Some(entry) = entry(image, to) else {
+        if is_too_deep(&falls) {
+            return Err(Refusal::Broken(VerifyRule::TooDeep));
+        }
+        return Ok(falls);
+    };
+    if let Some(types) = &falls
+        && !types.fits(entry)
+    {
+        return Err(Refusal::Broken(VerifyRule::WrongKind));
+    }
+    if is_too_deep(&falls) {
+        return Err(Refusal::Broken(VerifyRule::TooDeep));
+    }
+    Ok(Some(TypeStack::from_slice(alloc, entry)?))
+}
+
+fn is_too_deep(falls: &Option<TypeStack>) -> bool
+    ensures deep { IsTrue result → shallow (Ok falls.now) ≡ Err VerifyRule.TooDeep }
+    ensures shallow { result ≡ false → shallow (Ok falls.now) ≡ Ok falls.now }
+{
+    match falls {
+        Some(types) => types.len() > MAX_DEPTH,
+        None => false,
+    }
+}
