@@ -16,6 +16,7 @@ pub enum Asked {
     Order,
     Types,
     Values,
+    Unsigned,
     Schema,
     /// A document at this schema, with the name of its root.
     Document(&'static str, &'static str),
@@ -39,6 +40,7 @@ fn answer(alloc: Global, asked: Asked, row: &str) -> Result<String, AllocError> 
         Asked::Order => containers::order(alloc, row),
         Asked::Types => values::types(alloc, row),
         Asked::Values => values::values(alloc, row),
+        Asked::Unsigned => values::unsigned(alloc, row),
         Asked::Schema => schemas::schema(alloc, row),
         Asked::Document(schema, root) => schemas::document(alloc, schema, root, row),
         Asked::Tokens => tokens::shown(alloc, row),

@@ -95,7 +95,7 @@ fn put(
     let required = !name.ends_with('?');
     let key = Text::from_str(alloc, name.strip_suffix('?').unwrap_or(name))?;
     if fields.get(key.as_str()).is_none() {
-        fields.insert(key, Field { required, cel_type })?;
+        return fields.insert(key, Field { required, cel_type });
     }
     Ok(())
 }

@@ -40,9 +40,8 @@ fn two_types(alloc: Global, left: &CelType, right: &CelType) -> Result<String, A
     format!(in alloc; "{}, {may}assignable", text.as_str())
 }
 
-fn listed_types(alloc: Global, row: &[Json]) -> Result<String, AllocError> {
-    let types = types_of(alloc, row)?;
-    let copies = copy_types(alloc, types.as_slice())?;
+fn copied_types(alloc: Global, types: &[CelType]) -> Result<String, AllocError> {
+    let copies = copy_types(alloc, types)?;
     match copies.as_slice() {
         [cel_type] => one_type(alloc, cel_type),
         [left, right] => two_types(alloc, left, right),
@@ -50,8 +49,13 @@ fn listed_types(alloc: Global, row: &[Json]) -> Result<String, AllocError> {
     }
 }
 
-/// Of one type its copy, its greatest weight and its greatest length; of two their join, and whether what has the first may stand where the
-/// second is asked.
+fn listed_types(alloc: Global, row: &[Json]) -> Result<String, AllocError> {
+    let types = types_of(alloc, row)?;
+    copied_types(alloc, types.as_slice())
+}
+
+/// Of one type its copy, its greatest weight and its greatest length; of two their join, and whether what has the first
+/// may stand where the second is asked.
 pub fn types(alloc: Global, row: &str) -> Result<String, AllocError> {
     let row = json(alloc, row)?;
     match &row {
@@ -79,14 +83,19 @@ fn copied(alloc: Global, value: &Value) -> Result<String, AllocError> {
     }
 }
 
-fn copied_and_fitted(alloc: Global, value: &Value, other: &CelType) -> Result<String, AllocError> {
+fn at_type(alloc: Global, value: &Value, cel_type: &CelType) -> Result<String, AllocError> {
     let text = copied(alloc, value)?;
-    let may = if fits(value, other) { "" } else { "not " };
+    let may = if fits(value, cel_type) { "" } else { "not " };
     let (own, long) = (weight(value), length(value));
     format!(in alloc;
         "{}, weight {own}, length {long}, {may}fitting",
         text.as_str()
     )
+}
+
+fn at_other(alloc: Global, value: &Value, other: &Json) -> Result<String, AllocError> {
+    let other = type_of(alloc, other)?;
+    at_type(alloc, value, &other)
 }
 
 fn one_value(
@@ -96,8 +105,18 @@ fn one_value(
     other: &Json,
 ) -> Result<String, AllocError> {
     let value = value_at(alloc, cel_type, document)?;
-    let other = type_of(alloc, other)?;
-    copied_and_fitted(alloc, &value, &other)
+    at_other(alloc, &value, other)
+}
+
+fn beside(
+    alloc: Global,
+    left: &Value,
+    right_type: &Json,
+    right: &Json,
+) -> Result<String, AllocError> {
+    let right = value_at(alloc, right_type, right)?;
+    let may = if equal(left, &right) { "" } else { "not " };
+    format!(in alloc; "{may}equal")
 }
 
 fn two_values(
@@ -108,15 +127,7 @@ fn two_values(
     right: &Json,
 ) -> Result<String, AllocError> {
     let left = value_at(alloc, left_type, left)?;
-    let right = value_at(alloc, right_type, right)?;
-    String::from_str(
-        alloc,
-        if equal(&left, &right) {
-            "equal"
-        } else {
-            "not equal"
-        },
-    )
+    beside(alloc, &left, right_type, right)
 }
 
 fn listed_values(alloc: Global, row: &[Json]) -> Result<String, AllocError> {
@@ -455,14 +466,21 @@ fn what_is_equal_has_one_kind_and_content(rt: HostRuntime) -> Result<(), Fail> {
     hold(&rt, Asked::Values, &EQUALITIES)
 }
 
+/// The same of the unsigned value 7, which no document has.
+pub fn unsigned(alloc: Global, row: &str) -> Result<String, AllocError> {
+    let cel_type = json(alloc, row)?;
+    at_other(alloc, &Value::Uint(7), &cel_type)
+}
+
+const UNSIGNED: [(&str, &str); 2] = [
+    (r#""uint""#, "7u, weight 1, length 1, fitting"),
+    (r#""int""#, "7u, weight 1, length 1, not fitting"),
+];
+
 #[test]
 fn an_unsigned_value_is_no_int(rt: HostRuntime) -> Result<(), Fail> {
     assert!(rt; !equal(&Value::Int(7), &Value::Uint(7)));
-    let got = copied_and_fitted(rt.alloc(), &Value::Uint(7), &CelType::Int)?;
-    assert_eq!(rt; got.as_str(), "7u, weight 1, length 1, not fitting");
-    let got = copied_and_fitted(rt.alloc(), &Value::Uint(7), &CelType::Uint)?;
-    assert_eq!(rt; got.as_str(), "7u, weight 1, length 1, fitting");
-    Ok(())
+    hold(&rt, Asked::Unsigned, &UNSIGNED)
 }
 
 #[test]
