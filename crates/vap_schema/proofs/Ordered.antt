@@ -7,6 +7,7 @@ use Rattle.std.specs.Map.{keys_of}
 use Rattle.std.specs.Ordering.{nat_cmp}
 use Rattle.std.specs.declared.cmp.Ordering.TheVariants.{Less}
 use Rattle.std.specs.Cmp.Lexicographic.{slice_cmp}
+use Rattle.std.proofs.lemmas.Map.Keys.{sorted_tail}
 use Rattle.plain.specs.declared.text.Keyed.{Keyed}
 use Rattle.plain.specs.Keys.{IsInKeyOrder, keys_in, value_under}
 use Rattle.plain.proofs.Order.{Below}
@@ -69,3 +70,7 @@ pub names_in_order : (es : List Member) → IsStrictlySortedBy string_cmp (keys_
 unfolding IsStrictlySortedBy
 names_in_order [] s = tt
 names_in_order (e ∷ es) s = (names_below e.0 es s.0, names_in_order es s.1)
+
+-- behind the first member, too
+pub names_behind : (k : List ℕ) (ks : List (List ℕ)) → IsInOrder (k ∷ ks) → IsInOrder ks
+names_behind k ks s = sorted_tail (slice_cmp nat_cmp) k ks s

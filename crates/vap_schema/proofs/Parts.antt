@@ -6,7 +6,7 @@ use Rattle.serde_json.specs.Data.{Data}
 use Rattle.cel_value.specs.declared.value.Value.{Value}
 use Rattle.cel_value.specs.declared.cel_type.Field.{Field}
 use Rattle.vap_schema.specs.Paths.{at_field}
-use Rattle.vap_schema.specs.Seen.{◌>>=◌, Answers, Reader, Reading, is_absent, seen_entry, seen_member}
+use Rattle.vap_schema.specs.Seen.{◌>>=◌, Answers, Tells, Reader, Reading, is_absent, seen_entry, seen_member}
 use Rattle.vap_schema.specs.declared.fit_fault.FitFault.{FitFault}
 use Rattle.vap_schema.specs.declared.fit_fault.FitError.{FitError}
 use Rattle.vap_schema.specs.declared.fit_fault.FitError.TheVariants.{Fault, OutOfMemory}
@@ -18,6 +18,11 @@ same_ok r a b g h = cc
 pub stops : {A B : Type 0} (part : Result A FitFault) (next : A → Result B FitFault) (whole : Result B FitFault) (e : FitError) → whole ≡ (part >>= next) → Answers part (Err e) → Answers whole (Err e)
 stops part next whole (Fault f) h a = h ∙ ap (λ r. r >>= next) a
 stops part next whole OutOfMemory h a = tt
+
+-- the error that tells a fault answers what is that fault
+pub told : {A : Type 0} (want : Result A FitFault) (f : FitFault) (e : FitError) → want ≡ Err f → Tells f e → Answers want (Err e)
+told want f (Fault g) h t = h ∙ ap (λ (x : FitFault). Err x) t
+told want f OutOfMemory h t = tt
 
 -- behind a limit that is kept stands what is read
 pub goes_on : {A : Type 0} (limit : Result (Unit {0}) FitFault) (u : Unit {0}) (part : Result A FitFault) (answer : Result A FitError) → limit ≡ Ok u → Answers part answer → Answers (limit >>= (λ _. part)) answer

@@ -1,4 +1,5 @@
 pub mod FixedTypes
+pub mod InStep
 pub mod Names
 pub mod Paths
 pub mod Schemas

@@ -4,6 +4,10 @@ use Rattle.std.specs.Borrow.{Bor}
 use Rattle.std.specs.BTreeMap.{BTreeMap}
 use Rattle.std.specs.declared.alloc.Global.{Global}
 use Rattle.std.specs.Str.{bytes_eq}
+use Rattle.std.specs.List.{list_any}
+use Rattle.std.specs.List.Sorted.{IsSorted}
+use Rattle.std.specs.Ordering.{nat_cmp}
+use Rattle.std.specs.Cmp.Lexicographic.{slice_cmp}
 use Rattle.plain.specs.declared.text.Keyed.{Keyed}
 use Rattle.serde_json.specs.Data as json
 use Rattle.serde_json.specs.Data.{Data, Items, Members}
@@ -175,23 +179,23 @@ list_type inner d = do
   Ok (type.List max plain item)
 
 -- a field, with the type that its schema gives
-abbrev pub field_of : Inner → Items → List ℕ → Data → Result (Keyed (Field CelType)) SchemaFault
+abbrev pub field_of : Inner → Bool → List ℕ → Data → Result (Keyed (Field CelType)) SchemaFault
 field_of inner required k d = do
   t ← inner d
-  Ok (record { key = k; value = record { required = is_among k required; cel_type = t } })
+  Ok (record { key = k; value = record { required = required; cel_type = t } })
 
--- the fields of an object, in the order of their names
-abbrev pub fields_of : Inner → Items → Members → Result (List (Keyed (Field CelType))) SchemaFault
-fields_of inner required json.no_members = Ok []
-fields_of inner required (json.member k d ms) = do
-  f ← field_of inner required k d
-  more ← fields_of inner required ms
+-- the fields of an object, in the order of their names, by which names are required
+abbrev pub fields_of : Inner → (List ℕ → Bool) → Members → Result (List (Keyed (Field CelType))) SchemaFault
+fields_of inner is_required json.no_members = Ok []
+fields_of inner is_required (json.member k d ms) = do
+  f ← field_of inner (is_required k) k d
+  more ← fields_of inner is_required ms
   Ok (f ∷ more)
 
 -- an object of the fields that its properties name
 abbrev pub record_type : Inner → Items → Members → Result CelType SchemaFault
 record_type inner required properties = do
-  fields ← fields_of inner required properties
+  fields ← fields_of inner (λ k. is_among k required) properties
   Ok (type.Object fields)
 
 -- what stands under any name: anything, or what a schema gives
@@ -265,6 +269,18 @@ abbrev pub object_type_of : Data → Result CelType SchemaFault
 object_type_of d = if is_object d then (do
   t ← own_type (schema_type 99) d
   Ok (with_fixed_fields t)) else Err BadKeyword
+
+-- whether a name is one of these texts
+abbrev pub is_named : List ℕ → List (Bor (List ℕ)) → Bool
+is_named name texts = list_any (λ t. bytes_eq t.now name) texts
+
+-- these texts stand in their order
+abbrev pub IsInTextOrder : List (Bor (List ℕ)) → Type 0
+IsInTextOrder texts = IsSorted (λ s t. slice_cmp nat_cmp s.now t.now) texts
+
+-- these texts are the names
+abbrev pub AreTexts : List (Bor (List ℕ)) → Items → Type 0
+AreTexts texts names = (k : List ℕ) → is_named k texts ≡ is_among k names
 
 -- the answer has these names, or this fault
 abbrev pub NamesAre : Result Items SchemaFault → Result (Bor (List Json)) SchemaFault → Type 0

@@ -1,12 +1,12 @@
 //! The keywords of one schema (OpenAPI v3, "Schema Object"; Kubernetes, "Specifying a structural schema").
 
-ghost use Rattle.std.specs.Prelude.{◌≡◌};
+ghost use Rattle.std.specs.Prelude.{◌≡◌, IfOk};
 ghost use Rattle.serde_json.specs.View.{view, items_view};
-ghost use Rattle.serde_json.specs.Find.{as_str};
-ghost use Rattle.vap_schema.specs.Schemas.{flag, limit, absent, type_word, stated_word, is_plain, all_texts, required_names, is_text, is_among, properties_of, entry_of, NamesAre, PropertiesAre, EntryIs};
+ghost use Rattle.vap_schema.specs.Schemas.{flag, limit, absent, type_word, stated_word, is_plain, all_texts, required_names, properties_of, entry_of, is_named, IsInTextOrder, AreTexts, NamesAre, PropertiesAre, EntryIs};
 
 use crate::schema_fault::SchemaFault;
 use serde_json::{Map, Value as Json};
+use std::alloc::{AllocError, Global};
 
 /// The words of `type`.
 #[derive(Clone, Copy, Debug, PartialEq, Eq)]
@@ -138,25 +138,34 @@ fn all_texts(names: &[Json]) -> bool
     true
 }
 
-/// Whether a name is one of these.
-pub fn is_among(names: &[Json], name: &str) -> bool
-    ensures { result ≡ is_among name.now (items_view names.now) }
+/// The names in the order of their texts, so that one is found without a look at all.
+pub fn in_text_order(alloc: Global, names: &[Json]) -> Result<Vec<&str>, AllocError>
+    ensures same { IfOk result (λ texts. AreTexts texts.items (items_view names.now)) }
+    ensures ordered { IfOk result (λ texts. IsInTextOrder texts.items) }
 {
-    for other in names {
-        if is_text(other, name) {
-            return true;
-        }
-    }
-    false
+    let mut texts = texts_of(alloc, names)?;
+    texts.sort_unstable();
+    Ok(texts)
 }
 
-fn is_text(value: &Json, text: &str) -> bool
-    ensures { result ≡ is_text text.now (as_str (view value.now)) }
+fn texts_of(alloc: Global, names: &[Json]) -> Result<Vec<&str>, AllocError>
+    ensures { IfOk result (λ texts. AreTexts texts.items (items_view names.now)) }
 {
-    match value.as_str() {
-        Some(found) => found == text,
-        None => false,
+    let mut texts = Vec::with_capacity(alloc, names.len())?;
+    for name in names {
+        if let Some(text) = name.as_str() {
+            texts.push(text)?;
+        }
     }
+    Ok(texts)
+}
+
+/// Whether a name is one of these, which stand in order.
+pub fn is_named(texts: &[&str], name: &str) -> bool
+    requires { IsInTextOrder texts.now }
+    ensures { result ≡ is_named name.now texts.now }
+{
+    texts.binary_search(&name).is_ok()
 }
 
 /// The properties, if they are named.

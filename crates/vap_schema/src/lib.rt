@@ -8,6 +8,7 @@
 mod fit_fault;
 mod fitting;
 mod fixed_types;
+mod in_step;
 mod keywords;
 mod path;
 mod schema;

@@ -2,12 +2,12 @@
 
 ghost use Rattle.std.specs.Prelude.{◌≡◌, IfOk};
 ghost use Rattle.serde_json.specs.View.{view, items_view, members_view};
-ghost use Rattle.vap_schema.specs.Schemas.{Answers, schema_type, nested_type, own_type, untyped, list_type, object_type, record_type, bare_type, map_type, entry_type, fields_of, field_of, object_type_of};
+ghost use Rattle.vap_schema.specs.Schemas.{Answers, schema_type, nested_type, own_type, untyped, list_type, object_type, record_type, bare_type, map_type, entry_type, fields_of, field_of, object_type_of, is_named, IsInTextOrder};
 
 use crate::fixed_types::with_fixed_fields;
 use crate::keywords::{
-    TypeWord, check_absent, entry_of, flag, is_among, is_plain, limit, properties_of,
-    required_names, stated_word,
+    TypeWord, check_absent, entry_of, flag, in_text_order, is_named, is_plain, limit,
+    properties_of, required_names, stated_word,
 };
 use crate::schema_fault::{SchemaError, SchemaFault};
 use cel_value::{CelType, Field};
@@ -198,7 +198,8 @@ fn read_record(
 ) -> Result<CelType, SchemaError>
     ensures { Answers (record_type (schema_type levels) (items_view required.now) (members_view properties.now.entries)) result }
 {
-    let fields = read_fields(levels, alloc, required, properties)?;
+    let required = in_text_order(alloc, required)?;
+    let fields = read_fields(levels, alloc, required.as_slice(), properties)?;
     Ok(CelType::Object {
         fields: Shared::new(alloc, fields)?,
     })
@@ -208,14 +209,17 @@ fn read_record(
 fn read_fields(
     levels: u32,
     alloc: Global,
-    required: &[Json],
+    required: &[&str],
     properties: &Map<String, Json>,
 ) -> Result<TextMap<Field<CelType>>, SchemaError>
-    ensures { Answers (fields_of (schema_type levels) (items_view required.now) (members_view properties.now.entries)) result }
+    requires { IsInTextOrder required.now }
+    ensures { Answers (fields_of (schema_type levels) (λ k. is_named k required.now) (members_view properties.now.entries)) result }
 {
     let mut fields = Vec::with_capacity(alloc, properties.len())?;
     for (name, schema) in properties.iter() {
-        fields.push(read_field(levels, alloc, required, name.as_str(), schema)?)?;
+        let name = name.as_str();
+        let is_required = is_named(required, name);
+        fields.push(read_field(levels, alloc, is_required, name, schema)?)?;
     }
     Ok(TextMap::from_vec(fields))
 }
@@ -224,14 +228,13 @@ fn read_fields(
 fn read_field(
     levels: u32,
     alloc: Global,
-    required: &[Json],
+    required: bool,
     name: &str,
     schema: &Json,
 ) -> Result<Keyed<Field<CelType>>, SchemaError>
-    ensures { Answers (field_of (schema_type levels) (items_view required.now) name.now (view schema.now)) result }
+    ensures { Answers (field_of (schema_type levels) required name.now (view schema.now)) result }
 {
     let key = Text::from_str(alloc, name)?;
-    let required = is_among(required, name);
     let cel_type = read_schema(levels, alloc, schema)?;
     Ok(Keyed {
         key,

@@ -1,20 +1,23 @@
-use Rattle.std.proofs.Common.{◌≡◌, ◌&&◌, nat_le, [], ◌∷◌, ◌++◌, Some, Ok, Err, refl, ap, sym, ◌∙◌, subst, string_bytes, rules}
+use Rattle.std.proofs.Common.{◌≡◌, ◌&&◌, nat_le, List, [], drop, ◌∷◌, ◌++◌, Some, Ok, Err, refl, ap, sym, ◌∙◌, subst, string_bytes, arith, rules}
 use Rattle.std.proofs.lemmas.List.Elements.{All-nil, All-push, All-same}
 use Rattle.std.proofs.lemmas.Result.{err_from_is_err_and}
 use Rattle.plain.specs.declared.text.Keyed.{Keyed}
-use Rattle.plain.specs.Keys.{value_under}
 use Rattle.serde_json.specs.View.{view, items_view, members_view}
 use Rattle.serde_json.proofs.Views.{items_len-items_view, members_len-members_view}
 use Rattle.cel_value.specs.declared.value.Value.{Value}
+use Rattle.cel_value.specs.declared.cel_type.Field.{Field}
+use Rattle.cel_value.specs.declared.cel_type.CelType.{CelType}
+use Rattle.vap_schema.specs.InStep.{first_under}
 use Rattle.cel_value.specs.Fits.{fits, HasItsField}
 use Rattle.cel_value.specs.Value.{code_points}
 use Rattle.vap_schema.specs.Paths.{path_text}
 use Rattle.vap_schema.specs.Seen.{Answers, seen_entry, seen_entries, seen_member, seen_members, reader_of, readers_of}
 use Rattle.vap_schema.proofs.Rest.{behind, behind-none, behind-all}
-use Rattle.vap_schema.proofs.Turns.{path_text-Item, all_push, items_stop, items_go, items_end, entries_stop, entries_go, members_stop, members_go}
+use Rattle.vap_schema.proofs.Turns.{path_text-Item, all_push, items_stop, items_go, items_end, entries_stop, entries_go}
 use Rattle.vap_schema.proofs.Lengths.{list_over, list_read, list_fits, map_over, map_read, map_fits}
-use Rattle.vap_schema.proofs.Ordered.{entries_in_order, members_in_order, names_in_order}
+use Rattle.vap_schema.proofs.Ordered.{IsInOrder, names_in, entries_in_order, members_in_order, names_in_order, names_behind}
 use Rattle.vap_schema.proofs.Fitted.{object_fits, has_field}
+use Rattle.vap_schema.proofs.InStepMembers.{step_stops, step_goes, step_passes, named_here, field_here}
 use Rattle.vap_schema.proofs.fitting.+fit_at.Goals as goal
 
 -- ---- lists
@@ -121,7 +124,7 @@ fit_entries-returns-clause-exact t c =
 pub fit_object-returns-clause-fits : goal.fit_object-returns-clause-fits
 fit_object-returns-clause-fits t c =
     object_fits c.args.fields.now (path_text c.args.path.now) c.in_ok-entries.entries c.in_ok-check_all_there.field-0 c.in_ok-entries.ensures.ordered c.as_slice.ensures.ordered c.in_ok-entries.ensures.fits
-    (rw c.as_slice.ensures.entries at c.in_ok-check_all_there.ensures)
+    (rw (c.as_slice.ensures.entries, c.as_slice-2.ensures.entries) at c.in_ok-check_all_there.ensures)
 
 pub fit_members-loop-name-init : goal.fit_members-loop-name-init
 fit_members-loop-name-init t c =
@@ -129,6 +132,8 @@ fit_members-loop-name-init t c =
     let none = c.new-entries.ensures.items in record {
       can_next = tt;
       is_finite = tt;
+      within = omega arith;
+      ordered = rw all (names_in_order c.args.members.now.entries c.iter-name-items.ensures.ordered);
       exact = rw (all, none) (sym (behind-none _));
       fits = All-same (HasItsField c.args.fields.now) c.new-entries.result.items [] none (All-nil (HasItsField c.args.fields.now));
     }
@@ -137,40 +142,72 @@ pub fit_members-returns-in_err-entry-clause-exact : goal.fit_members-returns-in_
 fit_members-returns-in_err-entry-clause-exact t c =
     let p = err_from_is_err_and c.from_residual.result c.from_residual.ensures.1 in
     let l = c.loop-name in
-    let here = ap (λ es. behind l.entries.items (seen_members (readers_of c.args.fields.now) (path_text c.args.path.now) (members_view es))) c.in-Some.ensures.steps in
-    rw (p.1, p.2) (members_stop (readers_of c.args.fields.now) (path_text c.args.path.now) (string_bytes c.in-Some.name.now) (view c.in-Some.member.now) (members_view c.next.new.self) l.entries.items _ _ (l.invariant.exact ∙ here)
-    (subst (λ k. Answers (seen_member (value_under k (readers_of c.args.fields.now)) (path_text c.args.path.now) k (view c.in-Some.member.now)) (Err c.in_err-entry.field-0.0)) c.as_str.ensures.value c.in_err-entry.ensures.exact))
+    let here = ap (λ es. behind l.entries.items (seen_members (readers_of (drop l.place c.args.fields.now)) (path_text c.args.path.now) (members_view es))) c.in-Some.ensures.steps in
+    rw (p.1, p.2) (step_stops c.args.fields.now c.as_slice-all.result.now (path_text c.args.path.now) c.as_str-name.result.now (string_bytes c.in-Some.name.now) (view c.in-Some.member.now) (members_view c.next.new.self) l.place
+    c.place_from-place.result c.as_slice-all.ensures.ordered c.as_str-name.ensures.value c.as_slice-all.ensures.entries c.place_from-place.ensures.value l.entries.items _ (l.invariant.exact ∙ here) _ c.in_err-entry.ensures.exact)
 
 pub fit_members-loop-name-preserved-in-Continue-branch-3 : goal.fit_members-loop-name-preserved-in-Continue-branch-3
 fit_members-loop-name-preserved-in-Continue-branch-3 t c =
     let l = c.loop-name in
-    let here = ap (λ es. behind l.entries.items (seen_members (readers_of c.args.fields.now) (path_text c.args.path.now) (members_view es))) c.in-Some.ensures.steps in
-    let known = rw c.as_str.ensures.value at c.in_ok-entry.ensures.exact in record {
+    let fields = c.args.fields.now in
+    let here = ap (λ es. behind l.entries.items (seen_members (readers_of (drop l.place fields)) (path_text c.args.path.now) (members_view es))) c.in-Some.ensures.steps in
+    let ordered = subst (λ es. IsInOrder (names_in (members_view es))) c.in-Some.ensures.steps l.invariant.ordered in record {
       can_next = tt;
       is_finite = tt;
-      exact = rw c.in_ok-push.ensures.items (members_go (readers_of c.args.fields.now) (path_text c.args.path.now) (string_bytes c.in-Some.name.now) (view c.in-Some.member.now) (members_view c.next.new.self) (Some c.in-Some-2.entry)
-          l.entries.items _ (l.invariant.exact ∙ here) (known ∙ ap Ok c.in-Some-2.is));
-      fits = All-same (HasItsField c.args.fields.now) c.push.new.self.items (l.entries.items ++ c.in-Some-2.entry ∷ []) c.in_ok-push.ensures.items
-          (All-push (HasItsField c.args.fields.now) l.entries.items c.in-Some-2.entry l.invariant.fits (rw c.in-Some-2.is at c.in_ok-entry.ensures.fits));
+      within = rw (← c.as_slice-all.ensures.entries) c.place_from-place.ensures.within;
+      ordered = names_behind (string_bytes c.in-Some.name.now) (names_in (members_view c.next.new.self)) ordered;
+      exact = rw c.in_ok-push.ensures.items (step_goes fields c.as_slice-all.result.now (path_text c.args.path.now) c.as_str-name.result.now (string_bytes c.in-Some.name.now) (view c.in-Some.member.now) (members_view c.next.new.self) l.place
+          c.place_from-place.result c.as_slice-all.ensures.ordered c.as_str-name.ensures.value c.as_slice-all.ensures.entries c.place_from-place.ensures.value l.entries.items _ (l.invariant.exact ∙ here)
+          (Some c.in-Some-2.entry) ordered (c.in_ok-entry.ensures.exact ∙ ap Ok c.in-Some-2.is));
+      fits = All-same (HasItsField fields) c.push.new.self.items (l.entries.items ++ c.in-Some-2.entry ∷ []) c.in_ok-push.ensures.items
+          (All-push (HasItsField fields) l.entries.items c.in-Some-2.entry l.invariant.fits (rw c.in-Some-2.is at c.in_ok-entry.ensures.fits));
+    }
+
+pub fit_members-loop-name-preserved : goal.fit_members-loop-name-preserved
+fit_members-loop-name-preserved t c =
+    let l = c.loop-name in
+    let fields = c.args.fields.now in
+    let here = ap (λ es. behind l.entries.items (seen_members (readers_of (drop l.place fields)) (path_text c.args.path.now) (members_view es))) c.in-Some.ensures.steps in
+    let ordered = subst (λ es. IsInOrder (names_in (members_view es))) c.in-Some.ensures.steps l.invariant.ordered in record {
+      can_next = tt;
+      is_finite = tt;
+      within = rw (← c.as_slice-all.ensures.entries) c.place_from-place.ensures.within;
+      ordered = names_behind (string_bytes c.in-Some.name.now) (names_in (members_view c.next.new.self)) ordered;
+      exact = step_passes fields c.as_slice-all.result.now (path_text c.args.path.now) c.as_str-name.result.now (string_bytes c.in-Some.name.now) (view c.in-Some.member.now) (members_view c.next.new.self) l.place
+          c.place_from-place.result c.as_slice-all.ensures.ordered c.as_str-name.ensures.value c.as_slice-all.ensures.entries c.place_from-place.ensures.value l.entries.items _ (l.invariant.exact ∙ here)
+          ordered (c.in_ok-entry.ensures.exact ∙ ap Ok c.in_default.is);
+      fits = l.invariant.fits;
     }
 
 pub fit_members-from_vec-requires : goal.fit_members-from_vec-requires
 fit_members-from_vec-requires t c =
     let l = c.loop-name in
-    let ended = ap (λ es. seen_members (readers_of c.args.fields.now) (path_text c.args.path.now) (members_view es)) c.in-None.ensures.steps.0 in
+    let ended = ap (λ es. seen_members (readers_of (drop l.place c.args.fields.now)) (path_text c.args.path.now) (members_view es)) c.in-None.ensures.steps.0 in
     members_in_order (readers_of c.args.fields.now) (path_text c.args.path.now) (members_view c.args.members.now.entries) l.entries.items (names_in_order c.args.members.now.entries c.iter-name-items.ensures.ordered)
     (l.invariant.exact ∙ behind-all l.entries.items _ ended)
 
 pub fit_members-returns-clause-exact : goal.fit_members-returns-clause-exact
 fit_members-returns-clause-exact t c =
     let l = c.loop-name in
-    let ended = ap (λ es. seen_members (readers_of c.args.fields.now) (path_text c.args.path.now) (members_view es)) c.in-None.ensures.steps.0 in
+    let ended = ap (λ es. seen_members (readers_of (drop l.place c.args.fields.now)) (path_text c.args.path.now) (members_view es)) c.in-None.ensures.steps.0 in
     l.invariant.exact ∙ behind-all l.entries.items _ ended ∙ ap Ok (sym c.from_vec.ensures)
 
 pub fit_members-returns-clause-fits : goal.fit_members-returns-clause-fits
 fit_members-returns-clause-fits t c = All-same (HasItsField c.args.fields.now) c.from_vec.result c.loop-name.entries.items c.from_vec.ensures c.loop-name.invariant.fits
 
-pub fit_member-returns-then-eq-clause-fits : goal.fit_member-returns-then-eq-clause-fits
-fit_member-returns-then-eq-clause-fits t c =
-    let named : c.field-item.result.key ≡ c.args.name.now = search rules in
-    rw (← c.as_slice-field-items.ensures.entries) (has_field c.as_slice-field-items.result.now c.loop-field.field-index c.field-item.result c.args.name.now c.fit_field.result c.loop-field-test.true c.field-item.is named c.fit_field.ensures.fits)
+pub fit_member-returns-clause-exact : goal.fit_member-returns-clause-exact
+fit_member-returns-clause-exact t c =
+    let all = c.as_slice-fields.result.now in
+    let f = c.index-fields-place.result in
+    let known = sym c.is_at.ensures.value ∙ c.if-not-is_at.false in
+    let found = field_here all c.args.place c.args.name.now f (c.is_at.ensures.within c.if-not-is_at.false) c.index-fields-place.is known in
+    let same = ap (λ (l : List (Keyed (Field CelType))). first_under c.args.name.now (readers_of (drop c.args.place l))) c.as_slice-fields.ensures.entries in
+    subst (λ o. Answers (seen_member o (path_text c.args.path.now) c.args.name.now (view c.args.member.now)) c.fit_field.result) (sym found ∙ same) c.fit_field.ensures.exact
+
+pub fit_member-returns-clause-fits : goal.fit_member-returns-clause-fits
+fit_member-returns-clause-fits t c =
+    let all = c.as_slice-fields.result.now in
+    let f = c.index-fields-place.result in
+    let lt = c.is_at.ensures.within c.if-not-is_at.false in
+    let named = named_here all c.args.place c.args.name.now f lt c.index-fields-place.is (sym c.is_at.ensures.value ∙ c.if-not-is_at.false) in
+    rw (← c.as_slice-fields.ensures.entries) (has_field all c.args.place f c.args.name.now c.fit_field.result lt c.index-fields-place.is named c.fit_field.ensures.fits)

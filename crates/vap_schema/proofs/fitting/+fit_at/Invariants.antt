@@ -1,13 +1,13 @@
-use Rattle.std.proofs.Common.{◌≡◌, ◌&&◌, nat_le, drop}
+use Rattle.std.proofs.Common.{◌≡◌, ◌≤◌, ◌&&◌, nat_le, length, drop}
 use Rattle.std.specs.Prelude.{All, IsTrue}
 use Rattle.std.specs.List.{list_all}
 use Rattle.serde_json.specs.View.{items_view, members_view}
-use Rattle.plain.specs.Keys.{value_under}
 use Rattle.cel_value.specs.Fits.{fits, HasItsField}
 use Rattle.cel_value.specs.Value.{code_points}
 use Rattle.vap_schema.specs.Paths.{path_text}
 use Rattle.vap_schema.specs.Seen.{seen_items, seen_entries, seen_members, reader_of, readers_of}
 use Rattle.vap_schema.proofs.Rest.{behind}
+use Rattle.vap_schema.proofs.Ordered.{IsInOrder, names_in}
 use Rattle.vap_schema.proofs.fitting.+fit_at.Given as goal
 
 abbrev pub invariant-fit_items-loop-place : goal.invariant-fit_items-loop-place
@@ -30,9 +30,9 @@ abbrev pub invariant-fit_members-loop-name : goal.invariant-fit_members-loop-nam
 invariant-fit_members-loop-name l = record {
   can_next : (goal.iterator-fit_members-loop-name).can_next l.name-iterator;
   is_finite : (goal.iterator-fit_members-loop-name).is_finite l.name-iterator;
-  exact : seen_members (readers_of l.fields) (path_text l.path) (members_view l.members.entries) ≡ behind l.entries.items (seen_members (readers_of l.fields) (path_text l.path) (members_view l.name-iterator));
+  within : l.place ≤ length l.fields;
+  ordered : IsInOrder (names_in (members_view l.name-iterator));
+  exact : seen_members (readers_of l.fields) (path_text l.path) (members_view l.members.entries)
+      ≡ behind l.entries.items (seen_members (readers_of (drop l.place l.fields)) (path_text l.path) (members_view l.name-iterator));
   fits : All (HasItsField l.fields) l.entries.items;
 }
-
-abbrev pub invariant-fit_member-loop-field : goal.invariant-fit_member-loop-field
-invariant-fit_member-loop-field l = value_under l.name (readers_of (drop l.field-index l.fields)) ≡ value_under l.name (readers_of l.fields)

@@ -1,10 +1,10 @@
 use Rattle.std.proofs.Common.{◌≡◌, ◌<◌, Ok, Err, ap, sym, ◌∙◌, subst, string_bytes, rules, arith}
 use Rattle.std.proofs.lemmas.Result.{err_from_is_err_and}
-use Rattle.serde_json.specs.View.{view, items_view, members_view}
-use Rattle.vap_schema.specs.Schemas.{Answers, schema_type, field_of, fields_of}
+use Rattle.serde_json.specs.View.{view, members_view}
+use Rattle.vap_schema.specs.Schemas.{Answers, schema_type, fields_of, is_named}
 use Rattle.vap_schema.proofs.Rest.{behind, behind-none, behind-all}
 use Rattle.vap_schema.proofs.Ordered.{names_in_order}
-use Rattle.vap_schema.proofs.Levels.{too_deep, one_level, fields_stop, fields_go, fields_in_order}
+use Rattle.vap_schema.proofs.Levels.{too_deep, one_level, fields_stop, fields_go, field_named, fields_in_order}
 use Rattle.vap_schema.proofs.schema.+read_schema.Goals as goal
 
 pub read_fields-loop-name-init : goal.read_fields-loop-name-init
@@ -17,31 +17,33 @@ pub read_fields-returns-in_err-read_field : goal.read_fields-returns-in_err-read
 read_fields-returns-in_err-read_field t c =
     let p = err_from_is_err_and c.from_residual-in_err-read_field.result c.from_residual-in_err-read_field.ensures.1 in
     let l = c.loop-name in
-    let here = ap (λ es. behind l.fields.items (fields_of (schema_type c.args.levels) (items_view c.args.required.now) (members_view es))) c.in-Some.ensures.steps in
-    rw (p.1, p.2) (fields_stop (schema_type c.args.levels) (items_view c.args.required.now) (string_bytes c.in-Some.name.now) (view c.in-Some.schema.now) (members_view c.next.new.self) l.fields.items _ _ (l.invariant.exact ∙ here)
-    (subst (λ k. Answers (field_of (schema_type c.args.levels) (items_view c.args.required.now) k (view c.in-Some.schema.now)) (Err c.in_err-read_field.field-0.0)) c.as_str.ensures.value c.in_err-read_field.ensures))
+    let named = field_named (schema_type c.args.levels) c.is_named-is_required.result c.args.required.now c.as_str-name.result.now (string_bytes c.in-Some.name.now) (view c.in-Some.schema.now) c.is_named-is_required.ensures c.as_str-name.ensures.value in
+    let here = ap (λ es. behind l.fields.items (fields_of (schema_type c.args.levels) (λ k. is_named k c.args.required.now) (members_view es))) c.in-Some.ensures.steps in
+    rw (p.1, p.2) (fields_stop (schema_type c.args.levels) (λ k. is_named k c.args.required.now) (string_bytes c.in-Some.name.now) (view c.in-Some.schema.now) (members_view c.next.new.self) l.fields.items _ _ (l.invariant.exact ∙ here)
+    (subst (λ want. Answers want (Err c.in_err-read_field.field-0.0)) named c.in_err-read_field.ensures))
 
 pub read_fields-loop-name-preserved : goal.read_fields-loop-name-preserved
 read_fields-loop-name-preserved t c =
     let l = c.loop-name in
-    let here = ap (λ es. behind l.fields.items (fields_of (schema_type c.args.levels) (items_view c.args.required.now) (members_view es))) c.in-Some.ensures.steps in record {
+    let named = field_named (schema_type c.args.levels) c.is_named-is_required.result c.args.required.now c.as_str-name.result.now (string_bytes c.in-Some.name.now) (view c.in-Some.schema.now) c.is_named-is_required.ensures c.as_str-name.ensures.value in
+    let here = ap (λ es. behind l.fields.items (fields_of (schema_type c.args.levels) (λ k. is_named k c.args.required.now) (members_view es))) c.in-Some.ensures.steps in record {
       can_next = tt;
       is_finite = tt;
-      exact = rw c.in_ok-push.ensures.items (fields_go (schema_type c.args.levels) (items_view c.args.required.now) (string_bytes c.in-Some.name.now) (view c.in-Some.schema.now) (members_view c.next.new.self) c.in_ok-read_field.field-0 l.fields.items _
-          (l.invariant.exact ∙ here) (rw c.as_str.ensures.value at c.in_ok-read_field.ensures));
+      exact = rw c.in_ok-push.ensures.items (fields_go (schema_type c.args.levels) (λ k. is_named k c.args.required.now) (string_bytes c.in-Some.name.now) (view c.in-Some.schema.now) (members_view c.next.new.self) c.in_ok-read_field.field-0 l.fields.items _
+          (l.invariant.exact ∙ here) (sym named ∙ c.in_ok-read_field.ensures));
     }
 
 pub read_fields-from_vec-requires : goal.read_fields-from_vec-requires
 read_fields-from_vec-requires t c =
     let l = c.loop-name in
-    let ended = ap (λ es. fields_of (schema_type c.args.levels) (items_view c.args.required.now) (members_view es)) c.in-None.ensures.steps.0 in
-    fields_in_order (schema_type c.args.levels) (items_view c.args.required.now) (members_view c.args.properties.now.entries) l.fields.items (names_in_order c.args.properties.now.entries c.iter-name-items.ensures.ordered)
+    let ended = ap (λ es. fields_of (schema_type c.args.levels) (λ k. is_named k c.args.required.now) (members_view es)) c.in-None.ensures.steps.0 in
+    fields_in_order (schema_type c.args.levels) (λ k. is_named k c.args.required.now) (members_view c.args.properties.now.entries) l.fields.items (names_in_order c.args.properties.now.entries c.iter-name-items.ensures.ordered)
     (l.invariant.exact ∙ behind-all l.fields.items _ ended)
 
 pub read_fields-returns : goal.read_fields-returns
 read_fields-returns t c =
     let l = c.loop-name in
-    let ended = ap (λ es. fields_of (schema_type c.args.levels) (items_view c.args.required.now) (members_view es)) c.in-None.ensures.steps.0 in
+    let ended = ap (λ es. fields_of (schema_type c.args.levels) (λ k. is_named k c.args.required.now) (members_view es)) c.in-None.ensures.steps.0 in
     l.invariant.exact ∙ behind-all l.fields.items _ ended ∙ ap Ok (sym c.from_vec.ensures)
 
 pub read_schema-returns : goal.read_schema-returns

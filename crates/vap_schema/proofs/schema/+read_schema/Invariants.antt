@@ -1,6 +1,6 @@
 use Rattle.std.proofs.Common.{◌≡◌, ◌+◌, ◌*◌}
-use Rattle.serde_json.specs.View.{items_view, members_view}
-use Rattle.vap_schema.specs.Schemas.{schema_type, fields_of}
+use Rattle.serde_json.specs.View.{members_view}
+use Rattle.vap_schema.specs.Schemas.{schema_type, fields_of, is_named}
 use Rattle.vap_schema.proofs.Rest.{behind}
 use Rattle.vap_schema.proofs.schema.+read_schema.Given as goal
 
@@ -8,7 +8,7 @@ abbrev pub invariant-read_fields-loop-name : goal.invariant-read_fields-loop-nam
 invariant-read_fields-loop-name l = record {
   can_next : (goal.iterator-read_fields-loop-name).can_next l.name-iterator;
   is_finite : (goal.iterator-read_fields-loop-name).is_finite l.name-iterator;
-  exact : fields_of (schema_type l.levels) (items_view l.required) (members_view l.properties.entries) ≡ behind l.fields.items (fields_of (schema_type l.levels) (items_view l.required) (members_view l.name-iterator));
+  exact : fields_of (schema_type l.levels) (λ k. is_named k l.required) (members_view l.properties.entries) ≡ behind l.fields.items (fields_of (schema_type l.levels) (λ k. is_named k l.required) (members_view l.name-iterator));
 }
 
 -- of two calls at one level, the one that is called is nearer to the schema inside
