@@ -193,7 +193,7 @@ fn read_suffix<'a>(
 ) -> Result<Taken<'a, Boxed<Tree>>, ParseError>
     ensures { Gives seen result (suffixed (expression source.now brackets) source.now brackets suffix place (seen left.entry) tokens.now) }
 {
-    if suffix == Suffix::Index {
+    if matches!(suffix, Suffix::Index) {
         let index = read_expression(alloc, source, brackets, tokens);
         return indexed(alloc, source, place, left, index);
     }

@@ -1,4 +1,4 @@
-use Rattle.std.proofs.Common.{ℕ, List}
+use Rattle.std.proofs.Common.{ℕ, List, arith}
 use Rattle.std.proofs.lemmas.Result.{err_from_is_err_and}
 use Rattle.cel_grammar.specs.declared.heads.Closer.TheVariants as closer
 use Rattle.cel_lex.specs.declared.token.Token.{Token}
@@ -6,9 +6,15 @@ use Rattle.cel_grammar.specs.declared.heads.Suffix.{Suffix}
 use Rattle.cel_grammar.specs.declared.tree.Joint.{Joint}
 use Rattle.cel_grammar.specs.Views.{seen}
 use Rattle.cel_grammar.specs.Descent.{expression, entry}
-use Rattle.cel_grammar.proofs.Turns.{loop_ends, act_fails, loop_goes_on, out_of_turns}
+use Rattle.cel_grammar.proofs.Turns.{loop_ends, act_fails, loop_goes_on, out_of_turns, nots_give}
 use Rattle.cel_grammar.proofs.Rows.{item_fails, step_fails, items_end, items_go_on, out_of_items, end_is, more_is}
 use Rattle.cel_grammar.proofs.descent.+descent.Goals as goal
+
+pub read_unary-read_nots-operand-requires : goal.read_unary-read_nots-operand-requires
+read_unary-read_nots-operand-requires t c = omega arith
+
+pub read_unary-returns-in-Some : goal.read_unary-returns-in-Some
+read_unary-returns-in-Some t c = nots_give (expression c.args.source.now c.args.brackets) c.args.source.now c.args.brackets c.args.tokens.now (c.in-Some.place, c.in-Some.after.now) c.signed.result c.in-Some.ensures (c.signed.ensures _ c.read_nots-operand.ensures)
 
 pub read_operators-returns-in_default : goal.read_operators-returns-in_default
 read_operators-returns-in_default t c = loop_ends _ _ c.loop-turn._turn (seen c.loop-turn.left) _ c.loop-turn-test.true c.loop-turn.invariant.1 c.in_default.ensures
