@@ -209,11 +209,15 @@ items inner source brackets c ts = opened source brackets c ts >>= any_items sou
 abbrev pub entered : Found Tree → Found Tree → Found (Entry Tree)
 entered a b = record { what = record { key = a.what; value = b.what }; deep = max a.deep b.deep; rest = b.rest }
 
+-- the value of a key
+abbrev pub entered_behind : Found Tree → Found Tree → ReadOf (Entry Tree)
+entered_behind a b = Ok (entered a b)
+
 -- a key, ":" and a value
 unfoldable pub entry : Reader → List ℕ → List Token → ReadOf (Entry Tree)
 entry inner source ts = do
   a ← inner ts
-  if_at (head_if is_colon a.rest) (unexpected source a.rest) (λ k. inner k.1 >>= λ b. Ok (entered a b))
+  if_at (head_if is_colon a.rest) (unexpected source a.rest) (λ k. inner k.1 >>= entered_behind a)
 
 -- behind an opening bracket, entries
 unfoldable pub entries : Reader → List ℕ → ℕ → List Token → ReadOf (List (Entry Tree))
@@ -275,9 +279,13 @@ method place a f = node (method_call place a.what f.what) (max a.deep f.deep) f.
 unfoldable pub indexed : ℕ → Found Tree → Found Tree → Read
 indexed place a b = node (index place a.what b.what) (max a.deep b.deep) b.rest
 
+-- an item of a member, and the bracket that closes it
+abbrev pub indexed_behind : List ℕ → ℕ → Found Tree → Found Tree → Read
+indexed_behind source place left i = closed source closer.Bracket i >>= indexed place left
+
 -- a member with what goes on it, behind the first token of that
 unfoldable pub suffixed : Reader → List ℕ → ℕ → Suffix → ℕ → Found Tree → Reader
-suffixed inner source brackets suffix.Index place left ts = inner ts >>= λ i. closed source closer.Bracket i >>= indexed place left
+suffixed inner source brackets suffix.Index place left ts = inner ts >>= indexed_behind source place left
 suffixed inner source brackets suffix.Selector place left ts =
     if_at (head_if is_selector ts) (unexpected source ts) (λ s.
     if_at (head_if is_open s.1) (selected s.0 left s.1) (λ o.

@@ -8,7 +8,7 @@ use Rattle.cel_grammar.specs.declared.fault.ParseError.TheVariants as errors
 use Rattle.cel_grammar.specs.declared.heads.Step.{Step}
 use Rattle.cel_grammar.specs.declared.heads.Step.TheVariants as step
 use Rattle.cel_grammar.specs.declared.nodes.Taken.{Taken}
-use Rattle.cel_grammar.specs.Descent.{Found, Move, stop, go_on}
+use Rattle.cel_grammar.specs.Descent.{◌>>=◌, Found, Move, stop, go_on}
 
 -- a failure is the fault that reading gives, unless memory ran out
 abbrev pub Fails : {Y : Type 0} → ParseError → Result Y ParseFault → Type 0
@@ -19,6 +19,10 @@ Fails (errors.Fault f) read = read ≡ Err f
 abbrev pub Gives : {X Y : Type 0} → (X → Y) → Result X ParseError → Result Y ParseFault → Type 0
 Gives view (Ok x) read = read ≡ Ok (view x)
 Gives view (Err e) read = Fails e read
+
+-- whatever reading gives what was passed, what a function returned is what a step makes of it
+abbrev pub Carries : {X Y Z W : Type 0} → (X → Y) → (Z → W) → Result X ParseError → Result Z ParseError → (Y → Result W ParseFault) → Type 0
+Carries view view' passed result step = (read : Result _ ParseFault) → Gives view passed read → Gives view' result (read >>= step)
 
 -- a value as it is
 abbrev pub same : {X : Type 0} → X → X

@@ -13,8 +13,8 @@ use crate::heads::{
     question_at, selector_at, step_at, suffix_at, unexpected_at,
 };
 use crate::nodes::{
-    Taken, both, called, entered, indexed, leaf, listed, literal_of, mapped, method, opened,
-    selected, shut, signed, three,
+    Taken, both, called, entered, indexed, leaf, listed, literal_of, mapped, method, negative,
+    opened, selected, signed, three, within,
 };
 use crate::tree::{Entry, Tree, UnaryOperator};
 use cel_lex::{Token, TokenKind};
@@ -60,7 +60,7 @@ fn read_conditional<'a>(
     let Some((_, after)) = colon_at(yes.rest) else {
         return Err(unexpected_at(source, yes.rest));
     };
-    let no = read_conditional(alloc, source, brackets, turns - 1, after)?;
+    let no = read_conditional(alloc, source, brackets, turns - 1, after);
     three(alloc, place, test, yes, no)
 }
 
@@ -84,7 +84,7 @@ fn read_operators<'a>(
         let Some((joint, place, after)) = joining_at(level, left.rest) else {
             return Ok(left);
         };
-        let right = read_operators(alloc, source, brackets, level - 1, after)?;
+        let right = read_operators(alloc, source, brackets, level - 1, after);
         left = both(alloc, joint, place, left, right)?;
     }
     Err(ParseError::Fault(ParseFault::TooDeep))
@@ -101,7 +101,7 @@ fn read_unary<'a>(
     ensures { Gives seen result (unary_at (expression source.now brackets) source.now brackets tokens.now) }
 {
     if let Some((place, after)) = bang_at(tokens) {
-        let operand = read_nots(alloc, source, brackets, 100, after)?;
+        let operand = read_nots(alloc, source, brackets, 100, after);
         return signed(alloc, place, UnaryOperator::Not, operand);
     }
     if let Some((place, after)) = minus_at(tokens) {
@@ -126,7 +126,7 @@ fn read_nots<'a>(
         return Err(ParseError::Fault(ParseFault::TooDeep));
     }
     if let Some((place, after)) = bang_at(tokens) {
-        let operand = read_nots(alloc, source, brackets, turns - 1, after)?;
+        let operand = read_nots(alloc, source, brackets, turns - 1, after);
         return signed(alloc, place, UnaryOperator::Not, operand);
     }
     read_member(alloc, source, brackets, tokens)
@@ -149,18 +149,13 @@ fn read_minuses<'a>(
         return Err(ParseError::Fault(ParseFault::TooDeep));
     }
     if let Some((next, after)) = minus_at(tokens) {
-        let operand = read_minuses(alloc, source, brackets, turns - 1, next, after)?;
+        let operand = read_minuses(alloc, source, brackets, turns - 1, next, after);
         return signed(alloc, place, UnaryOperator::Negate, operand);
     }
     if let Some((magnitude, rest)) = lone_at(tokens) {
-        let what = Tree::Number {
-            place,
-            is_negative: true,
-            magnitude,
-        };
-        return leaf(alloc, what, rest);
+        return negative(alloc, place, magnitude, rest);
     }
-    let operand = read_member(alloc, source, brackets, tokens)?;
+    let operand = read_member(alloc, source, brackets, tokens);
     signed(alloc, place, UnaryOperator::Negate, operand)
 }
 
@@ -198,10 +193,9 @@ fn read_suffix<'a>(
 ) -> Result<Taken<'a, Boxed<Tree>>, ParseError>
     ensures { Gives seen result (suffixed (expression source.now brackets) source.now brackets suffix place (seen left.entry) tokens.now) }
 {
-    if suffix == Suffix::Index {
-        let inside = read_expression(alloc, source, brackets, tokens)?;
-        let index = shut(source, Closer::Bracket, inside)?;
-        return indexed(alloc, place, left, index);
+    if matches!(suffix, Suffix::Index) {
+        let index = read_expression(alloc, source, brackets, tokens);
+        return indexed(alloc, source, place, left, index);
     }
     let Some((selector, after)) = selector_at(tokens) else {
         return Err(unexpected_at(source, tokens));
@@ -209,7 +203,7 @@ fn read_suffix<'a>(
     let Some((_, inside)) = opening_at(after) else {
         return selected(alloc, selector, left, after);
     };
-    let arguments = read_items(alloc, source, brackets, Closer::Parenthesis, inside)?;
+    let arguments = read_items(alloc, source, brackets, Closer::Parenthesis, inside);
     method(alloc, selector, left, arguments)
 }
 
@@ -235,19 +229,19 @@ fn read_primary<'a>(
             let Some((_, inside)) = opening_at(rest) else {
                 return leaf(alloc, Tree::Name { place }, rest);
             };
-            let arguments = read_items(alloc, source, brackets, Closer::Parenthesis, inside)?;
+            let arguments = read_items(alloc, source, brackets, Closer::Parenthesis, inside);
             called(alloc, source, place, arguments)
         }
         TokenKind::Open => {
-            let inside = read_expression(alloc, source, brackets, rest)?;
-            shut(source, Closer::Parenthesis, inside)
+            let inside = read_expression(alloc, source, brackets, rest);
+            within(source, inside)
         }
         TokenKind::OpenBracket => {
-            let items = read_items(alloc, source, brackets, Closer::Bracket, rest)?;
+            let items = read_items(alloc, source, brackets, Closer::Bracket, rest);
             listed(alloc, place, items)
         }
         TokenKind::OpenBrace => {
-            let entries = read_entries(alloc, source, brackets, rest)?;
+            let entries = read_entries(alloc, source, brackets, rest);
             mapped(alloc, place, entries)
         }
         _ => Err(unexpected_at(source, tokens)),
@@ -309,8 +303,8 @@ fn read_entry<'a>(
     let Some((_, after)) = colon_at(key.rest) else {
         return Err(unexpected_at(source, key.rest));
     };
-    let value = read_expression(alloc, source, brackets, after)?;
-    Ok(entered(key, value))
+    let value = read_expression(alloc, source, brackets, after);
+    entered(key, value)
 }
 
 // Entries between commas, and the brace that closes them. There are at most as many as a text has bytes.

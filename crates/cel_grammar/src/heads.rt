@@ -20,7 +20,7 @@ pub enum Closer {
 }
 
 /// What goes on a member.
-#[derive(Clone, Copy, PartialEq, Eq)]
+#[derive(Clone, Copy)]
 pub enum Suffix {
     Selector,
     Index,

@@ -1,9 +1,11 @@
 //! Trees that grow by a node, within the limit of depth.
 
-ghost use Rattle.std.specs.Prelude.{◌≡◌, ℕ, List, IfOk, Ok};
+ghost use Rattle.std.specs.Prelude.{◌≡◌, ℕ, true, List, IfOk, Ok};
+ghost use Rattle.cel_grammar.specs.declared.tree.Tree.TheVariants.{Number};
+ghost use Rattle.cel_grammar.specs.declared.heads.Closer.TheVariants.{Parenthesis};
 ghost use Rattle.cel_grammar.specs.Limits.{measure, is_test};
-ghost use Rattle.cel_grammar.specs.Views.{seen, seen_head, Gives};
-ghost use Rattle.cel_grammar.specs.Descent.{node, leaf, literal_of, closed, wrapped, joined, picked, listed, mapped, called, selected, method, indexed, entered, opened};
+ghost use Rattle.cel_grammar.specs.Views.{seen, seen_head, Gives, Carries};
+ghost use Rattle.cel_grammar.specs.Descent.{node, leaf, literal_of, closed, wrapped, joined, picked, listed, mapped, called, selected, method, indexed_behind, entered_behind, opened};
 
 use crate::fault::{ParseError, ParseFault};
 use crate::heads::{Closer, closing_at, end_at, spare_comma_at, unexpected_at};
@@ -32,7 +34,8 @@ fn grown<'a>(
     ensures { Gives seen result (node what below rest.now) }
 {
     let what = Boxed::new(alloc, what)?;
-    if below >= 100 {
+    let is_too_deep = below >= 100;
+    if is_too_deep {
         return Err(ParseError::Fault(ParseFault::TooDeep));
     }
     Ok(Taken {
@@ -64,6 +67,23 @@ pub fn leaf<'a>(
     ensures { Gives seen result (leaf what rest.now) }
 {
     at_depth(alloc, what, 1, rest)
+}
+
+/// A number with the minus in front of it.
+pub fn negative<'a>(
+    alloc: Global,
+    place: usize,
+    magnitude: u64,
+    rest: &'a [Token],
+) -> Result<Taken<'a, Boxed<Tree>>, ParseError>
+    ensures { Gives seen result (leaf (Number place true magnitude) rest.now) }
+{
+    let what = Tree::Number {
+        place,
+        is_negative: true,
+        magnitude,
+    };
+    leaf(alloc, what, rest)
 }
 
 /// The literal that a token is, if it is one.
@@ -99,11 +119,11 @@ pub fn signed<'a>(
     alloc: Global,
     place: usize,
     operator: UnaryOperator,
-    operand: Taken<'a, Boxed<Tree>>,
+    operand: Result<Taken<'a, Boxed<Tree>>, ParseError>,
 ) -> Result<Taken<'a, Boxed<Tree>>, ParseError>
-    ensures { Gives seen result (wrapped place operator (seen operand.entry)) }
+    ensures { Carries seen seen operand.entry result (wrapped place operator) }
 {
-    let Taken { what, depth, rest } = operand;
+    let Taken { what, depth, rest } = operand?;
     let tree = Tree::Unary {
         place,
         operator,
@@ -118,9 +138,9 @@ pub fn both<'a>(
     joint: Joint,
     place: usize,
     left: Taken<'a, Boxed<Tree>>,
-    right: Taken<'a, Boxed<Tree>>,
+    right: Result<Taken<'a, Boxed<Tree>>, ParseError>,
 ) -> Result<Taken<'a, Boxed<Tree>>, ParseError>
-    ensures { Gives seen result (joined joint place (seen left.entry) (seen right.entry)) }
+    ensures { Carries seen seen right.entry result (joined joint place (seen left.entry)) }
 {
     let Taken {
         what: left,
@@ -131,7 +151,7 @@ pub fn both<'a>(
         what: right,
         depth: right_depth,
         rest,
-    } = right;
+    } = right?;
     let tree = Tree::Binary {
         place,
         joint,
@@ -146,9 +166,9 @@ pub fn three<'a>(
     place: usize,
     test: Taken<'a, Boxed<Tree>>,
     yes: Taken<'a, Boxed<Tree>>,
-    no: Taken<'a, Boxed<Tree>>,
+    no: Result<Taken<'a, Boxed<Tree>>, ParseError>,
 ) -> Result<Taken<'a, Boxed<Tree>>, ParseError>
-    ensures { Gives seen result (picked place (seen test.entry) (seen yes.entry) (seen no.entry)) }
+    ensures { Carries seen seen no.entry result (picked place (seen test.entry) (seen yes.entry)) }
 {
     let Taken {
         what: test,
@@ -164,7 +184,7 @@ pub fn three<'a>(
         what: no,
         depth: no_depth,
         rest,
-    } = no;
+    } = no?;
     let tree = Tree::Conditional {
         place,
         test,
@@ -174,9 +194,9 @@ pub fn three<'a>(
     grown(alloc, tree, test_depth.max(yes_depth.max(no_depth)), rest)
 }
 
-/// What stands in brackets, and the closing one.
+// What stands in brackets, and the closing one.
 #[tactic(auto, unfolding(crate::specs::Descent::closed))]
-pub fn shut<'a>(
+fn shut<'a>(
     source: &str,
     closer: Closer,
     inside: Taken<'a, Boxed<Tree>>,
@@ -188,6 +208,16 @@ pub fn shut<'a>(
         Some((_, rest)) => Ok(Taken { what, depth, rest }),
         None => Err(unexpected_at(source, rest)),
     }
+}
+
+/// What stands in parentheses, and the closing one.
+pub fn within<'a>(
+    source: &str,
+    inside: Result<Taken<'a, Boxed<Tree>>, ParseError>,
+) -> Result<Taken<'a, Boxed<Tree>>, ParseError>
+    ensures { Carries seen seen inside.entry result (closed source.now Parenthesis) }
+{
+    shut(source, Closer::Parenthesis, inside?)
 }
 
 /// Behind an opening bracket: what follows the closing one, if no item stands between, as far as a bracket may be open.
@@ -215,22 +245,22 @@ pub fn opened<'a>(
 pub fn listed<'a>(
     alloc: Global,
     place: usize,
-    items: Taken<'a, Items<Tree>>,
+    items: Result<Taken<'a, Items<Tree>>, ParseError>,
 ) -> Result<Taken<'a, Boxed<Tree>>, ParseError>
-    ensures { Gives seen result (listed place (seen items.entry)) }
+    ensures { Carries seen seen items.entry result (listed place) }
 {
-    let Taken { what, depth, rest } = items;
+    let Taken { what, depth, rest } = items?;
     grown(alloc, Tree::List { place, items: what }, depth, rest)
 }
 
 pub fn mapped<'a>(
     alloc: Global,
     place: usize,
-    entries: Taken<'a, Items<Entry<Tree>>>,
+    entries: Result<Taken<'a, Items<Entry<Tree>>>, ParseError>,
 ) -> Result<Taken<'a, Boxed<Tree>>, ParseError>
-    ensures { Gives seen result (mapped place (seen entries.entry)) }
+    ensures { Carries seen seen entries.entry result (mapped place) }
 {
-    let Taken { what, depth, rest } = entries;
+    let Taken { what, depth, rest } = entries?;
     let tree = Tree::Map {
         place,
         entries: what,
@@ -259,11 +289,11 @@ pub fn called<'a>(
     alloc: Global,
     source: &str,
     place: usize,
-    arguments: Taken<'a, Items<Tree>>,
+    arguments: Result<Taken<'a, Items<Tree>>, ParseError>,
 ) -> Result<Taken<'a, Boxed<Tree>>, ParseError>
-    ensures { Gives seen result (called source.now place (seen arguments.entry)) }
+    ensures { Carries seen seen arguments.entry result (called source.now place) }
 {
-    let Taken { what, depth, rest } = arguments;
+    let Taken { what, depth, rest } = arguments?;
     let is_test = is_test(source, place, what.as_slice());
     let tree = Tree::Call {
         place,
@@ -296,9 +326,9 @@ pub fn method<'a>(
     alloc: Global,
     place: usize,
     operand: Taken<'a, Boxed<Tree>>,
-    arguments: Taken<'a, Items<Tree>>,
+    arguments: Result<Taken<'a, Items<Tree>>, ParseError>,
 ) -> Result<Taken<'a, Boxed<Tree>>, ParseError>
-    ensures { Gives seen result (method place (seen operand.entry) (seen arguments.entry)) }
+    ensures { Carries seen seen arguments.entry result (method place (seen operand.entry)) }
 {
     let Taken {
         what: operand,
@@ -309,7 +339,7 @@ pub fn method<'a>(
         what: arguments,
         depth: arguments_depth,
         rest,
-    } = arguments;
+    } = arguments?;
     let tree = Tree::Method {
         place,
         operand,
@@ -318,14 +348,16 @@ pub fn method<'a>(
     grown(alloc, tree, operand_depth.max(arguments_depth), rest)
 }
 
+/// An item of a member, and the bracket that closes it.
 #[tactic(auto, unfolding(crate::specs::Descent::indexed))]
 pub fn indexed<'a>(
     alloc: Global,
+    source: &str,
     place: usize,
     operand: Taken<'a, Boxed<Tree>>,
-    index: Taken<'a, Boxed<Tree>>,
+    index: Result<Taken<'a, Boxed<Tree>>, ParseError>,
 ) -> Result<Taken<'a, Boxed<Tree>>, ParseError>
-    ensures { Gives seen result (indexed place (seen operand.entry) (seen index.entry)) }
+    ensures { Carries seen seen index.entry result (indexed_behind source.now place (seen operand.entry)) }
 {
     let Taken {
         what: operand,
@@ -336,7 +368,7 @@ pub fn indexed<'a>(
         what: index,
         depth: index_depth,
         rest,
-    } = index;
+    } = shut(source, Closer::Bracket, index?)?;
     let tree = Tree::Index {
         place,
         operand,
@@ -347,9 +379,9 @@ pub fn indexed<'a>(
 
 pub fn entered<'a>(
     key: Taken<'a, Boxed<Tree>>,
-    value: Taken<'a, Boxed<Tree>>,
-) -> Taken<'a, Entry<Tree>>
-    ensures { seen result ≡ entered (seen key.entry) (seen value.entry) }
+    value: Result<Taken<'a, Boxed<Tree>>, ParseError>,
+) -> Result<Taken<'a, Entry<Tree>>, ParseError>
+    ensures { Carries seen seen value.entry result (entered_behind (seen key.entry)) }
 {
     let Taken {
         what: key,
@@ -360,13 +392,13 @@ pub fn entered<'a>(
         what: value,
         depth: value_depth,
         rest,
-    } = value;
-    Taken {
+    } = value?;
+    Ok(Taken {
         what: Entry {
             key: key.into_inner(),
             value: value.into_inner(),
         },
         depth: key_depth.max(value_depth),
         rest,
-    }
+    })
 }

@@ -4,7 +4,7 @@ use cel_lex::Infix;
 use plain::{Boxed, Items, Text};
 
 /// An operator before one operand.
-#[derive(Clone, Copy, Debug, PartialEq, Eq)]
+#[derive(Clone, Copy)]
 pub enum UnaryOperator {
     Not,
     Negate,

@@ -6,7 +6,7 @@ ghost use Rattle.std.specs.Char.{digit_value};
 ghost use Rattle.cel_lex.specs.Bytes.{is_letter, is_line_end, test_of};
 
 /// A set of bytes.
-#[derive(Clone, Copy, Debug, PartialEq, Eq)]
+#[derive(Clone, Copy)]
 pub enum Class {
     Space,
     /// The digits of a base, where letters follow `9`.

@@ -1,7 +1,7 @@
 //! Escapes.
 
 ghost use Rattle.std.specs.Prelude.{◌≡◌, ◌≤◌};
-ghost use Rattle.cel_lex.specs.Escapes.{coded, simple, escape_of};
+ghost use Rattle.cel_lex.specs.Escapes.{coded, simple, spelled_by, escape_of};
 
 use crate::bytes::{Class, run_len};
 use crate::number::number_up_to;
@@ -35,6 +35,13 @@ fn simple_at(c: u8) -> Option<char>
     }
 }
 
+// A character, if there is one, with how many bytes spell it.
+fn spelled_by(count: usize, found: Option<char>) -> Option<(char, usize)>
+    ensures { result ≡ spelled_by count found }
+{
+    Some((found?, count))
+}
+
 /// The character that the bytes behind a backslash stand for, and how many they are.
 pub fn escape(bytes: &[u8]) -> Option<(char, usize)>
     ensures { result ≡ escape_of bytes.now }
@@ -43,10 +50,10 @@ pub fn escape(bytes: &[u8]) -> Option<(char, usize)>
         return None;
     };
     match *c {
-        b'x' | b'X' => Some((character(16, 2, rest)?, 3)),
-        b'u' => Some((character(16, 4, rest)?, 5)),
-        b'U' => Some((character(16, 8, rest)?, 9)),
-        b'0'..=b'3' => Some((character(8, 3, bytes)?, 3)),
-        _ => Some((simple_at(*c)?, 1)),
+        b'x' | b'X' => spelled_by(3, character(16, 2, rest)),
+        b'u' => spelled_by(5, character(16, 4, rest)),
+        b'U' => spelled_by(9, character(16, 8, rest)),
+        b'0'..=b'3' => spelled_by(3, character(8, 3, bytes)),
+        _ => spelled_by(1, simple_at(*c)),
     }
 }

@@ -19,7 +19,7 @@ use std::alloc::{AllocError, Global};
 
 /// How a text is written: which quotes stand at its ends, whether three of them do, and whether a backslash is a byte
 /// like any other.
-#[derive(Clone, Copy, Debug, PartialEq, Eq)]
+#[derive(Clone, Copy)]
 pub struct Style {
     pub quote: u8,
     pub is_triple: bool,

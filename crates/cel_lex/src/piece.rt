@@ -13,7 +13,7 @@ use crate::word::token_of;
 use std::alloc::{AllocError, Global};
 
 /// What stands next in a text.
-#[derive(Debug, Drop)]
+#[derive(Drop)]
 pub enum Piece {
     /// White space or a comment.
     Blank,

@@ -3,7 +3,7 @@
 use plain::Text;
 
 /// An operator between two operands.
-#[derive(Clone, Copy, Debug, PartialEq, Eq)]
+#[derive(Clone, Copy)]
 pub enum Infix {
     Or,
     And,
@@ -21,7 +21,7 @@ pub enum Infix {
 }
 
 /// What a token is.
-#[derive(Debug, Drop)]
+#[derive(Drop)]
 pub enum TokenKind {
     /// A number of at most 2^63.
     Int(u64),
@@ -52,7 +52,7 @@ pub enum TokenKind {
 }
 
 /// A token and the bytes at which it starts and ends.
-#[derive(Debug, Drop)]
+#[derive(Drop)]
 pub struct Token {
     pub kind: TokenKind,
     pub start: usize,

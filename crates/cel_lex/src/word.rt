@@ -1,20 +1,27 @@
 //! Names and the words that are none.
 
 ghost use Rattle.std.specs.Prelude.{◌≡◌};
+ghost use Rattle.std.specs.Str.{bytes_eq};
 ghost use Rattle.cel_lex.specs.Words.{keyword, is_reserved, word_of};
 
 use crate::token::TokenKind;
 
+fn is(word: &[u8], other: &str) -> bool
+    ensures { result ≡ bytes_eq word.now other.now }
+{
+    word == other.as_bytes()
+}
+
 fn keyword_at(word: &[u8]) -> Option<TokenKind>
     ensures { result ≡ keyword word.now }
 {
-    if word == b"true".as_slice() {
+    if is(word, "true") {
         Some(TokenKind::True)
-    } else if word == b"false".as_slice() {
+    } else if is(word, "false") {
         Some(TokenKind::False)
-    } else if word == b"null".as_slice() {
+    } else if is(word, "null") {
         Some(TokenKind::Null)
-    } else if word == b"in".as_slice() {
+    } else if is(word, "in") {
         Some(TokenKind::In)
     } else {
         None
@@ -24,23 +31,23 @@ fn keyword_at(word: &[u8]) -> Option<TokenKind>
 fn is_reserved_word(word: &[u8]) -> bool
     ensures { result ≡ is_reserved word.now }
 {
-    word == b"as".as_slice()
-        || word == b"break".as_slice()
-        || word == b"const".as_slice()
-        || word == b"continue".as_slice()
-        || word == b"else".as_slice()
-        || word == b"for".as_slice()
-        || word == b"function".as_slice()
-        || word == b"if".as_slice()
-        || word == b"import".as_slice()
-        || word == b"let".as_slice()
-        || word == b"loop".as_slice()
-        || word == b"package".as_slice()
-        || word == b"namespace".as_slice()
-        || word == b"return".as_slice()
-        || word == b"var".as_slice()
-        || word == b"void".as_slice()
-        || word == b"while".as_slice()
+    is(word, "as")
+        || is(word, "break")
+        || is(word, "const")
+        || is(word, "continue")
+        || is(word, "else")
+        || is(word, "for")
+        || is(word, "function")
+        || is(word, "if")
+        || is(word, "import")
+        || is(word, "let")
+        || is(word, "loop")
+        || is(word, "package")
+        || is(word, "namespace")
+        || is(word, "return")
+        || is(word, "var")
+        || is(word, "void")
+        || is(word, "while")
 }
 
 /// The token that a word is.

@@ -2,13 +2,13 @@
 
 ghost use Rattle.std.specs.Prelude.{◌≡◌, ℕ, List, IfOk, Ok};
 ghost use Rattle.cel_parse.specs.declared.expr.Expr.{Expr};
-ghost use Rattle.cel_grammar.specs.Views.{same, Gives};
+ghost use Rattle.cel_grammar.specs.Views.{same, Gives, Carries};
 ghost use Rattle.cel_grammar.specs.Words.{word_at};
-ghost use Rattle.cel_parse.specs.Expansion.{expr, after, number_of, form_of, each, each_entry, plain_call, has_of, call_of, name_in, loop_name, plain_method, loop_of_kind, method_of, expansion, expansions, entry_expansions, expanded};
+ghost use Rattle.cel_parse.specs.Expansion.{expr, number_of, form_of, each, each_entry, plain_call, has_of, call_of, name_in, loop_name, plain_method, loop_of_kind, method_of, expansion, expansions, entry_expansions, expanded};
 
 use crate::expr::{BinaryOperator, Expr, Loop, Syntax};
 use crate::macros::loop_at;
-use cel_grammar::{Entry, Joint, ParseError, ParseFault, Tree, is_has, word_at};
+use cel_grammar::{Entry, Joint, ParseError, ParseFault, Tree, UnaryOperator, is_has, word_at};
 use cel_lex::{Infix, LexFault, LexFaultKind};
 use plain::{Boxed, Items, Text};
 use std::alloc::{AllocError, Global};
@@ -90,10 +90,11 @@ fn select(
     alloc: Global,
     source: &str,
     place: usize,
-    operand: Boxed<Expr>,
+    operand: Result<Boxed<Expr>, ParseError>,
 ) -> Result<Boxed<Expr>, ParseError>
-    ensures { Gives same result (Ok (expr place (Syntax.Select operand (word_at source.now place)))) }
+    ensures { Carries same same operand result (λ e. Ok (expr place (Syntax.Select e (word_at source.now place)))) }
 {
+    let operand = operand?;
     let field = word(alloc, source, place)?;
     at(alloc, place, Syntax::Select(operand, field))
 }
@@ -104,10 +105,11 @@ fn has(
     source: &str,
     place: usize,
     field: usize,
-    operand: Boxed<Expr>,
+    operand: Result<Boxed<Expr>, ParseError>,
 ) -> Result<Boxed<Expr>, ParseError>
-    ensures { Gives same result (Ok (expr place (Syntax.Has operand (word_at source.now field)))) }
+    ensures { Carries same same operand result (λ e. Ok (expr place (Syntax.Has e (word_at source.now field)))) }
 {
+    let operand = operand?;
     let field = word(alloc, source, field)?;
     at(alloc, place, Syntax::Has(operand, field))
 }
@@ -117,12 +119,135 @@ fn called(
     alloc: Global,
     source: &str,
     place: usize,
-    items: Items<Expr>,
+    items: Result<Items<Expr>, ParseError>,
 ) -> Result<Boxed<Expr>, ParseError>
-    ensures { Gives same result (Ok (expr place (Syntax.Call (word_at source.now place) items))) }
+    ensures { Carries same same items result (λ es. Ok (expr place (Syntax.Call (word_at source.now place) es))) }
 {
+    let items = items?;
     let name = word(alloc, source, place)?;
     at(alloc, place, Syntax::Call(name, items))
+}
+
+// A method that is no macro, of what is expanded already.
+fn method_called(
+    alloc: Global,
+    source: &str,
+    place: usize,
+    operand: Boxed<Expr>,
+    items: Result<Items<Expr>, ParseError>,
+) -> Result<Boxed<Expr>, ParseError>
+    ensures { Carries same same items result (λ es. Ok (expr place (Syntax.Method operand (word_at source.now place) es))) }
+{
+    let items = items?;
+    let name = word(alloc, source, place)?;
+    at(alloc, place, Syntax::Method(operand, name, items))
+}
+
+fn signed(
+    alloc: Global,
+    place: usize,
+    operator: UnaryOperator,
+    operand: Result<Boxed<Expr>, ParseError>,
+) -> Result<Boxed<Expr>, ParseError>
+    ensures { Carries same same operand result (λ x. Ok (expr place (Syntax.Unary operator x))) }
+{
+    at(alloc, place, Syntax::Unary(operator, operand?))
+}
+
+fn indexed(
+    alloc: Global,
+    place: usize,
+    operand: Boxed<Expr>,
+    item: Result<Boxed<Expr>, ParseError>,
+) -> Result<Boxed<Expr>, ParseError>
+    ensures { Carries same same item result (λ y. Ok (expr place (Syntax.Index operand y))) }
+{
+    let item = item?;
+    at(alloc, place, Syntax::Index(operand, item))
+}
+
+fn joined(
+    alloc: Global,
+    place: usize,
+    joint: Joint,
+    left: Boxed<Expr>,
+    right: Result<Boxed<Expr>, ParseError>,
+) -> Result<Boxed<Expr>, ParseError>
+    ensures { Carries same same right result (λ y. Ok (expr place (form_of joint left y))) }
+{
+    let right = right?;
+    at(alloc, place, form(joint, left, right))
+}
+
+fn conditional(
+    alloc: Global,
+    place: usize,
+    test: Boxed<Expr>,
+    yes: Boxed<Expr>,
+    no: Result<Boxed<Expr>, ParseError>,
+) -> Result<Boxed<Expr>, ParseError>
+    ensures { Carries same same no result (λ z. Ok (expr place (Syntax.Conditional test yes z))) }
+{
+    let no = no?;
+    at(alloc, place, Syntax::Conditional(test, yes, no))
+}
+
+fn listed(
+    alloc: Global,
+    place: usize,
+    items: Result<Items<Expr>, ParseError>,
+) -> Result<Boxed<Expr>, ParseError>
+    ensures { Carries same same items result (λ es. Ok (expr place (Syntax.List es))) }
+{
+    at(alloc, place, Syntax::List(items?))
+}
+
+fn mapped(
+    alloc: Global,
+    place: usize,
+    entries: Result<Items<Entry<Expr>>, ParseError>,
+) -> Result<Boxed<Expr>, ParseError>
+    ensures { Carries same same entries result (λ es. Ok (expr place (Syntax.Map es))) }
+{
+    at(alloc, place, Syntax::Map(entries?))
+}
+
+// A loop over what is expanded already.
+fn looped(
+    alloc: Global,
+    source: &str,
+    place: usize,
+    kind: Loop,
+    name: usize,
+    range: Boxed<Expr>,
+    body: Result<Boxed<Expr>, ParseError>,
+) -> Result<Boxed<Expr>, ParseError>
+    ensures { Carries same same body result (λ p. Ok (expr place (Syntax.Loop kind range (word_at source.now name) p))) }
+{
+    let body = body?;
+    let name = word(alloc, source, name)?;
+    at(alloc, place, Syntax::Loop(kind, range, name, body))
+}
+
+// A loop with a predicate and a transform.
+fn map_where(
+    alloc: Global,
+    source: &str,
+    place: usize,
+    name: usize,
+    range: Boxed<Expr>,
+    predicate: Boxed<Expr>,
+    transform: Result<Boxed<Expr>, ParseError>,
+) -> Result<Boxed<Expr>, ParseError>
+    ensures { Carries same same transform result (λ t. Ok (expr place (Syntax.MapWhere range (word_at source.now name) predicate t))) }
+{
+    let transform = transform?;
+    let name = word(alloc, source, name)?;
+    at(
+        alloc,
+        place,
+        Syntax::MapWhere(range, name, predicate, transform),
+    )
 }
 
 fn name_of(tree: &Tree) -> Option<usize>
@@ -187,7 +312,7 @@ fn plain_call(
 ) -> Result<Boxed<Expr>, ParseError>
     ensures { Gives same result (plain_call source.now place (expansions source.now arguments.now)) }
 {
-    let items = each(alloc, source, arguments)?;
+    let items = each(alloc, source, arguments);
     called(alloc, source, place, items)
 }
 
@@ -211,7 +336,7 @@ fn test(
     else {
         return plain_call(alloc, source, place, arguments);
     };
-    let operand = expand(alloc, source, operand.get())?;
+    let operand = expand(alloc, source, operand.get());
     has(alloc, source, place, *field, operand)
 }
 
@@ -241,49 +366,8 @@ fn plain_method(
 ) -> Result<Boxed<Expr>, ParseError>
     ensures { Gives same result (plain_method source.now place (Ok operand) (expansions source.now arguments.now)) }
 {
-    let items = each(alloc, source, arguments)?;
-    let name = word(alloc, source, place)?;
-    at(alloc, place, Syntax::Method(operand, name, items))
-}
-
-// A loop over what is expanded already.
-#[cycle(expansion)]
-fn loop_over(
-    alloc: Global,
-    source: &str,
-    place: usize,
-    kind: Loop,
-    body: &Tree,
-    name: usize,
-    range: Boxed<Expr>,
-) -> Result<Boxed<Expr>, ParseError>
-    ensures { Gives same result (after (expanded source.now body.now) (λ p. Ok (expr place (Syntax.Loop kind range (word_at source.now name) p)))) }
-{
-    let body = expand(alloc, source, body)?;
-    let name = word(alloc, source, name)?;
-    at(alloc, place, Syntax::Loop(kind, range, name, body))
-}
-
-// A loop whose predicate is expanded already.
-#[cycle(expansion)]
-fn map_where(
-    alloc: Global,
-    source: &str,
-    place: usize,
-    transform: &Tree,
-    name: usize,
-    range: Boxed<Expr>,
-    predicate: Boxed<Expr>,
-) -> Result<Boxed<Expr>, ParseError>
-    ensures { Gives same result (after (expanded source.now transform.now) (λ t. Ok (expr place (Syntax.MapWhere range (word_at source.now name) predicate t)))) }
-{
-    let transform = expand(alloc, source, transform)?;
-    let name = word(alloc, source, name)?;
-    at(
-        alloc,
-        place,
-        Syntax::MapWhere(range, name, predicate, transform),
-    )
+    let items = each(alloc, source, arguments);
+    method_called(alloc, source, place, operand, items)
 }
 
 // A method with a loop's name, of what is expanded already: the loop, if the arguments suit it.
@@ -302,10 +386,14 @@ fn loop_on(
         return plain_method(alloc, source, place, arguments, range);
     };
     match arguments {
-        [_, body] => loop_over(alloc, source, place, kind, body, name, range),
+        [_, body] => {
+            let body = expand(alloc, source, body);
+            looped(alloc, source, place, kind, name, range, body)
+        }
         [_, predicate, transform] => {
             let predicate = expand(alloc, source, predicate)?;
-            map_where(alloc, source, place, transform, name, range, predicate)
+            let transform = expand(alloc, source, transform);
+            map_where(alloc, source, place, name, range, predicate, transform)
         }
         _ => plain_method(alloc, source, place, arguments, range),
     }
@@ -328,53 +416,6 @@ fn method(
     }
 }
 
-// An index of what is expanded already.
-#[cycle(expansion)]
-fn index_on(
-    alloc: Global,
-    source: &str,
-    place: usize,
-    item: &Tree,
-    operand: Boxed<Expr>,
-) -> Result<Boxed<Expr>, ParseError>
-    ensures { Gives same result (after (expanded source.now item.now) (λ y. Ok (expr place (Syntax.Index operand y)))) }
-{
-    let item = expand(alloc, source, item)?;
-    at(alloc, place, Syntax::Index(operand, item))
-}
-
-// An operator whose left operand is expanded already.
-#[cycle(expansion)]
-fn binary_on(
-    alloc: Global,
-    source: &str,
-    place: usize,
-    joint: Joint,
-    right: &Tree,
-    left: Boxed<Expr>,
-) -> Result<Boxed<Expr>, ParseError>
-    ensures { Gives same result (after (expanded source.now right.now) (λ y. Ok (expr place (form_of joint left y)))) }
-{
-    let right = expand(alloc, source, right)?;
-    at(alloc, place, form(joint, left, right))
-}
-
-// A conditional whose last branch alone is not expanded yet.
-#[cycle(expansion)]
-fn conditional_on(
-    alloc: Global,
-    source: &str,
-    place: usize,
-    no: &Tree,
-    test: Boxed<Expr>,
-    yes: Boxed<Expr>,
-) -> Result<Boxed<Expr>, ParseError>
-    ensures { Gives same result (after (expanded source.now no.now) (λ z. Ok (expr place (Syntax.Conditional test yes z)))) }
-{
-    let no = expand(alloc, source, no)?;
-    at(alloc, place, Syntax::Conditional(test, yes, no))
-}
-
 /// The expression of a tree, unless a number in it is out of range.
 #[cycle(expansion)]
 pub fn expand(alloc: Global, source: &str, tree: &Tree) -> Result<Boxed<Expr>, ParseError>
@@ -393,7 +434,7 @@ pub fn expand(alloc: Global, source: &str, tree: &Tree) -> Result<Boxed<Expr>, P
         Tree::Name { place } => named(alloc, source, *place),
         Tree::Call { place, arguments } => call(alloc, source, *place, arguments.as_slice()),
         Tree::Select { place, operand } => {
-            let operand = expand(alloc, source, operand.get())?;
+            let operand = expand(alloc, source, operand.get());
             select(alloc, source, *place, operand)
         }
         Tree::Method {
@@ -410,23 +451,24 @@ pub fn expand(alloc: Global, source: &str, tree: &Tree) -> Result<Boxed<Expr>, P
             index,
         } => {
             let operand = expand(alloc, source, operand.get())?;
-            index_on(alloc, source, *place, index.get(), operand)
+            let item = expand(alloc, source, index.get());
+            indexed(alloc, *place, operand, item)
         }
         Tree::List { place, items } => {
-            let items = each(alloc, source, items.as_slice())?;
-            at(alloc, *place, Syntax::List(items))
+            let items = each(alloc, source, items.as_slice());
+            listed(alloc, *place, items)
         }
         Tree::Map { place, entries } => {
-            let entries = each_entry(alloc, source, entries.as_slice())?;
-            at(alloc, *place, Syntax::Map(entries))
+            let entries = each_entry(alloc, source, entries.as_slice());
+            mapped(alloc, *place, entries)
         }
         Tree::Unary {
             place,
             operator,
             operand,
         } => {
-            let operand = expand(alloc, source, operand.get())?;
-            at(alloc, *place, Syntax::Unary(*operator, operand))
+            let operand = expand(alloc, source, operand.get());
+            signed(alloc, *place, *operator, operand)
         }
         Tree::Binary {
             place,
@@ -435,7 +477,8 @@ pub fn expand(alloc: Global, source: &str, tree: &Tree) -> Result<Boxed<Expr>, P
             right,
         } => {
             let left = expand(alloc, source, left.get())?;
-            binary_on(alloc, source, *place, *joint, right.get(), left)
+            let right = expand(alloc, source, right.get());
+            joined(alloc, *place, *joint, left, right)
         }
         Tree::Conditional {
             place,
@@ -445,7 +488,8 @@ pub fn expand(alloc: Global, source: &str, tree: &Tree) -> Result<Boxed<Expr>, P
         } => {
             let test = expand(alloc, source, test.get())?;
             let yes = expand(alloc, source, yes.get())?;
-            conditional_on(alloc, source, *place, no.get(), test, yes)
+            let no = expand(alloc, source, no.get());
+            conditional(alloc, *place, test, yes, no)
         }
     }
 }

@@ -4,7 +4,7 @@ use cel_grammar::{Entry, UnaryOperator};
 use plain::{Boxed, Items, Text};
 
 /// An operator between two operands that are both evaluated.
-#[derive(Clone, Copy, Debug, PartialEq, Eq)]
+#[derive(Clone, Copy)]
 pub enum BinaryOperator {
     Less,
     AtMost,
@@ -21,7 +21,7 @@ pub enum BinaryOperator {
 }
 
 /// What a loop does with what its body gives for each item.
-#[derive(Clone, Copy, Debug, PartialEq, Eq)]
+#[derive(Clone, Copy, PartialEq, Eq)]
 pub enum Loop {
     /// Whether the predicate holds for all.
     All,

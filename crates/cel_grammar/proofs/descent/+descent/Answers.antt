@@ -1,51 +1,35 @@
-use Rattle.std.proofs.Common.{◌≡◌, ℕ, suc, List, ◌-◌, sym, subst, arith}
+use Rattle.std.proofs.Common.{ℕ, List, arith}
 use Rattle.std.proofs.lemmas.Result.{err_from_is_err_and}
 use Rattle.cel_grammar.specs.declared.heads.Closer.TheVariants as closer
 use Rattle.cel_lex.specs.declared.token.Token.{Token}
 use Rattle.cel_grammar.specs.declared.heads.Suffix.{Suffix}
 use Rattle.cel_grammar.specs.declared.tree.Joint.{Joint}
-use Rattle.cel_grammar.specs.Views.{seen, Fails}
-use Rattle.cel_grammar.specs.Descent.{operators, conditional_at, expression, entry}
-use Rattle.cel_grammar.proofs.Turns.{loop_ends, act_fails, loop_goes_on, out_of_turns, right_fails, both_fail, both_join, no_fails}
+use Rattle.cel_grammar.specs.Views.{seen}
+use Rattle.cel_grammar.specs.Descent.{expression, entry}
+use Rattle.cel_grammar.proofs.Turns.{loop_ends, act_fails, loop_goes_on, out_of_turns, nots_give}
 use Rattle.cel_grammar.proofs.Rows.{item_fails, step_fails, items_end, items_go_on, out_of_items, end_is, more_is}
 use Rattle.cel_grammar.proofs.descent.+descent.Goals as goal
 
-pub read_conditional-returns-in_err-no : goal.read_conditional-returns-in_err-no
-read_conditional-returns-in_err-no t c =
-    let p = err_from_is_err_and c.from_residual-in_err-no.result c.from_residual-in_err-no.ensures.1 in
-    let zero_not = c.if-turns-eq0.false in
-    let n : c.args.turns ≡ suc (c.args.turns - 1) = omega arith in
-    let inner = expression c.args.source.now c.args.brackets in
-    rw (p.1, p.2) (subst (λ (k : ℕ). Fails c.in_err-no.field-0.0 (conditional_at inner c.args.source.now c.args.brackets k c.args.tokens.now)) (sym n)
-    (no_fails inner c.args.source.now c.args.brackets (c.args.turns - 1) c.args.tokens.now (seen c.in_ok-test.test) (seen c.in_ok-yes.yes) (c.in-Some.place, c.in-Some.after.now) (c.in-Some-colon_at.field-0-0, c.in-Some-colon_at.after.now) c.in_ok-test.ensures c.in-Some.ensures c.in_ok-yes.ensures c.in-Some-colon_at.ensures _ c.in_err-no.ensures))
+pub read_unary-read_nots-operand-requires : goal.read_unary-read_nots-operand-requires
+read_unary-read_nots-operand-requires t c = omega arith
+
+pub read_unary-returns-in-Some : goal.read_unary-returns-in-Some
+read_unary-returns-in-Some t c = nots_give (expression c.args.source.now c.args.brackets) c.args.source.now c.args.brackets c.args.tokens.now (c.in-Some.place, c.in-Some.after.now) c.signed.result c.in-Some.ensures (c.signed.ensures _ c.read_nots-operand.ensures)
 
 pub read_operators-returns-in_default : goal.read_operators-returns-in_default
 read_operators-returns-in_default t c = loop_ends _ _ c.loop-turn._turn (seen c.loop-turn.left) _ c.loop-turn-test.true c.loop-turn.invariant.1 c.in_default.ensures
-
-pub read_operators-returns-in_err-right : goal.read_operators-returns-in_err-right
-read_operators-returns-in_err-right t c =
-    let p = err_from_is_err_and c.from_residual-in_err-right.result c.from_residual-in_err-right.ensures.1 in
-    let x : Joint × ℕ × List Token = (c.in-Some.joint, c.in-Some.place, c.in-Some.after.now) in
-    let left = seen c.loop-turn.left in
-    rw (p.1, p.2) (act_fails _ _ c.loop-turn._turn left _ c.loop-turn-test.true c.loop-turn.invariant.1 x c.in-Some.ensures _
-    (right_fails (operators (expression c.args.source.now c.args.brackets) c.args.source.now c.args.brackets (c.args.level - 1)) x left _ c.in_err-right.ensures))
 
 pub read_operators-returns-in_err-left-2 : goal.read_operators-returns-in_err-left-2
 read_operators-returns-in_err-left-2 t c =
     let p = err_from_is_err_and c.from_residual-in_err-left-2.result c.from_residual-in_err-left-2.ensures.1 in
     let x : Joint × ℕ × List Token = (c.in-Some.joint, c.in-Some.place, c.in-Some.after.now) in
-    let left = seen c.loop-turn.left in
-    rw (p.1, p.2) (act_fails _ _ c.loop-turn._turn left _ c.loop-turn-test.true c.loop-turn.invariant.1 x c.in-Some.ensures _
-    (both_fail (operators (expression c.args.source.now c.args.brackets) c.args.source.now c.args.brackets (c.args.level - 1)) x left (seen c.in_ok-right.right) _ c.in_ok-right.ensures c.in_err-left-2.ensures))
+    rw (p.1, p.2) (act_fails _ _ c.loop-turn._turn (seen c.loop-turn.left) _ c.loop-turn-test.true c.loop-turn.invariant.1 x c.in-Some.ensures _ (c.in_err-left-2.ensures _ c.read_operators-right.ensures))
 
 pub read_operators-loop-turn-preserved : goal.read_operators-loop-turn-preserved
 read_operators-loop-turn-preserved t c =
-    let x : Joint × ℕ × List Token = (c.in-Some.joint, c.in-Some.place, c.in-Some.after.now) in
-    let left = seen c.loop-turn.left in
-    let both = seen c.in_ok-left-2.left in (
+    let x : Joint × ℕ × List Token = (c.in-Some.joint, c.in-Some.place, c.in-Some.after.now) in (
       c.loop-turn.invariant.0,
-      loop_goes_on _ _ c.loop-turn._turn left _ c.loop-turn-test.true c.loop-turn.invariant.1 x c.in-Some.ensures both
-          (both_join (operators (expression c.args.source.now c.args.brackets) c.args.source.now c.args.brackets (c.args.level - 1)) x left (seen c.in_ok-right.right) both c.in_ok-right.ensures c.in_ok-left-2.ensures),
+      loop_goes_on _ _ c.loop-turn._turn (seen c.loop-turn.left) _ c.loop-turn-test.true c.loop-turn.invariant.1 x c.in-Some.ensures (seen c.in_ok-left-2.left) (c.in_ok-left-2.ensures _ c.read_operators-right.ensures),
     )
 
 pub read_operators-returns : goal.read_operators-returns
