@@ -9,11 +9,11 @@ ghost use Rattle.cel_value.specs.Assignable.{assignable};
 ghost use Rattle.cel_value.specs.Greatest.{AllowsAsMuch};
 ghost use Rattle.cel_value.specs.Join.{Fields, join};
 ghost use Rattle.cel_value.specs.JoinRules.{IsBare, are_of_one_kind, joined_fields};
-ghost use Rattle.cel_value.specs.Joining.{IsInside, join_same_kind, wrapped};
+ghost use Rattle.cel_value.specs.Joining.{IsInside, field_of, join_same_kind, wrapped};
 
+use crate::assigning::assignable;
 use crate::cel_type::{CelType, Field};
-use crate::same_type::same_type;
-use plain::{Keyed, Shared, TextMap};
+use plain::{Keyed, Shared, Text, TextMap};
 use std::alloc::{AllocError, Global};
 
 /// The type of what has one of two types, if there is one: each of the two may stand where it is asked, what fits
@@ -54,7 +54,7 @@ pub fn join_rules()
     ensures other_kinds { (s t : CelType) → IsBare s → IsBare t → ¬ IsTrue (are_of_one_kind s t) → join s t ≡ None }
 {}
 
-/// The join. That of equal types is the left one, which is shared and not made anew.
+/// The join. Where the left type takes the right one it is the left one, which is shared and not made anew.
 fn join_or_share(
     alloc: Global,
     left: &CelType,
@@ -62,7 +62,7 @@ fn join_or_share(
 ) -> Result<Option<CelType>, AllocError>
     ensures { IfOk result (λ joined. joined ≡ join left.now right.now) }
 {
-    if same_type(left, right) {
+    if assignable(right, left) {
         return Ok(Some(left.copy()?));
     }
     join_types(alloc, left, right)
@@ -257,14 +257,10 @@ fn join_fields(
                 if field.key.as_str() != other.key.as_str() {
                     return Ok(None);
                 }
-                match join_types(alloc, &field.value.cel_type, &other.value.cel_type)? {
-                    Some(cel_type) => joined.push(Keyed {
-                        key: field.key.copy()?,
-                        value: Field {
-                            required: field.value.required && other.value.required,
-                            cel_type,
-                        },
-                    })?,
+                let required = field.value.required && other.value.required;
+                let cel_type = join_types(alloc, &field.value.cel_type, &other.value.cel_type)?;
+                match field_of(&field.key, required, cel_type)? {
+                    Some(field) => joined.push(field)?,
                     None => return Ok(None),
                 }
                 rest = more;
@@ -276,6 +272,22 @@ fn join_fields(
         Ok(Some(TextMap::from_vec(joined)))
     } else {
         Ok(None)
+    }
+}
+
+fn field_of(
+    key: &Text,
+    required: bool,
+    joined: Option<CelType>,
+) -> Result<Option<Keyed<Field<CelType>>>, AllocError>
+    ensures { IfOk result (λ r. r ≡ option_map (λ t. field_of key.now required t) joined) }
+{
+    match joined {
+        Some(cel_type) => Ok(Some(Keyed {
+            key: key.copy()?,
+            value: Field { required, cel_type },
+        })),
+        None => Ok(None),
     }
 }
 
