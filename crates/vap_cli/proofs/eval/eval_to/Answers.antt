@@ -8,3 +8,6 @@ returns-clause-told g c = record {
   written = search rules;
   ended = c.in_ok-line.ensures.ended;
 }
+
+pub returns-clause-all_written : goal.returns-clause-all_written
+returns-clause-all_written g c = search rules
