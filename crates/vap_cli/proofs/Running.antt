@@ -2,6 +2,8 @@
 use Rattle.std.proofs.Common.{◌≡◌, ℕ, List, [], Option, Some, None, IsTrue, refl, sym, ap, ◌∙◌, subst}
 use Rattle.std.specs.Prelude.{Ok}
 use Rattle.cel_value.specs.declared.cel_type.CelType.{CelType}
+use Rattle.cel_parse.specs.declared.expr.Expr.{Expr}
+use Rattle.cel_parse.specs.Parsing.{IsParsed}
 use Rattle.cel_check.specs.declared.tree.TypedTree.{TypedTree}
 use Rattle.cel_code.specs.declared.image.Image.{Image}
 use Rattle.cel_code.specs.Compiled.{IsCompiled}
@@ -17,7 +19,7 @@ use Rattle.vap_cli.specs.declared.answer.Refusal.{Refusal}
 use Rattle.vap_cli.specs.declared.answer.Refusal.TheVariants as refusal
 use Rattle.vap_cli.specs.declared.evaluation.EvaluationError.{EvaluationError}
 use Rattle.vap_cli.specs.declared.evaluation.EvaluationError.TheVariants.{Refused}
-use Rattle.vap_cli.specs.Evaluation.{IsChecked, IsNotRunFor, IsRefusedFor, from_verifying}
+use Rattle.vap_cli.specs.Evaluation.{EndsWith, IsChecked, IsNotRunFor, IsRefusedFor, IsUntypedFor, from_verifying}
 
 -- an outcome that fits is there
 is_some : (t : CelType) (o : Option Outcome) → IsTrue (outcome_fits t o) → (x : Outcome) × (o ≡ Some x)
@@ -31,11 +33,11 @@ run_gives image tree x charged steps computes fits run =
     let (n, ran) = computes [] y is in
     is ∙ ap Some (one_run image [] y x _ _ _ _ ran run).outcome
 
--- the same of a program of the image, whose slots are none
-pub program_gives : (image program : Image) (slots : List Outcome) (tree : TypedTree) (x : Outcome) (charged steps : ℕ) → Computes image tree → IsTrue (outcome_fits (type_of tree) (value_of tree (outside []))) → program ≡ image → slots ≡ [] → Run program slots x charged steps → value_of tree (outside []) ≡ Some x
-program_gives image program slots tree x charged steps computes fits same none run =
-    let r : Run image [] x charged steps = rw (sym same, sym none) run in
-    run_gives image tree x charged steps computes fits r
+-- the same of a program of the image
+pub program_gives : (image program : Image) (tree : TypedTree) (x : Outcome) → Computes image tree → IsTrue (outcome_fits (type_of tree) (value_of tree (outside []))) → program ≡ image → EndsWith program x → value_of tree (outside []) ≡ Some x
+program_gives image program tree x computes fits same ends =
+    let r : Run image [] x ends.charged ends.steps = rw (sym same) ends.run in
+    run_gives image tree x _ _ computes fits r
 
 -- a refusal of the image that an expression without slots compiles to
 pub not_run : (tree : TypedTree) (image : Image) (types : List CelType) (error : VerifyError) (why : Refusal) (e : EvaluationError) → IsCompiled image tree types → types ≡ [] → IsRefused image error → e ≡ from_verifying error → e ≡ Refused why → IsNotRunFor tree why
@@ -43,6 +45,12 @@ not_run tree image types verifying.OutOfMemory why e compiled none refused from 
 not_run tree image types (verifying.Fault f) why e compiled none refused from is =
     let same : refusal.Unverified f.at ≡ why = cc in
     subst (IsNotRunFor tree) same (record { image = image; compiled = rw none at compiled; fault = f; faulty = refused.0; here = refl })
+
+-- a text whose expression has no type is refused for that
+pub untyped_text : (text : List ℕ) (e : Expr) (why : Refusal) → IsParsed text e → IsUntypedFor e why → IsRefusedFor text why
+untyped_text text e (refusal.Parse fault) parsed h = absurd h
+untyped_text text e (refusal.Type fault) parsed h = record { expression = e; parsed = parsed; as_checked = h }
+untyped_text text e (refusal.Unverified at) parsed h = absurd h
 
 -- a text whose expression is not run is refused for that
 pub not_run_text : (text : List ℕ) (tree : TypedTree) (why : Refusal) → IsChecked text (Ok tree) → IsNotRunFor tree why → IsRefusedFor text why

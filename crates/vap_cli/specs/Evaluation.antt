@@ -9,6 +9,7 @@ use Rattle.cel_check.specs.declared.fault.CheckError.TheVariants as checking
 use Rattle.cel_check.specs.declared.tree.TypedTree.{TypedTree}
 use Rattle.cel_code.specs.declared.image.Image.{Image}
 use Rattle.cel_code.specs.Compiled.{IsCompiled}
+use Rattle.cel_code.specs.Machine.{Run}
 use Rattle.cel_check.specs.Meaning.{value_of}
 use Rattle.cel_check.specs.Outcomes.{Outcome, outside}
 use Rattle.cel_check.specs.Typing.{Names, Checked, checked_within}
@@ -58,6 +59,18 @@ abbrev pub IsNotRunFor : TypedTree → Refusal → Type 0
 IsNotRunFor tree (refusal.Parse fault) = ⊥
 IsNotRunFor tree (refusal.Type fault) = ⊥
 IsNotRunFor tree (refusal.Unverified at) = IsFaulty tree at
+
+-- why an expression has no type where there are no names
+abbrev pub IsUntypedFor : Expr → Refusal → Type 0
+IsUntypedFor expression (refusal.Parse fault) = ⊥
+IsUntypedFor expression (refusal.Type fault) = checked_within expression no_names ≡ Err fault
+IsUntypedFor expression (refusal.Unverified at) = ⊥
+
+-- a run of the program on no slots ends with this value or error
+pub record EndsWith (program : Image) (outcome : Outcome) : Type 0 where
+  pub charged : ℕ
+  pub steps : ℕ
+  pub run : Run program [] outcome charged steps
 
 -- why a text comes to nothing
 abbrev pub IsRefusedFor : List ℕ → Refusal → Type 0

@@ -1,8 +1,8 @@
 //! The command `eval`.
 
-ghost use Rattle.std.specs.Prelude.{◌≡◌, ◌+◌, ◌<◌, ◌^◌, ◌-◌, IfOk, OnOk, IsErrOf};
+ghost use Rattle.std.specs.Prelude.{◌≡◌, ◌+◌, ◌<◌, ◌^◌, ◌-◌, IfOk, OnOk, IsErrOf, string_bytes};
 ghost use Rattle.vap_cli.specs.Counted.{inner_of, failures_of};
-ghost use Rattle.vap_cli.specs.Eval.{Tells};
+ghost use Rattle.vap_cli.specs.Eval.{Tells, TellsBy};
 ghost use Rattle.vap_cli.specs.declared.eval.EvalError.TheVariants.{OutOfMemory};
 
 use crate::counted::Counted;
@@ -56,10 +56,17 @@ pub fn eval_to<W: Write>(
     ensures write { IsErrOf result EvalError.Write → failures_of out.new ≡ failures_of out.old + 1 }
     ensures memory { IsErrOf result EvalError.OutOfMemory → out.new ≡ out.old }
 {
-    let answer = answer(alloc, text)?;
-    let line = answer.line(alloc)?;
+    let (line, status) = line_and_status(alloc, text)?;
     out.write_all(line.as_bytes())
         .map_err(|_| EvalError::Write)?;
     out.flush().map_err(|_| EvalError::Write)?;
-    Ok(answer.status())
+    Ok(status)
+}
+
+/// The line that tells an expression's answer, and the status for it.
+fn line_and_status(alloc: Global, text: &str) -> Result<(String, Status), AllocError>
+    ensures { IfOk result (λ told. TellsBy text.now (string_bytes told.0) told.1) }
+{
+    let answer = answer(alloc, text)?;
+    Ok((answer.line(alloc)?, answer.status()))
 }

@@ -1,22 +1,23 @@
 //! From the text of an expression to what it comes to.
 
-ghost use Rattle.std.specs.Prelude.{◌≡◌, ℕ, List, [], Some, Err, IfOk, IsErrOf};
+ghost use Rattle.std.specs.Prelude.{◌≡◌, ℕ, List, [], Some, Ok, Err, IfOk, IsErrOf};
 ghost use Rattle.cel_grammar.specs.declared.fault.ParseFault.{ParseFault};
 ghost use Rattle.cel_parse.specs.Parsing.{IsRefused};
 ghost use Rattle.cel_check.specs.declared.fault.TypeFault.{TypeFault};
 ghost use Rattle.cel_check.specs.Meaning.{value_of};
 ghost use Rattle.cel_check.specs.Outcomes.{Outcome, outside};
+ghost use Rattle.cel_check.specs.Typing.{checked_within};
 ghost use Rattle.vap_cli.specs.declared.evaluation.EvaluationError.TheVariants.{OutOfMemory, Refused};
 ghost use Rattle.vap_cli.specs.declared.answer.Refusal.{Refusal};
-ghost use Rattle.vap_cli.specs.Evaluation.{ComesTo, IsAnswer, IsChecked, IsNotRunFor, IsRefusedFor, from_checking, from_parsing, from_verifying};
+ghost use Rattle.vap_cli.specs.Evaluation.{ComesTo, EndsWith, IsAnswer, IsChecked, IsNotRunFor, IsRefusedFor, IsUntypedFor, from_checking, from_parsing, from_verifying, no_names};
 
 use crate::answer::{Answer, Refusal};
 use cel_check::{CheckError, Scope, Typed, check};
 use cel_code::compile;
 use cel_machine::{Slots, run};
-use cel_parse::{ParseError, one_expression, parse};
+use cel_parse::{Expr, ParseError, one_expression, parse};
 use cel_value::{CelError, Value};
-use cel_verify::{VerifyError, verify};
+use cel_verify::{Program, VerifyError, verify};
 use std::alloc::{AllocError, Global};
 
 /// Why an expression has no outcome.
@@ -94,9 +95,27 @@ fn outcome(alloc: Global, text: &str) -> Result<Result<Value, CelError>, Evaluat
     ensures comes { IfOk result (ComesTo text.now) }
     ensures refused { (why : Refusal) → IsErrOf result (Refused why) → IsRefusedFor text.now why }
 {
-    let expression = parse(alloc, text)?;
-    let typed = check(alloc, &expression, &Scope::new(alloc))?;
+    let typed = typed_text(alloc, text)?;
     run_typed(alloc, &typed)
+}
+
+/// The typed tree of a text. No function here holds a tree or an image where it may return early.
+fn typed_text(alloc: Global, text: &str) -> Result<Typed, EvaluationError>
+    ensures checked { IfOk result (λ typed. IsChecked text.now (Ok typed.tree)) }
+    ensures slots { IfOk result (λ typed. typed.slots ≡ []) }
+    ensures refused { (why : Refusal) → IsErrOf result (Refused why) → IsRefusedFor text.now why }
+{
+    let expression = parse(alloc, text)?;
+    typed_expression(alloc, &expression)
+}
+
+/// The typed tree of an expression, where no name is in scope.
+fn typed_expression(alloc: Global, expression: &Expr) -> Result<Typed, EvaluationError>
+    ensures checked { IfOk result (λ typed. checked_within expression.now no_names ≡ Ok typed.tree) }
+    ensures slots { IfOk result (λ typed. typed.slots ≡ []) }
+    ensures refused { (why : Refusal) → IsErrOf result (Refused why) → IsUntypedFor expression.now why }
+{
+    Ok(check(alloc, expression, &Scope::new(alloc))?)
 }
 
 /// The value or error of an expression without slots.
@@ -105,11 +124,30 @@ fn run_typed(alloc: Global, typed: &Typed) -> Result<Result<Value, CelError>, Ev
     ensures comes { IfOk result (λ x. value_of typed.now.tree (outside []) ≡ Some x) }
     ensures refused { (why : Refusal) → IsErrOf result (Refused why) → IsNotRunFor typed.now.tree why }
 {
+    let program = program_of(alloc, typed)?;
+    run_program(alloc, &program)
+}
+
+/// The program of an expression without slots.
+fn program_of(alloc: Global, typed: &Typed) -> Result<Program, EvaluationError>
+    requires { typed.now.slots ≡ [] }
+    ensures runs { IfOk result (λ program. (x : Outcome) → EndsWith program x → value_of typed.now.tree (outside []) ≡ Some x) }
+    ensures slots { IfOk result (λ program. program.slots ≡ []) }
+    ensures refused { (why : Refusal) → IsErrOf result (Refused why) → IsNotRunFor typed.now.tree why }
+{
     let image = compile(alloc, typed)?;
-    let program = match verify(alloc, image) {
-        Ok(program) => program,
-        Err((error, _)) => return Err(EvaluationError::from(error)),
-    };
-    let slots = Slots::new(&program, Vec::new(alloc));
-    Ok(run(alloc, &program, &slots)?.outcome)
+    match verify(alloc, image) {
+        Ok(program) => Ok(program),
+        Err((error, _)) => Err(EvaluationError::from(error)),
+    }
+}
+
+/// What a program without slots ends with.
+fn run_program(alloc: Global, program: &Program) -> Result<Result<Value, CelError>, EvaluationError>
+    requires { program.now.slots ≡ [] }
+    ensures ends { IfOk result (EndsWith program.now) }
+    ensures refused { (why : Refusal) → IsErrOf result (Refused why) → ⊥ }
+{
+    let slots = Slots::new(program, Vec::new(alloc));
+    Ok(run(alloc, program, &slots)?.outcome)
 }
