@@ -1,2 +1,4 @@
 pub mod Families
 pub mod Follow
+pub mod Lent
+pub mod Operand

@@ -7,6 +7,7 @@
 
 mod ended;
 mod machine;
+mod operand;
 mod operate;
 mod slots;
 mod stack;

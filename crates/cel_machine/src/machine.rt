@@ -14,7 +14,8 @@ use std::alloc::{AllocError, Global};
 
 /// Runs a program where its slots hold these. The run is the definition's; it ends within as many steps as there are
 /// instructions, for no more than the dearest route and no more than the budget, with an outcome of the image's type.
-pub fn run(alloc: Global, program: &Program, slots: &Slots) -> Result<Run, AllocError>
+/// Constants and what the slots hold are lent to it, and only the outcome is copied where it is one of them.
+pub fn run<'a>(alloc: Global, program: &'a Program, slots: &'a Slots<'_>) -> Result<Run, AllocError>
     requires { slots_fit program.now.slots slots.now ≡ true }
     ensures run { IfOk result (λ r. IsRun program.now slots.now r.outcome r.charged r.steps) }
     ensures fits { IfOk result (λ r. Fits r.outcome program.now.result) }
@@ -28,7 +29,7 @@ pub fn run(alloc: Global, program: &Program, slots: &Slots) -> Result<Run, Alloc
     let mut charged: u64 = 0;
     let mut steps: u64 = 0;
     while let Some(instr) = image.code.get(at) {
-        match step(alloc, image, *instr, at, &mut stack)? {
+        match step(alloc, image, slots, *instr, at, &mut stack)? {
             Move::GoesTo(charge, to) => {
                 charged += charge;
                 steps += 1;

@@ -1,17 +1,19 @@
-ghost use Rattle.std.specs.Prelude.{◌≡◌, ◌∷◌, [], OnOk, MatchOption, option_copied};
+ghost use Rattle.std.specs.Prelude.{◌≡◌, ◌∷◌, [], OnOk, MatchOption, option_map};
 ghost use Rattle.cel_machine.specs.Follow.{top_of};
+ghost use Rattle.cel_machine.specs.Lent.{lent};
 
+use crate::operand::{Operand, read};
 use cel_value::{CelError, Value};
 use std::alloc::{AllocError, Global};
 use std::marker::Model;
 
 /// The operands, which contracts see as a list with the top first.
 #[derive(Drop)]
-pub struct Stack {
-    items: Vec<Result<Value, CelError>>,
+pub struct Stack<'a> {
+    items: Vec<Result<Operand<'a>, CelError>>,
 }
 
-impl Model for Stack {
+impl<'a> Model for Stack<'a> {
     ghost use Rattle.std.specs.Prelude.{List, reverse};
     ghost use Rattle.std.specs.Coded.{codes};
     ghost use Rattle.cel_value.specs.contracts.value.Value as cel_value;
@@ -24,8 +26,8 @@ impl Model for Stack {
     ghost view = { λ s. reverse s.items.items };
 }
 
-impl Stack {
-    pub fn new(alloc: Global) -> Stack
+impl<'a> Stack<'a> {
+    pub fn new(alloc: Global) -> Stack<'a>
         ensures { result ≡ [] }
     {
         Stack {
@@ -33,22 +35,25 @@ impl Stack {
         }
     }
 
-    pub fn push(&mut self, item: Result<Value, CelError>) -> Result<(), AllocError>
-        ensures { OnOk result (self.new ≡ item ∷ self.old) }
+    pub fn push(&mut self, item: Result<Operand<'a>, CelError>) -> Result<(), AllocError>
+        ensures { OnOk result (self.new ≡ item.entry ∷ self.old) }
     {
         self.items.push(item)?;
         Ok(())
     }
 
-    pub fn pop(&mut self) -> Option<Result<Value, CelError>>
+    pub fn pop(&mut self) -> Option<Result<Operand<'a>, CelError>>
         ensures { MatchOption result ((self.old ≡ []) × (self.new ≡ [])) (λ x. self.old ≡ x ∷ self.new) }
     {
         self.items.pop()
     }
 
-    pub fn top(&self) -> Option<&Result<Value, CelError>>
-        ensures { option_copied result ≡ top_of self.now }
+    pub fn top(&self) -> Option<Result<&Value, CelError>>
+        ensures { option_map lent result ≡ top_of self.now }
     {
-        self.items.last()
+        match self.items.last() {
+            Some(operand) => Some(read(operand)),
+            None => None,
+        }
     }
 }

@@ -15,7 +15,7 @@ step-requires c =
 
 pub overflow_add-charged : goal.overflow_add-charged
 overflow_add-charged c =
-    let t : IsAt c.image-image.result.now c.in-GoesTo.to (c.loop-instr.charged + c.in-GoesTo.charge) (c.loop-instr.steps + 1) = there c.args.program.now c.image-image.result.now c.args.slots.now c.image-image.ensures.accepted c.image-image.ensures.image c.loop-instr.at c.loop-instr.stack c.loop-instr.charged c.loop-instr.steps c.loop-instr.invariant c.in-Some.instr.now c.in_ok-charge.field-0 c.step.new.stack (sym c.in-Some.ensures.value) (c.in_ok-charge.ensures c.args.slots.now []) c.in-GoesTo.charge c.in-GoesTo.to c.in-GoesTo.is in
+    let t : IsAt c.image-image.result.now c.in-GoesTo.to (c.loop-instr.charged + c.in-GoesTo.charge) (c.loop-instr.steps + 1) = there c.args.program.now c.image-image.result.now c.args.slots.now c.image-image.ensures.accepted c.image-image.ensures.image c.loop-instr.at c.loop-instr.stack c.loop-instr.charged c.loop-instr.steps c.loop-instr.invariant c.in-Some.instr.now c.in_ok-charge.field-0 c.step.new.stack (sym c.in-Some.ensures.value) (c.in_ok-charge.ensures []) c.in-GoesTo.charge c.in-GoesTo.to c.in-GoesTo.is in
     omega (arith, t.cheap)
 
 pub overflow_add-steps : goal.overflow_add-steps
@@ -30,7 +30,7 @@ loop-instr-smaller c =
 
 pub loop-instr-preserved : goal.loop-instr-preserved
 loop-instr-preserved c =
-    goes c.args.program.now c.image-image.result.now c.args.slots.now c.image-image.ensures.accepted c.image-image.ensures.image c.loop-instr.at c.loop-instr.stack c.loop-instr.charged c.loop-instr.steps c.loop-instr.invariant c.in-Some.instr.now c.in_ok-charge.field-0 c.step.new.stack (sym c.in-Some.ensures.value) (c.in_ok-charge.ensures c.args.slots.now []) c.in-GoesTo.charge c.in-GoesTo.to c.in-GoesTo.is
+    goes c.args.program.now c.image-image.result.now c.args.slots.now c.image-image.ensures.accepted c.image-image.ensures.image c.loop-instr.at c.loop-instr.stack c.loop-instr.charged c.loop-instr.steps c.loop-instr.invariant c.in-Some.instr.now c.in_ok-charge.field-0 c.step.new.stack (sym c.in-Some.ensures.value) (c.in_ok-charge.ensures []) c.in-GoesTo.charge c.in-GoesTo.to c.in-GoesTo.is
 
 pub overflow_add-result : goal.overflow_add-result
 overflow_add-result c =
@@ -39,7 +39,7 @@ overflow_add-result c =
 
 pub returns-in-EndsWith-clause-fits : goal.returns-in-EndsWith-clause-fits
 returns-in-EndsWith-clause-fits c =
-    outcome_fits c.args.program.now c.image-image.result.now c.args.slots.now c.image-image.ensures.accepted c.image-image.ensures.image c.loop-instr.at c.loop-instr.stack c.loop-instr.charged c.loop-instr.steps c.loop-instr.invariant c.in-Some.instr.now c.in_ok-charge.field-0 c.step.new.stack (sym c.in-Some.ensures.value) (c.in_ok-charge.ensures c.args.slots.now []) c.in-EndsWith.outcome c.in-EndsWith.is
+    outcome_fits c.args.program.now c.image-image.result.now c.args.slots.now c.image-image.ensures.accepted c.image-image.ensures.image c.loop-instr.at c.loop-instr.stack c.loop-instr.charged c.loop-instr.steps c.loop-instr.invariant c.in-Some.instr.now c.in_ok-charge.field-0 c.step.new.stack (sym c.in-Some.ensures.value) (c.in_ok-charge.ensures []) c.in-EndsWith.outcome c.in-EndsWith.is
 
 pub returns-in-EndsWith-clause-steps : goal.returns-in-EndsWith-clause-steps
 returns-in-EndsWith-clause-steps c =
@@ -58,7 +58,7 @@ returns-in-EndsWith-clause-within_budget c =
 
 pub unreachable-requires : goal.unreachable-requires
 unreachable-requires c =
-    not_stuck c.args.program.now c.image-image.result.now c.args.slots.now c.image-image.ensures.accepted c.image-image.ensures.image c.loop-instr.at c.loop-instr.stack c.loop-instr.charged c.loop-instr.steps c.loop-instr.invariant c.in-Some.instr.now c.in_ok-charge.field-0 c.step.new.stack (sym c.in-Some.ensures.value) (c.in_ok-charge.ensures c.args.slots.now []) c.in-IsStuckHere.is
+    not_stuck c.args.program.now c.image-image.result.now c.args.slots.now c.image-image.ensures.accepted c.image-image.ensures.image c.loop-instr.at c.loop-instr.stack c.loop-instr.charged c.loop-instr.steps c.loop-instr.invariant c.in-Some.instr.now c.in_ok-charge.field-0 c.step.new.stack (sym c.in-Some.ensures.value) (c.in_ok-charge.ensures []) c.in-IsStuckHere.is
 
 pub unreachable-requires-2 : goal.unreachable-requires-2
 unreachable-requires-2 c =
