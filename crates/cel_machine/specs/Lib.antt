@@ -2,3 +2,5 @@ pub mod Families
 pub mod Follow
 pub mod Lent
 pub mod Operand
+pub mod Room
+pub mod Parts

@@ -1,5 +1,6 @@
 ghost use Rattle.std.specs.Prelude.{◌≡◌, IfOk};
 ghost use Rattle.cel_machine.specs.Lent.{lent};
+ghost use Rattle.cel_machine.specs.Operand.{content_of};
 
 use cel_value::{CelError, Value};
 use std::alloc::{AllocError, Global};
@@ -62,6 +63,13 @@ impl<'a> Operand<'a> {
             Held::Lent(value) => value,
             Held::Own(value) => value,
         }
+    }
+
+    /// The value, with where it stands.
+    pub fn into_held(self) -> Held<'a>
+        ensures { content_of result ≡ self.entry }
+    {
+        self.held
     }
 
     /// The value, which is copied where it was lent.

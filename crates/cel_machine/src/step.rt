@@ -2,6 +2,7 @@ ghost use Rattle.std.specs.Prelude.{◌≡◌, ◌+◌, ◌<◌, ◌^◌, List, 
 ghost use Rattle.cel_check.specs.Wants.{side_of};
 ghost use Rattle.cel_code.specs.Machine.{Frame, act, inputs_of, push, constant as constant_of, operate_by, made as made_next, join as sides_joined};
 ghost use Rattle.cel_machine.specs.Lent.{lent};
+ghost use Rattle.cel_machine.specs.Room.{HasRoom};
 ghost use Rattle.cel_machine.specs.Follow.{metered, metered_one, metered_two, next_of, test_of, join_of, sides_of, branch_of};
 
 use crate::operand::{Operand, outcome_of, own, read};
@@ -31,20 +32,22 @@ pub fn step<'a>(
     at: usize,
     stack: &mut Stack<'a>,
 ) -> Result<Move, AllocError>
-    requires { at + 1 < 2 ^ 64 }
-    ensures { IfOk result (λ m. (frames : List Frame) → metered (act (inputs_of image.now slots.now) instr at stack.old frames) ≡ next_of m stack.new frames) }
+    requires at { at + 1 < 2 ^ 64 }
+    requires room { HasRoom stack.old }
+    ensures acts { IfOk result (λ m. (frames : List Frame) → metered (act (inputs_of image.now slots.now) instr at stack.old.items frames) ≡ next_of m stack.new.items frames) }
+    ensures room { stack.new.room ≡ stack.old.room }
 {
     match instr {
-        Instr::Const(number) => constant(image, number, at, stack),
-        Instr::Op(code) => match Operator::from_code(code) {
+        Instr::Const(number) => Ok(constant(image, number, at, stack)),
+        Instr::Op(code) => Ok(match Operator::from_code(code) {
             Some(op) => operate(op, at, stack),
-            None => Ok(Move::IsStuckHere),
-        },
+            None => Move::IsStuckHere,
+        }),
         Instr::AndTest(to) => Ok(test(stack, false, to, at)),
         Instr::OrTest(to) => Ok(test(stack, true, to, at)),
-        Instr::And => join(stack, true, at),
-        Instr::Or => join(stack, false, at),
-        Instr::Cond(if_false, if_error) => branch(stack, if_false, if_error, at),
+        Instr::And => Ok(join(stack, true, at)),
+        Instr::Or => Ok(join(stack, false, at)),
+        Instr::Cond(if_false, if_error) => Ok(branch(stack, if_false, if_error, at)),
         Instr::Jump(to) => Ok(Move::GoesTo(0, to)),
         Instr::End => Ok(match stack.pop() {
             Some(x) => Move::EndsWith(outcome_of(alloc, x)?),
@@ -53,25 +56,24 @@ pub fn step<'a>(
     }
 }
 
-fn constant<'a>(
-    image: &'a Image,
-    number: usize,
-    at: usize,
-    stack: &mut Stack<'a>,
-) -> Result<Move, AllocError>
-    requires { at + 1 < 2 ^ 64 }
-    ensures { IfOk result (λ m. (frames : List Frame) → metered (push (constant_of (slice_get image.now.constants number)) at stack.old frames) ≡ next_of m stack.new frames) }
+fn constant<'a>(image: &'a Image, number: usize, at: usize, stack: &mut Stack<'a>) -> Move
+    requires at { at + 1 < 2 ^ 64 }
+    requires room { HasRoom stack.old }
+    ensures acts { (frames : List Frame) → metered (push (constant_of (slice_get image.now.constants number)) at stack.old.items frames) ≡ next_of result stack.new.items frames }
+    ensures room { stack.new.room ≡ stack.old.room }
 {
     let Some(value) = image.constants.get(number) else {
-        return Ok(Move::IsStuckHere);
+        return Move::IsStuckHere;
     };
-    stack.push(Ok(Operand::lent(value)))?;
-    Ok(Move::GoesTo(0, at + 1))
+    stack.push(Ok(Operand::lent(value)));
+    Move::GoesTo(0, at + 1)
 }
 
-fn operate(op: Operator, at: usize, stack: &mut Stack<'_>) -> Result<Move, AllocError>
-    requires { at + 1 < 2 ^ 64 }
-    ensures { IfOk result (λ m. (frames : List Frame) → metered (operate_by (Some op) at stack.old frames) ≡ next_of m stack.new frames) }
+fn operate(op: Operator, at: usize, stack: &mut Stack<'_>) -> Move
+    requires at { at + 1 < 2 ^ 64 }
+    requires room { HasRoom stack.old }
+    ensures acts { (frames : List Frame) → metered (operate_by (Some op) at stack.old.items frames) ≡ next_of result stack.new.items frames }
+    ensures room { stack.new.room ≡ stack.old.room }
 {
     match op {
         Operator::Not => operate_one(op, at, stack),
@@ -80,38 +82,44 @@ fn operate(op: Operator, at: usize, stack: &mut Stack<'_>) -> Result<Move, Alloc
     }
 }
 
-fn operate_one(op: Operator, at: usize, stack: &mut Stack<'_>) -> Result<Move, AllocError>
-    requires { at + 1 < 2 ^ 64 }
-    ensures { IfOk result (λ m. (frames : List Frame) → metered_one op at stack.old frames ≡ next_of m stack.new frames) }
+fn operate_one(op: Operator, at: usize, stack: &mut Stack<'_>) -> Move
+    requires at { at + 1 < 2 ^ 64 }
+    requires room { HasRoom stack.old }
+    ensures acts { (frames : List Frame) → metered_one op at stack.old.items frames ≡ next_of result stack.new.items frames }
+    ensures room { stack.new.room ≡ stack.old.room }
 {
     let Some(x) = stack.pop() else {
-        return Ok(Move::IsStuckHere);
+        return Move::IsStuckHere;
     };
     finish(on_one(op, read(&x)), at, stack)
 }
 
-fn operate_two(op: Operator, at: usize, stack: &mut Stack<'_>) -> Result<Move, AllocError>
-    requires { at + 1 < 2 ^ 64 }
-    ensures { IfOk result (λ m. (frames : List Frame) → metered_two op at stack.old frames ≡ next_of m stack.new frames) }
+fn operate_two(op: Operator, at: usize, stack: &mut Stack<'_>) -> Move
+    requires at { at + 1 < 2 ^ 64 }
+    requires room { HasRoom stack.old }
+    ensures acts { (frames : List Frame) → metered_two op at stack.old.items frames ≡ next_of result stack.new.items frames }
+    ensures room { stack.new.room ≡ stack.old.room }
 {
     let Some(y) = stack.pop() else {
-        return Ok(Move::IsStuckHere);
+        return Move::IsStuckHere;
     };
     let Some(x) = stack.pop() else {
-        return Ok(Move::IsStuckHere);
+        return Move::IsStuckHere;
     };
     finish(on_two(op, read(&x), read(&y)), at, stack)
 }
 
-fn finish(made: Option<Made>, at: usize, stack: &mut Stack<'_>) -> Result<Move, AllocError>
-    requires { at + 1 < 2 ^ 64 }
-    ensures { IfOk result (λ m. (frames : List Frame) → made_next made at stack.old frames ≡ next_of m stack.new frames) }
+fn finish(made: Option<Made>, at: usize, stack: &mut Stack<'_>) -> Move
+    requires at { at + 1 < 2 ^ 64 }
+    requires room { HasRoom stack.old }
+    ensures acts { (frames : List Frame) → made_next made at stack.old.items frames ≡ next_of result stack.new.items frames }
+    ensures room { stack.new.room ≡ stack.old.room }
 {
     let Some(made) = made else {
-        return Ok(Move::IsStuckHere);
+        return Move::IsStuckHere;
     };
-    stack.push(own(made.outcome))?;
-    Ok(Move::GoesTo(made.charge, at + 1))
+    stack.push(own(made.outcome));
+    Move::GoesTo(made.charge, at + 1)
 }
 
 // The truth value or error that an operand is, if it is one.
@@ -128,7 +136,7 @@ fn side(x: Result<&Value, CelError>) -> Option<Result<bool, CelError>>
 // The jump of a test, which is taken where the top is this truth value.
 fn test(stack: &Stack<'_>, ends: bool, to: usize, at: usize) -> Move
     requires { at + 1 < 2 ^ 64 }
-    ensures { (frames : List Frame) → metered (test_of ends stack.now to at frames) ≡ next_of result stack.now frames }
+    ensures { (frames : List Frame) → metered (test_of ends stack.now.items to at frames) ≡ next_of result stack.now.items frames }
 {
     let Some(x) = stack.top() else {
         return Move::IsStuckHere;
@@ -141,21 +149,23 @@ fn test(stack: &Stack<'_>, ends: bool, to: usize, at: usize) -> Move
 }
 
 // Both sides of `&&`, where `all` is true, or of `||`.
-fn join(stack: &mut Stack<'_>, all: bool, at: usize) -> Result<Move, AllocError>
-    requires { at + 1 < 2 ^ 64 }
-    ensures { IfOk result (λ m. (frames : List Frame) → metered (join_of all stack.old at frames) ≡ next_of m stack.new frames) }
+fn join(stack: &mut Stack<'_>, all: bool, at: usize) -> Move
+    requires at { at + 1 < 2 ^ 64 }
+    requires room { HasRoom stack.old }
+    ensures acts { (frames : List Frame) → metered (join_of all stack.old.items at frames) ≡ next_of result stack.new.items frames }
+    ensures room { stack.new.room ≡ stack.old.room }
 {
     let Some(y) = stack.pop() else {
-        return Ok(Move::IsStuckHere);
+        return Move::IsStuckHere;
     };
     let Some(x) = stack.pop() else {
-        return Ok(Move::IsStuckHere);
+        return Move::IsStuckHere;
     };
     let Some(both) = joined(all, side(read(&x)), side(read(&y))) else {
-        return Ok(Move::IsStuckHere);
+        return Move::IsStuckHere;
     };
-    stack.push(own(both))?;
-    Ok(Move::GoesTo(0, at + 1))
+    stack.push(own(both));
+    Move::GoesTo(0, at + 1)
 }
 
 fn joined(
@@ -173,25 +183,22 @@ fn joined(
     })
 }
 
-fn branch(
-    stack: &mut Stack<'_>,
-    if_false: usize,
-    if_error: usize,
-    at: usize,
-) -> Result<Move, AllocError>
-    requires { at + 1 < 2 ^ 64 }
-    ensures { IfOk result (λ m. (frames : List Frame) → metered (branch_of if_false if_error stack.old at frames) ≡ next_of m stack.new frames) }
+fn branch(stack: &mut Stack<'_>, if_false: usize, if_error: usize, at: usize) -> Move
+    requires at { at + 1 < 2 ^ 64 }
+    requires room { HasRoom stack.old }
+    ensures acts { (frames : List Frame) → metered (branch_of if_false if_error stack.old.items at frames) ≡ next_of result stack.new.items frames }
+    ensures room { stack.new.room ≡ stack.old.room }
 {
     let Some(x) = stack.pop() else {
-        return Ok(Move::IsStuckHere);
+        return Move::IsStuckHere;
     };
     match side(read(&x)) {
-        Some(Ok(true)) => Ok(Move::GoesTo(1, at + 1)),
-        Some(Ok(false)) => Ok(Move::GoesTo(1, if_false)),
+        Some(Ok(true)) => Move::GoesTo(1, at + 1),
+        Some(Ok(false)) => Move::GoesTo(1, if_false),
         Some(Err(e)) => {
-            stack.push(Err(e))?;
-            Ok(Move::GoesTo(1, if_error))
+            stack.push(Err(e));
+            Move::GoesTo(1, if_error)
         }
-        None => Ok(Move::IsStuckHere),
+        None => Move::IsStuckHere,
     }
 }

@@ -9,3 +9,5 @@ pub mod Steps
 pub mod Turns
 pub mod Walking
 mod WorkedRows
+pub mod Depths
+pub mod Bounded

@@ -5,3 +5,4 @@ pub mod StackTypes
 pub mod Walked
 pub mod Typed
 pub mod Labelled
+pub mod Depths

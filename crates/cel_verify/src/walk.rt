@@ -1,5 +1,6 @@
-ghost use Rattle.std.specs.Prelude.{◌≡◌, ◌+◌, ◌<◌, ◌^◌, Some, Ok, Err, false, IsTrue, MatchResult, length, slice_get};
+ghost use Rattle.std.specs.Prelude.{◌≡◌, ◌+◌, ◌<◌, ◌^◌, Some, Ok, Err, false, IsTrue, IfOk, MatchResult, length, slice_get};
 ghost use Rattle.cel_verify.specs.Sound.{rule_at, entered, shallow, entry_in, entry_or};
+ghost use Rattle.cel_verify.specs.Depths.{operands_of, greatest_depth};
 ghost use Rattle.cel_verify.specs.Walked.{Refuses, Advances, AllHold, AreCharges, IsWalkFault, labelled};
 
 use crate::charges::charge;
@@ -13,16 +14,28 @@ use std::alloc::Global;
 
 const MAX_DEPTH: usize = 16_384;
 
-/// Each instruction in turn: the greatest charges, where each keeps its rule.
-pub fn walk(alloc: Global, image: &Image) -> Result<Vec<u64>, VerifyError>
-    ensures { MatchResult result (λ charges. AllHold image.now × AreCharges image.now (length image.now.code) charges.items) (λ e. IsWalkFault image.now e) }
+/// What is known of code where each instruction keeps its rule.
+#[derive(Drop)]
+pub struct Measures {
+    /// The greatest charge of each instruction.
+    pub charges: Vec<u64>,
+    /// The most operands at any instruction.
+    pub depth: usize,
+}
+
+/// Each instruction in turn.
+pub fn walk(alloc: Global, image: &Image) -> Result<Measures, VerifyError>
+    ensures rules { MatchResult result (λ measures. AllHold image.now × AreCharges image.now (length image.now.code) measures.charges.items) (λ e. IsWalkFault image.now e) }
+    ensures depth { IfOk result (λ measures. measures.depth ≡ greatest_depth image.now) }
 {
     let _len = image.code.len();
     let mut charges = Vec::new(alloc);
     let mut label = Some(TypeStack::new(alloc));
+    let mut depth = 0;
     let mut at = 0;
     while let Some(instr) = image.code.get(at) {
         charges.push(charge(*instr, &label))?;
+        depth = depth.max(operands(&label));
         match advance(alloc, image, *instr, at, label) {
             Ok(there) => label = there,
             Err(Refusal::Broken(rule)) => return Err(VerifyError::Fault(VerifyFault { rule, at })),
@@ -30,7 +43,17 @@ pub fn walk(alloc: Global, image: &Image) -> Result<Vec<u64>, VerifyError>
         }
         at += 1;
     }
-    Ok(charges)
+    Ok(Measures { charges, depth })
+}
+
+// How many operands there are, where the instruction is reached.
+fn operands(label: &Option<TypeStack>) -> usize
+    ensures { result ≡ operands_of label.now }
+{
+    match label {
+        Some(types) => types.len(),
+        None => 0,
+    }
 }
 
 // The rule of one instruction: the types of the stack at the next one, if it is reached.
