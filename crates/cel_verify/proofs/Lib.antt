@@ -1,3 +1,4 @@
+pub mod Firsts
 pub mod Labels
 pub mod Operations
 pub mod Pairwise

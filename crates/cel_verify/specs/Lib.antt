@@ -1,4 +1,5 @@
 pub mod Accepted
+pub mod Arrivals
 pub mod Paths
 pub mod Sound
 pub mod StackTypes
