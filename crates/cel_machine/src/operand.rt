@@ -15,7 +15,7 @@ pub struct Operand<'a> {
 
 /// Where the value of an operand stands.
 #[derive(Drop)]
-pub enum Held<'a> {
+pub(crate) enum Held<'a> {
     /// Among the constants or in a slot, or within what stands there.
     Lent(&'a Value),
     /// On the stack.
@@ -66,7 +66,7 @@ impl<'a> Operand<'a> {
     }
 
     /// The value, with where it stands.
-    pub fn into_held(self) -> Held<'a>
+    pub(crate) fn into_held(self) -> Held<'a>
         ensures { content_of result ≡ self.entry }
     {
         self.held
