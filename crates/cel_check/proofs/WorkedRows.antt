@@ -12,7 +12,8 @@ use Rattle.cel_check.specs.declared.tree.Form.TheVariants as form
 use Rattle.cel_check.specs.Outcomes.{Env}
 use Rattle.cel_check.specs.Operators.{bool_where, row, at_one, at_two, type_of_two}
 use Rattle.cel_check.specs.Meaning.{value_at, cost_at}
-use Rattle.cel_value.proofs.Joins.{join-Int-Bool, join-self}
+use Rattle.cel_value.proofs.Joins.{join-Int-Bool}
+use Rattle.cel_value.proofs.Taken.{join-self}
 use Rattle.cel_check.proofs.Opened.{out-type-Bool, out-type-Int}
 use Rattle.cel_check.specs.Typing.{Names, node, refused, checked_at}
 
