@@ -1,3 +1,4 @@
+pub mod Numbering
 pub mod OneRun
 pub mod Place
 pub mod Runs

@@ -4,3 +4,4 @@ pub mod Drafts
 pub mod Jumps
 pub mod Machine
 pub mod Placed
+pub mod Numbered

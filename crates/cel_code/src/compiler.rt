@@ -9,10 +9,11 @@ ghost use Rattle.cel_code.specs.Drafts.{drafted, Grows, Writes, WritesWithin};
 ghost use Rattle.cel_code.specs.Correct.{Computes};
 ghost use Rattle.cel_code.specs.Jumps.{TargetsAreJumps};
 
+use crate::constants::Constants;
 use crate::image::{Image, Target};
 use crate::instr::Instr;
 use cel_check::{Form, Typed, TypedTree};
-use cel_value::{CelType, Value, copy_types, equal};
+use cel_value::{CelType, Value, copy_types};
 use plain::Items;
 use std::alloc::{AllocError, Global};
 
@@ -42,7 +43,7 @@ pub fn compile(alloc: Global, typed: &Typed) -> Result<Image, AllocError>
     } = draft;
     Ok(Image {
         slots,
-        constants,
+        constants: constants.into_items(),
         targets,
         result: typed.tree.get().cel_type.copy()?,
         code,
@@ -53,7 +54,7 @@ pub fn compile(alloc: Global, typed: &Typed) -> Result<Image, AllocError>
 #[derive(Drop)]
 struct Draft {
     alloc: Global,
-    constants: Items<Value>,
+    constants: Constants,
     targets: Items<Target>,
     code: Items<Instr>,
     below: Items<CelType>,
@@ -74,7 +75,7 @@ impl Draft {
     {
         Draft {
             alloc,
-            constants: Items::new(alloc),
+            constants: Constants::new(alloc),
             targets: Items::new(alloc),
             code: Items::new(alloc),
             below: Items::new(alloc),
@@ -105,28 +106,16 @@ impl Draft {
         self.code.set(at, instr);
     }
 
-    /// The number under which a constant stands, if it does.
-    fn number_of(&self, value: &Value) -> Option<usize>
-        ensures { MatchOption result (¬ Contains self.now.constants value.now) (λ k. slice_get self.now.constants k ≡ Some value.now) }
-    {
-        for (number, constant) in self.constants.as_slice().iter().enumerate() {
-            if equal(constant, value) {
-                return Some(number);
-            }
-        }
-        None
-    }
-
     /// The number of a constant, which is added where it is not there.
     fn intern(&mut self, value: &Value) -> Result<usize, AllocError>
         ensures number { IfOk result (λ k. Interns (drafted self.old) (drafted self.new) value.now k) }
         ensures grows { IfOk result (λ k. Grows self.old self.new 0 (value.now ∷ []) []) }
     {
-        if let Some(number) = self.number_of(value) {
+        if let Some(number) = self.constants.number_of(value) {
             return Ok(number);
         }
         let number = self.constants.len();
-        self.constants.push(value.copy(self.alloc)?)?;
+        self.constants.push(self.alloc, value)?;
         Ok(number)
     }
 

@@ -4,6 +4,7 @@
 #![tactic(auto)]
 
 mod compiler;
+mod constants;
 mod image;
 mod instr;
 

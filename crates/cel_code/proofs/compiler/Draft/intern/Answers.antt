@@ -8,7 +8,7 @@ returns-in-Some-clause-grows c = grows_found c.args.self.now c.args.value.now c.
 
 pub returns-clause-number : goal.returns-clause-number
 returns-clause-number c =
-    interned _ _ c.args.value.now _ _ c.in_ok-copy.ensures (search rules) c.in_ok-push.ensures.ok refl
+    interned _ _ c.args.value.now _ _ refl (search rules) c.in_ok-push.ensures refl
 
 pub returns-clause-grows : goal.returns-clause-grows
-returns-clause-grows c = grows_new _ _ c.args.value.now _ c.in_ok-copy.ensures c.in_default.ensures c.in_ok-push.ensures.ok refl refl refl
+returns-clause-grows c = grows_new _ _ c.args.value.now _ refl c.in_default.ensures c.in_ok-push.ensures refl refl refl
