@@ -1,8 +1,9 @@
 //! From a schema to the type of what it describes.
 
-ghost use Rattle.std.specs.Prelude.{◌≡◌, IfOk};
+ghost use Rattle.std.specs.Prelude.{◌≡◌, if◌then◌else◌, codes, IfOk};
+ghost use Rattle.cel_value.specs.declared.cel_type.CelType as T;
 ghost use Rattle.serde_json.specs.View.{view, items_view, members_view};
-ghost use Rattle.vap_schema.specs.Schemas.{Answers, schema_type, nested_type, own_type, untyped, list_type, object_type, record_type, bare_type, map_type, entry_type, fields_of, field_of, object_type_of, is_named, IsInTextOrder};
+ghost use Rattle.vap_schema.specs.Schemas.{Answers, schema_type, nested_type, own_type, untyped, limit, list_type, object_type, record_type, bare_type, map_type, entry_type, fields_of, field_of, object_type_of, is_named, IsInTextOrder};
 
 use crate::fixed_types::with_fixed_fields;
 use crate::keywords::{
@@ -77,6 +78,13 @@ fn read_nested(levels: u32, alloc: Global, schema: &Json) -> Result<CelType, Sch
     }
     let nullable = flag(schema, "nullable")?;
     let cel_type = read_own(levels, alloc, schema)?;
+    Ok(or_null(alloc, nullable, cel_type)?)
+}
+
+/// A type, or the one that null has too.
+fn or_null(alloc: Global, nullable: bool, cel_type: CelType) -> Result<CelType, AllocError>
+    ensures { IfOk result (λ t. t ≡ (if nullable then T.Nullable cel_type else cel_type)) }
+{
     if nullable {
         Ok(CelType::Nullable(Shared::new(alloc, cel_type)?))
     } else {
@@ -116,11 +124,18 @@ fn untyped(schema: &Json) -> Result<CelType, SchemaFault>
     }
 }
 
+/// How many items a list may have.
+fn max_items(schema: &Json) -> Result<u32, SchemaFault>
+    ensures { result ≡ limit (codes "maxItems") 524287 (view schema.now) }
+{
+    limit(schema, "maxItems", 524_287)
+}
+
 #[cycle(read_schema)]
 fn read_list(levels: u32, alloc: Global, schema: &Json) -> Result<CelType, SchemaError>
     ensures { Answers (list_type (schema_type levels) (view schema.now)) result }
 {
-    let max = limit(schema, "maxItems", 524_287)?;
+    let max = max_items(schema)?;
     let plain = is_plain(schema)?;
     match schema.get("items") {
         Some(items) => {
