@@ -9,7 +9,8 @@ use Rattle.cel_value.specs.declared.value.Value.TheOpen.{Value-F}
 abbrev pub Values : Type 0
 Values = List Value
 
--- the kind of a value and its content, where the value is null, a truth value or a number
+-- the kind of a value and its content, where the value is null, a truth value or a number: of kind 0 is null, of 1 a truth
+-- value, of 2 an integer from 0 on, of 3 a negative one, by its amount, and of 4 a number without a sign
 abbrev pub key_at : Value-F Value → Option (ℕ × ℕ)
 key_at Value-F.Null = Some (0, 0)
 key_at (Value-F.Bool false) = Some (1, 0)
