@@ -13,6 +13,8 @@ use Rattle.cel_value.specs.CelType.{greatest_of, join}
 use Rattle.cel_check.specs.declared.operator.Operator.{Operator}
 use Rattle.cel_check.specs.declared.operator.Operator.TheVariants.{Not, Negate, Add, Subtract, Multiply, Divide, Remainder, Equal, NotEqual, Less, AtMost, Greater, AtLeast}
 pub use Rattle.cel_check.specs.declared.operator.Made.{Made}
+use Rattle.cel_check.specs.declared.operands.Operands.TheVariants as operands
+use Rattle.cel_check.specs.declared.operands.Operands.{Operands}
 use Rattle.cel_check.specs.declared.fault.TypeRule.{TypeRule}
 use Rattle.cel_check.specs.declared.fault.TypeRule.TheVariants.{NoOverload}
 use Rattle.cel_check.specs.Outcomes.{Outcome}
@@ -36,6 +38,11 @@ pub record TwoRow (v w : Want) : Type 0 where
 pub data Row : Type 0 where
   One : (w : Want) → OneRow w → Row
   Two : (v w : Want) → TwoRow v w → Row
+
+-- how many operands a row has, and their kinds
+abbrev pub operands_of : Row → Operands
+operands_of (One w r) = operands.One w
+operands_of (Two v w r) = operands.Two v w
 
 -- whether a whole number is an int of 64 bits
 abbrev pub in_range : ℤ → Bool

@@ -1,11 +1,12 @@
 ghost use Rattle.std.specs.Prelude.{◌≡◌};
 ghost use Rattle.cel_value.specs.CelType.{join as type_join};
-ghost use Rattle.cel_check.specs.Operators.{row, bool_where, code_of, operator_of, type_of_one, type_of_two};
+ghost use Rattle.cel_check.specs.Operators.{row, bool_where, code_of, operands_of, operator_of, type_of_one, type_of_two};
 ghost use Rattle.cel_check.specs.Meaning.{is_truth, is_there};
 ghost use Rattle.cel_check.specs.Wants.{Whole, Ordered, limit_of};
 ghost use Rattle.cel_check.specs.Typing.{Tells};
 
 use crate::fault::{TypeRule, Untyped};
+use crate::operands::{Operands, Want};
 use cel_value::{CelError, CelType, Value, join};
 use std::alloc::Global;
 
@@ -60,6 +61,25 @@ impl Operator {
             Operator::AtMost => 17,
             Operator::Greater => 18,
             Operator::AtLeast => 19,
+        }
+    }
+
+    /// How many operands the operator has, and what each must be.
+    pub fn operands(&self) -> Operands
+        ensures { result ≡ operands_of (row self.now) }
+    {
+        match self {
+            Operator::Not => Operands::One(Want::Truth),
+            Operator::Negate => Operands::One(Want::Whole),
+            Operator::Add
+            | Operator::Subtract
+            | Operator::Multiply
+            | Operator::Divide
+            | Operator::Remainder => Operands::Two(Want::Whole, Want::Whole),
+            Operator::Equal | Operator::NotEqual => Operands::Two(Want::Any, Want::Any),
+            Operator::Less | Operator::AtMost | Operator::Greater | Operator::AtLeast => {
+                Operands::Two(Want::Ordered, Want::Ordered)
+            }
         }
     }
 
