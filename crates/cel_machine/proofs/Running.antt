@@ -12,6 +12,8 @@ use Rattle.cel_verify.specs.Paths.{charge_at, path_cost, path_steps}
 use Rattle.cel_verify.specs.Typed.{total, GoesOn}
 use Rattle.cel_verify.specs.Accepted.{IsAccepted, budget, max_count}
 use Rattle.cel_machine.specs.Follow.{metered, next_of}
+use Rattle.cel_verify.specs.Depths.{greatest_depth}
+use Rattle.cel_verify.proofs.Depths.{never_more}
 use Rattle.cel_verify.proofs.Steps.{begins, gets_typed, one_left, runs_within, step_goes}
 use Rattle.cel_verify.proofs.Turns.{one_more}
 
@@ -70,6 +72,10 @@ module _ (p image : Image) (slots : List Outcome) (accepted : IsAccepted p) (is 
     -- a step charges no more than the budget, so that its charge is counted whole
     metered_is : metered (step image slots (on at stack [])) ≡ step image slots (on at stack [])
     metered_is = subst (λ j. metered (step j slots (on at stack [])) ≡ step j slots (on at stack [])) (sym is) (metered_at (on at stack []) charged steps gets)
+
+    -- no more operands than at any instruction
+    pub deep : length stack ≤ greatest_depth image
+    deep = subst (λ i. length stack ≤ greatest_depth i) (sym is) (never_more p slots accepted.sound (on at stack []) charged steps gets)
 
     module _ (i : Instr) (m : Move) (stack' : List Outcome) (hi : slice_get image.code at ≡ Some i) (e : metered (act (inputs_of image slots) i at stack []) ≡ next_of m stack' []) where
       steps_to : step image slots (on at stack []) ≡ next_of m stack' []

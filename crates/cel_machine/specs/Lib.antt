@@ -1,2 +1,6 @@
 pub mod Families
 pub mod Follow
+pub mod Lent
+pub mod Operand
+pub mod Room
+pub mod Parts

@@ -14,7 +14,9 @@ use std::alloc::{AllocError, Global};
 
 /// Runs a program where its slots hold these. The run is the definition's; it ends within as many steps as there are
 /// instructions, for no more than the dearest route and no more than the budget, with an outcome of the image's type.
-pub fn run(alloc: Global, program: &Program, slots: &Slots) -> Result<Run, AllocError>
+/// Constants and what the slots hold are lent to it: memory is taken for the stack, once, before the first step, and for
+/// the outcome where it is a copy of one of them.
+pub fn run<'a>(alloc: Global, program: &'a Program, slots: &'a Slots<'_>) -> Result<Run, AllocError>
     requires { slots_fit program.now.slots slots.now ≡ true }
     ensures run { IfOk result (λ r. IsRun program.now slots.now r.outcome r.charged r.steps) }
     ensures fits { IfOk result (λ r. Fits r.outcome program.now.result) }
@@ -23,12 +25,12 @@ pub fn run(alloc: Global, program: &Program, slots: &Slots) -> Result<Run, Alloc
     ensures within_budget { IfOk result (λ r. r.charged ≤ budget) }
 {
     let image = program.image();
-    let mut stack = Stack::new(alloc);
+    let mut stack = Stack::with_room(alloc, program.max_depth() + 1)?;
     let mut at = 0;
     let mut charged: u64 = 0;
     let mut steps: u64 = 0;
     while let Some(instr) = image.code.get(at) {
-        match step(alloc, image, *instr, at, &mut stack)? {
+        match step(alloc, image, slots, *instr, at, &mut stack)? {
             Move::GoesTo(charge, to) => {
                 charged += charge;
                 steps += 1;

@@ -4,18 +4,19 @@ ghost use Rattle.cel_check.specs.Meaning.{is_there};
 ghost use Rattle.cel_check.specs.Wants.{Ordered, taken};
 ghost use Rattle.cel_machine.specs.Families.{IsArithmetic, IsOrder, computed, equality_of, truth_where};
 ghost use Rattle.cel_machine.specs.Follow.{counted};
+ghost use Rattle.cel_machine.specs.Lent.{lent};
 
 use cel_check::{Made, Operator};
 use cel_value::{CelError, Value, equal, weight};
 
 /// What an operator makes of one operand; nothing where it takes another count or another kind.
-pub fn on_one(op: Operator, x: &Result<Value, CelError>) -> Option<Made>
-    ensures { result ≡ at_one (row op) (Some x.now) }
+pub fn on_one(op: Operator, x: Result<&Value, CelError>) -> Option<Made>
+    ensures { result ≡ at_one (row op) (Some (lent x.entry)) }
 {
     match (op, x) {
         (Operator::Not, Ok(Value::Bool(b))) => made(Ok(Value::Bool(!*b)), 1),
         (Operator::Negate, Ok(Value::Int(n))) => made(negated(*n), 1),
-        (Operator::Not | Operator::Negate, Err(e)) => made(Err(*e), 1),
+        (Operator::Not | Operator::Negate, Err(e)) => made(Err(e), 1),
         _ => None,
     }
 }
@@ -23,10 +24,10 @@ pub fn on_one(op: Operator, x: &Result<Value, CelError>) -> Option<Made>
 /// What an operator makes of two operands; nothing where it takes another count or other kinds.
 pub fn on_two(
     op: Operator,
-    x: &Result<Value, CelError>,
-    y: &Result<Value, CelError>,
+    x: Result<&Value, CelError>,
+    y: Result<&Value, CelError>,
 ) -> Option<Made>
-    ensures { result ≡ counted (at_two (row op) (Some x.now) (Some y.now)) }
+    ensures { result ≡ counted (at_two (row op) (Some (lent x.entry)) (Some (lent y.entry))) }
 {
     match op {
         Operator::Not | Operator::Negate => None,
@@ -51,16 +52,16 @@ fn made(outcome: Result<Value, CelError>, charge: u64) -> Option<Made>
 
 fn arithmetic(
     op: Operator,
-    x: &Result<Value, CelError>,
-    y: &Result<Value, CelError>,
+    x: Result<&Value, CelError>,
+    y: Result<&Value, CelError>,
 ) -> Option<Made>
     requires { IsArithmetic op }
-    ensures { result ≡ counted (at_two (row op) (Some x.now) (Some y.now)) }
+    ensures { result ≡ counted (at_two (row op) (Some (lent x.entry)) (Some (lent y.entry))) }
 {
     match (x, y) {
         (Ok(Value::Int(m)), Ok(Value::Int(n))) => made(computed(op, *m, *n), 1),
-        (Ok(Value::Int(_)), Err(e)) => made(Err(*e), 1),
-        (Err(e), Ok(Value::Int(_)) | Err(_)) => made(Err(*e), 1),
+        (Ok(Value::Int(_)), Err(e)) => made(Err(e), 1),
+        (Err(e), Ok(Value::Int(_)) | Err(_)) => made(Err(e), 1),
         _ => None,
     }
 }
@@ -139,11 +140,12 @@ fn remainder(m: i64, n: i64) -> Result<Value, CelError>
     }
 }
 
-fn equality(is: bool, x: &Result<Value, CelError>, y: &Result<Value, CelError>) -> Option<Made>
-    ensures { result ≡ counted (at_two (equality_of is) (Some x.now) (Some y.now)) }
+fn equality(is: bool, x: Result<&Value, CelError>, y: Result<&Value, CelError>) -> Option<Made>
+    ensures { result ≡ counted (at_two (equality_of is) (Some (lent x.entry)) (Some (lent y.entry))) }
 {
     match (x, y) {
-        (Err(e), _) | (Ok(_), Err(e)) => made(Err(*e), 1),
+        (Err(e), _) => made(Err(e), 1),
+        (Ok(_), Err(e)) => made(Err(e), 1),
         (Ok(v), Ok(w)) => made(Ok(Value::Bool(equal(v, w) == is)), lesser_weight(v, w)),
     }
 }
@@ -155,21 +157,22 @@ fn lesser_weight(v: &Value, w: &Value) -> u64
 }
 
 /// Whether an outcome may be an operand of a comparison by order.
-fn has_order(x: &Result<Value, CelError>) -> bool
-    ensures { result ≡ is_there (taken Ordered (Some x.now)) }
+fn has_order(x: Result<&Value, CelError>) -> bool
+    ensures { result ≡ is_there (taken Ordered (Some (lent x.entry))) }
 {
     matches!(x, Ok(Value::Bool(_) | Value::Int(_)) | Err(_))
 }
 
-fn order(op: Operator, x: &Result<Value, CelError>, y: &Result<Value, CelError>) -> Option<Made>
+fn order(op: Operator, x: Result<&Value, CelError>, y: Result<&Value, CelError>) -> Option<Made>
     requires { IsOrder op }
-    ensures { result ≡ counted (at_two (row op) (Some x.now) (Some y.now)) }
+    ensures { result ≡ counted (at_two (row op) (Some (lent x.entry)) (Some (lent y.entry))) }
 {
     if !(has_order(x) && has_order(y)) {
         return None;
     }
     match (x, y) {
-        (Err(e), _) | (Ok(_), Err(e)) => made(Err(*e), 1),
+        (Err(e), _) => made(Err(e), 1),
+        (Ok(_), Err(e)) => made(Err(e), 1),
         (Ok(v), Ok(w)) => match op {
             Operator::Less => truth(less(v, w), true, lesser_weight(v, w)),
             Operator::AtMost => truth(less(w, v), false, lesser_weight(v, w)),

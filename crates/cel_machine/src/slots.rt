@@ -1,55 +1,68 @@
-ghost use Rattle.std.specs.Prelude.{◌≡◌, Some, true};
+ghost use Rattle.std.specs.Prelude.{◌≡◌, Some, true, option_map, slice_get};
 ghost use Rattle.cel_check.specs.Outcomes.{outcome_fits, slots_fit as fits_slots};
+ghost use Rattle.cel_machine.specs.Lent.{lent, all_lent};
 
 use cel_value::{CelError, CelType, Value, fits};
 use cel_verify::Program;
 use std::marker::Model;
 
-/// What the slots of a program hold, which contracts see as a list.
+/// What the slots of a program hold: values that are lent, and errors. Contracts see the list of the values themselves
+/// and the errors.
 #[derive(Drop)]
-pub struct Slots {
-    values: Vec<Result<Value, CelError>>,
+pub struct Slots<'a> {
+    values: Vec<Result<&'a Value, CelError>>,
 }
 
-impl Model for Slots {
+impl<'a> Model for Slots<'a> {
     ghost use Rattle.std.specs.Prelude.{List};
     ghost use Rattle.std.specs.Coded.{codes};
     ghost use Rattle.cel_value.specs.contracts.value.Value as cel_value;
     ghost use Rattle.cel_check.specs.Outcomes.{Outcome};
+    ghost use Rattle.cel_machine.specs.Lent.{all_lent};
 
     ghost Value = { List Outcome };
 
     ghost coded = { Prim.hlevel (codes, cel_value.the_row.coded) };
 
-    ghost view = { λ s. s.values.items };
+    ghost view = { λ s. all_lent s.values.items };
 }
 
-impl Slots {
+impl<'a> Slots<'a> {
     /// These values and errors, which fit the program's slots: [`slots_fit`] is the test.
-    pub fn new(program: &Program, values: Vec<Result<Value, CelError>>) -> Slots
-        requires { fits_slots program.now.slots values.items ≡ true }
-        ensures { result ≡ values.items }
+    pub fn new(program: &Program, values: Vec<Result<&'a Value, CelError>>) -> Slots<'a>
+        requires { fits_slots program.now.slots (all_lent values.items) ≡ true }
+        ensures { result ≡ all_lent values.entry.items }
     {
         Slots { values }
+    }
+
+    /// What the slot of this number holds, if there is one.
+    pub fn get(&self, number: usize) -> Option<Result<&Value, CelError>>
+        ensures { option_map lent result ≡ slice_get self.now number }
+    {
+        match self.values.get(number) {
+            Some(value) => Some(*value),
+            None => None,
+        }
     }
 }
 
 /// Whether there are as many values and errors as the program has slots, and each value is of its slot's type; an error
 /// fits every slot.
-pub fn slots_fit(program: &Program, values: &[Result<Value, CelError>]) -> bool
-    ensures { result ≡ fits_slots program.now.slots values.now }
+pub fn slots_fit(program: &Program, values: &[Result<&Value, CelError>]) -> bool
+    ensures { result ≡ fits_slots program.now.slots (all_lent values.now) }
 {
     each_fits(program.image().slots.as_slice(), values)
 }
 
-fn each_fits(types: &[CelType], values: &[Result<Value, CelError>]) -> bool
-    ensures { result ≡ fits_slots types.now values.now }
+fn each_fits(types: &[CelType], values: &[Result<&Value, CelError>]) -> bool
+    ensures { result ≡ fits_slots types.now (all_lent values.now) }
 {
     let mut rest = values;
     for cel_type in types {
         match rest {
             [value, more @ ..] => {
-                if !is_of(value, cel_type) {
+                if !is_of(*value, cel_type) {
                     return false;
                 }
                 rest = more;
@@ -60,8 +73,8 @@ fn each_fits(types: &[CelType], values: &[Result<Value, CelError>]) -> bool
     rest.is_empty()
 }
 
-fn is_of(outcome: &Result<Value, CelError>, cel_type: &CelType) -> bool
-    ensures { result ≡ outcome_fits cel_type.now (Some outcome.now) }
+fn is_of(outcome: Result<&Value, CelError>, cel_type: &CelType) -> bool
+    ensures { result ≡ outcome_fits cel_type.now (Some (lent outcome.entry)) }
 {
     match outcome {
         Ok(value) => fits(value, cel_type),

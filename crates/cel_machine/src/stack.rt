@@ -1,54 +1,71 @@
-ghost use Rattle.std.specs.Prelude.{◌≡◌, ◌∷◌, [], OnOk, MatchOption, option_copied};
+ghost use Rattle.std.specs.Prelude.{◌≡◌, ◌∷◌, [], IfOk, MatchOption, option_map};
 ghost use Rattle.cel_machine.specs.Follow.{top_of};
+ghost use Rattle.cel_machine.specs.Lent.{lent};
+ghost use Rattle.cel_machine.specs.Room.{HasRoom};
 
+use crate::operand::{Operand, read};
 use cel_value::{CelError, Value};
 use std::alloc::{AllocError, Global};
 use std::marker::Model;
 
-/// The operands, which contracts see as a list with the top first.
+/// The operands, with room for so many. Contracts see them as a list with the top first, and the room.
 #[derive(Drop)]
-pub struct Stack {
-    items: Vec<Result<Value, CelError>>,
+pub struct Stack<'a> {
+    items: Vec<Result<Operand<'a>, CelError>>,
+    room: usize,
 }
 
-impl Model for Stack {
-    ghost use Rattle.std.specs.Prelude.{List, reverse};
+impl<'a> Model for Stack<'a> {
+    ghost use Rattle.std.specs.Prelude.{◌≤◌, reverse, vec_capacity};
     ghost use Rattle.std.specs.Coded.{codes};
     ghost use Rattle.cel_value.specs.contracts.value.Value as cel_value;
-    ghost use Rattle.cel_check.specs.Outcomes.{Outcome};
+    ghost use Rattle.cel_machine.specs.Room.{Operands};
 
-    ghost Value = { List Outcome };
+    ghost Value = { Operands };
 
     ghost coded = { Prim.hlevel (codes, cel_value.the_row.coded) };
 
-    ghost view = { λ s. reverse s.items.items };
+    ghost view = { λ s. record { items = reverse s.items.items; room = s.room } };
+
+    ghost invariant = { λ s. s.room ≤ vec_capacity s.items };
 }
 
-impl Stack {
-    pub fn new(alloc: Global) -> Stack
-        ensures { result ≡ [] }
+impl<'a> Stack<'a> {
+    /// An empty stack with room for so many operands.
+    pub fn with_room(alloc: Global, room: usize) -> Result<Stack<'a>, AllocError>
+        ensures items { IfOk result (λ stack. stack.items ≡ []) }
+        ensures room { IfOk result (λ stack. stack.room ≡ room) }
     {
-        Stack {
-            items: Vec::new(alloc),
-        }
+        Ok(Stack {
+            items: Vec::with_capacity(alloc, room)?,
+            room,
+        })
     }
 
-    pub fn push(&mut self, item: Result<Value, CelError>) -> Result<(), AllocError>
-        ensures { OnOk result (self.new ≡ item ∷ self.old) }
+    /// One more operand, for which there is room: this takes no memory.
+    pub fn push(&mut self, item: Result<Operand<'a>, CelError>)
+        requires { HasRoom self.old }
+        ensures items { self.new.items ≡ item.entry ∷ self.old.items }
+        ensures room { self.new.room ≡ self.old.room }
     {
-        self.items.push(item)?;
-        Ok(())
+        let Ok(()) = self.items.push(item) else {
+            unreachable!();
+        };
     }
 
-    pub fn pop(&mut self) -> Option<Result<Value, CelError>>
-        ensures { MatchOption result ((self.old ≡ []) × (self.new ≡ [])) (λ x. self.old ≡ x ∷ self.new) }
+    pub fn pop(&mut self) -> Option<Result<Operand<'a>, CelError>>
+        ensures items { MatchOption result ((self.old.items ≡ []) × (self.new.items ≡ [])) (λ x. self.old.items ≡ x ∷ self.new.items) }
+        ensures room { self.new.room ≡ self.old.room }
     {
         self.items.pop()
     }
 
-    pub fn top(&self) -> Option<&Result<Value, CelError>>
-        ensures { option_copied result ≡ top_of self.now }
+    pub fn top(&self) -> Option<Result<&Value, CelError>>
+        ensures { option_map lent result ≡ top_of self.now.items }
     {
-        self.items.last()
+        match self.items.last() {
+            Some(operand) => Some(read(operand)),
+            None => None,
+        }
     }
 }

@@ -1,12 +1,13 @@
-ghost use Rattle.std.specs.Prelude.{◌≡◌, ◌+◌, ◌<◌, ◌^◌, List, IfOk, IsTrue, ◌↔◌, Some, Ok, slice_get};
-ghost use Rattle.cel_value.specs.declared.value.Value as value;
-ghost use Rattle.cel_check.specs.Meaning.{is_there};
-ghost use Rattle.cel_check.specs.Outcomes.{Outcome, Side};
+ghost use Rattle.std.specs.Prelude.{◌≡◌, ◌+◌, ◌<◌, ◌^◌, List, IfOk, Some, slice_get};
 ghost use Rattle.cel_check.specs.Wants.{side_of};
 ghost use Rattle.cel_code.specs.Machine.{Frame, act, inputs_of, push, constant as constant_of, operate_by, made as made_next, join as sides_joined};
+ghost use Rattle.cel_machine.specs.Lent.{lent};
+ghost use Rattle.cel_machine.specs.Room.{HasRoom};
 ghost use Rattle.cel_machine.specs.Follow.{metered, metered_one, metered_two, next_of, test_of, join_of, sides_of, branch_of};
 
+use crate::operand::{Operand, outcome_of, own, read};
 use crate::operate::{on_one, on_two};
+use crate::slots::Slots;
 use crate::stack::Stack;
 use cel_check::{Made, Operator};
 use cel_code::{Image, Instr};
@@ -22,56 +23,57 @@ pub enum Move {
     IsStuckHere,
 }
 
-/// One instruction.
-pub fn step(
+/// One instruction. Its operands are the constants and what the slots hold, which are not copied, and what the run made.
+pub fn step<'a>(
     alloc: Global,
-    image: &Image,
+    image: &'a Image,
+    slots: &'a Slots<'_>,
     instr: Instr,
     at: usize,
-    stack: &mut Stack,
+    stack: &mut Stack<'a>,
 ) -> Result<Move, AllocError>
-    requires { at + 1 < 2 ^ 64 }
-    ensures { IfOk result (λ m. (slots : List Outcome) (frames : List Frame) → metered (act (inputs_of image.now slots) instr at stack.old frames) ≡ next_of m stack.new frames) }
+    requires at { at + 1 < 2 ^ 64 }
+    requires room { HasRoom stack.old }
+    ensures acts { IfOk result (λ m. (frames : List Frame) → metered (act (inputs_of image.now slots.now) instr at stack.old.items frames) ≡ next_of m stack.new.items frames) }
+    ensures room { stack.new.room ≡ stack.old.room }
 {
     match instr {
-        Instr::Const(number) => constant(alloc, image, number, at, stack),
-        Instr::Op(code) => match Operator::from_code(code) {
+        Instr::Const(number) => Ok(constant(image, number, at, stack)),
+        Instr::Op(code) => Ok(match Operator::from_code(code) {
             Some(op) => operate(op, at, stack),
-            None => Ok(Move::IsStuckHere),
-        },
+            None => Move::IsStuckHere,
+        }),
         Instr::AndTest(to) => Ok(test(stack, false, to, at)),
         Instr::OrTest(to) => Ok(test(stack, true, to, at)),
-        Instr::And => join(stack, true, at),
-        Instr::Or => join(stack, false, at),
-        Instr::Cond(if_false, if_error) => branch(stack, if_false, if_error, at),
+        Instr::And => Ok(join(stack, true, at)),
+        Instr::Or => Ok(join(stack, false, at)),
+        Instr::Cond(if_false, if_error) => Ok(branch(stack, if_false, if_error, at)),
         Instr::Jump(to) => Ok(Move::GoesTo(0, to)),
         Instr::End => Ok(match stack.pop() {
-            Some(x) => Move::EndsWith(x),
+            Some(x) => Move::EndsWith(outcome_of(alloc, x)?),
             None => Move::IsStuckHere,
         }),
     }
 }
 
-fn constant(
-    alloc: Global,
-    image: &Image,
-    number: usize,
-    at: usize,
-    stack: &mut Stack,
-) -> Result<Move, AllocError>
-    requires { at + 1 < 2 ^ 64 }
-    ensures { IfOk result (λ m. (frames : List Frame) → metered (push (constant_of (slice_get image.now.constants number)) at stack.old frames) ≡ next_of m stack.new frames) }
+fn constant<'a>(image: &'a Image, number: usize, at: usize, stack: &mut Stack<'a>) -> Move
+    requires at { at + 1 < 2 ^ 64 }
+    requires room { HasRoom stack.old }
+    ensures acts { (frames : List Frame) → metered (push (constant_of (slice_get image.now.constants number)) at stack.old.items frames) ≡ next_of result stack.new.items frames }
+    ensures room { stack.new.room ≡ stack.old.room }
 {
     let Some(value) = image.constants.get(number) else {
-        return Ok(Move::IsStuckHere);
+        return Move::IsStuckHere;
     };
-    stack.push(Ok(value.copy(alloc)?))?;
-    Ok(Move::GoesTo(0, at + 1))
+    stack.push(Ok(Operand::lent(value)));
+    Move::GoesTo(0, at + 1)
 }
 
-fn operate(op: Operator, at: usize, stack: &mut Stack) -> Result<Move, AllocError>
-    requires { at + 1 < 2 ^ 64 }
-    ensures { IfOk result (λ m. (frames : List Frame) → metered (operate_by (Some op) at stack.old frames) ≡ next_of m stack.new frames) }
+fn operate(op: Operator, at: usize, stack: &mut Stack<'_>) -> Move
+    requires at { at + 1 < 2 ^ 64 }
+    requires room { HasRoom stack.old }
+    ensures acts { (frames : List Frame) → metered (operate_by (Some op) at stack.old.items frames) ≡ next_of result stack.new.items frames }
+    ensures room { stack.new.room ≡ stack.old.room }
 {
     match op {
         Operator::Not => operate_one(op, at, stack),
@@ -80,112 +82,123 @@ fn operate(op: Operator, at: usize, stack: &mut Stack) -> Result<Move, AllocErro
     }
 }
 
-fn operate_one(op: Operator, at: usize, stack: &mut Stack) -> Result<Move, AllocError>
-    requires { at + 1 < 2 ^ 64 }
-    ensures { IfOk result (λ m. (frames : List Frame) → metered_one op at stack.old frames ≡ next_of m stack.new frames) }
+fn operate_one(op: Operator, at: usize, stack: &mut Stack<'_>) -> Move
+    requires at { at + 1 < 2 ^ 64 }
+    requires room { HasRoom stack.old }
+    ensures acts { (frames : List Frame) → metered_one op at stack.old.items frames ≡ next_of result stack.new.items frames }
+    ensures room { stack.new.room ≡ stack.old.room }
 {
     let Some(x) = stack.pop() else {
-        return Ok(Move::IsStuckHere);
+        return Move::IsStuckHere;
     };
-    finish(on_one(op, &x), at, stack)
+    finish(on_one(op, read(&x)), at, stack)
 }
 
-fn operate_two(op: Operator, at: usize, stack: &mut Stack) -> Result<Move, AllocError>
-    requires { at + 1 < 2 ^ 64 }
-    ensures { IfOk result (λ m. (frames : List Frame) → metered_two op at stack.old frames ≡ next_of m stack.new frames) }
+fn operate_two(op: Operator, at: usize, stack: &mut Stack<'_>) -> Move
+    requires at { at + 1 < 2 ^ 64 }
+    requires room { HasRoom stack.old }
+    ensures acts { (frames : List Frame) → metered_two op at stack.old.items frames ≡ next_of result stack.new.items frames }
+    ensures room { stack.new.room ≡ stack.old.room }
 {
     let Some(y) = stack.pop() else {
-        return Ok(Move::IsStuckHere);
+        return Move::IsStuckHere;
     };
     let Some(x) = stack.pop() else {
-        return Ok(Move::IsStuckHere);
+        return Move::IsStuckHere;
     };
-    finish(on_two(op, &x, &y), at, stack)
+    finish(on_two(op, read(&x), read(&y)), at, stack)
 }
 
-fn finish(made: Option<Made>, at: usize, stack: &mut Stack) -> Result<Move, AllocError>
-    requires { at + 1 < 2 ^ 64 }
-    ensures { IfOk result (λ m. (frames : List Frame) → made_next made at stack.old frames ≡ next_of m stack.new frames) }
+fn finish(made: Option<Made>, at: usize, stack: &mut Stack<'_>) -> Move
+    requires at { at + 1 < 2 ^ 64 }
+    requires room { HasRoom stack.old }
+    ensures acts { (frames : List Frame) → made_next made at stack.old.items frames ≡ next_of result stack.new.items frames }
+    ensures room { stack.new.room ≡ stack.old.room }
 {
     let Some(made) = made else {
-        return Ok(Move::IsStuckHere);
+        return Move::IsStuckHere;
     };
-    stack.push(made.outcome)?;
-    Ok(Move::GoesTo(made.charge, at + 1))
+    stack.push(own(made.outcome));
+    Move::GoesTo(made.charge, at + 1)
+}
+
+// The truth value or error that an operand is, if it is one.
+fn side(x: Result<&Value, CelError>) -> Option<Result<bool, CelError>>
+    ensures { result ≡ side_of (Some (lent x.entry)) }
+{
+    match x {
+        Ok(Value::Bool(b)) => Some(Ok(*b)),
+        Err(e) => Some(Err(e)),
+        _ => None,
+    }
 }
 
 // The jump of a test, which is taken where the top is this truth value.
-fn test(stack: &Stack, ends: bool, to: usize, at: usize) -> Move
+fn test(stack: &Stack<'_>, ends: bool, to: usize, at: usize) -> Move
     requires { at + 1 < 2 ^ 64 }
-    ensures { (frames : List Frame) → metered (test_of ends stack.now to at frames) ≡ next_of result stack.now frames }
+    ensures { (frames : List Frame) → metered (test_of ends stack.now.items to at frames) ≡ next_of result stack.now.items frames }
 {
-    match stack.top() {
-        Some(Ok(Value::Bool(b))) if *b == ends => Move::GoesTo(1, to),
-        Some(Ok(Value::Bool(_)) | Err(_)) => Move::GoesTo(1, at + 1),
-        _ => Move::IsStuckHere,
+    let Some(x) = stack.top() else {
+        return Move::IsStuckHere;
+    };
+    match side(x) {
+        Some(Ok(b)) if b == ends => Move::GoesTo(1, to),
+        Some(_) => Move::GoesTo(1, at + 1),
+        None => Move::IsStuckHere,
     }
 }
 
 // Both sides of `&&`, where `all` is true, or of `||`.
-fn join(stack: &mut Stack, all: bool, at: usize) -> Result<Move, AllocError>
-    requires { at + 1 < 2 ^ 64 }
-    ensures { IfOk result (λ m. (frames : List Frame) → metered (join_of all stack.old at frames) ≡ next_of m stack.new frames) }
+fn join(stack: &mut Stack<'_>, all: bool, at: usize) -> Move
+    requires at { at + 1 < 2 ^ 64 }
+    requires room { HasRoom stack.old }
+    ensures acts { (frames : List Frame) → metered (join_of all stack.old.items at frames) ≡ next_of result stack.new.items frames }
+    ensures room { stack.new.room ≡ stack.old.room }
 {
     let Some(y) = stack.pop() else {
-        return Ok(Move::IsStuckHere);
+        return Move::IsStuckHere;
     };
     let Some(x) = stack.pop() else {
-        return Ok(Move::IsStuckHere);
+        return Move::IsStuckHere;
     };
-    if !(is_side(&x) && is_side(&y)) {
-        return Ok(Move::IsStuckHere);
-    }
-    stack.push(joined(all, x, y))?;
-    Ok(Move::GoesTo(0, at + 1))
-}
-
-fn is_side(x: &Result<Value, CelError>) -> bool
-    ensures { result ≡ is_there (side_of (Some x.now)) }
-{
-    matches!(x, Ok(Value::Bool(_)) | Err(_))
-}
-
-fn is_bool(x: &Result<Value, CelError>, truth: bool) -> bool
-    ensures { IsTrue result ↔ (x.now ≡ Ok (value.Bool truth)) }
-{
-    matches!(x, Ok(Value::Bool(b)) if *b == truth)
+    let Some(both) = joined(all, side(read(&x)), side(read(&y))) else {
+        return Move::IsStuckHere;
+    };
+    stack.push(own(both));
+    Move::GoesTo(0, at + 1)
 }
 
 fn joined(
     all: bool,
-    x: Result<Value, CelError>,
-    y: Result<Value, CelError>,
-) -> Result<Value, CelError>
-    requires { (s t : Side) × (side_of (Some x) ≡ Some s) × (side_of (Some y) ≡ Some t) }
-    ensures { sides_joined (sides_of all) (side_of (Some x)) (side_of (Some y)) ≡ Some result }
+    x: Option<Result<bool, CelError>>,
+    y: Option<Result<bool, CelError>>,
+) -> Option<Result<Value, CelError>>
+    ensures { result ≡ sides_joined (sides_of all) x y }
 {
-    if is_bool(&x, !all) || is_bool(&y, !all) {
-        return Ok(Value::Bool(!all));
-    }
-    if x.is_err() { x } else { y }
+    Some(match (x?, y?) {
+        (Ok(a), Ok(b)) => Ok(Value::Bool(if all { a && b } else { a || b })),
+        (Ok(a), Err(e)) => if a == all { Err(e) } else { Ok(Value::Bool(a)) },
+        (Err(e), Ok(b)) => if b == all { Err(e) } else { Ok(Value::Bool(b)) },
+        (Err(e), Err(_)) => Err(e),
+    })
 }
 
-fn branch(
-    stack: &mut Stack,
-    if_false: usize,
-    if_error: usize,
-    at: usize,
-) -> Result<Move, AllocError>
-    requires { at + 1 < 2 ^ 64 }
-    ensures { IfOk result (λ m. (frames : List Frame) → metered (branch_of if_false if_error stack.old at frames) ≡ next_of m stack.new frames) }
+fn branch(stack: &mut Stack<'_>, if_false: usize, if_error: usize, at: usize) -> Move
+    requires at { at + 1 < 2 ^ 64 }
+    requires room { HasRoom stack.old }
+    ensures acts { (frames : List Frame) → metered (branch_of if_false if_error stack.old.items at frames) ≡ next_of result stack.new.items frames }
+    ensures room { stack.new.room ≡ stack.old.room }
 {
-    match stack.pop() {
-        Some(Ok(Value::Bool(true))) => Ok(Move::GoesTo(1, at + 1)),
-        Some(Ok(Value::Bool(false))) => Ok(Move::GoesTo(1, if_false)),
+    let Some(x) = stack.pop() else {
+        return Move::IsStuckHere;
+    };
+    match side(read(&x)) {
+        Some(Ok(true)) => Move::GoesTo(1, at + 1),
+        Some(Ok(false)) => Move::GoesTo(1, if_false),
         Some(Err(e)) => {
-            stack.push(Err(e))?;
-            Ok(Move::GoesTo(1, if_error))
+            stack.push(Err(e));
+            Move::GoesTo(1, if_error)
         }
-        _ => Ok(Move::IsStuckHere),
+        None => Move::IsStuckHere,
     }
 }

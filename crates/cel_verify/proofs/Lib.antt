@@ -1,3 +1,4 @@
+pub mod Firsts
 pub mod Labels
 pub mod Operations
 pub mod Pairwise
@@ -9,3 +10,5 @@ pub mod Steps
 pub mod Turns
 pub mod Walking
 mod WorkedRows
+pub mod Depths
+pub mod Bounded

@@ -11,7 +11,7 @@ use Rattle.cel_verify.specs.Paths.{goes_to, greatest, path_from, IsIn, Route, St
 use Rattle.cel_verify.proofs.RuleParts.{parts_at}
 use Rattle.cel_verify.proofs.PathSums.{every_in, is_ahead, ahead, path_is, path_step}
 
-get_some : {X : Type 0} (xs : List X) (i : ℕ) → i < length xs → (x : X) × (slice_get xs i ≡ Some x)
+pub get_some : {X : Type 0} (xs : List X) (i : ℕ) → i < length xs → (x : X) × (slice_get xs i ≡ Some x)
 get_some [] i h = absurd (omega arith)
 get_some (y ∷ ys) zero h = (y, refl)
 get_some (y ∷ ys) (suc i) h = get_some ys i (omega arith)

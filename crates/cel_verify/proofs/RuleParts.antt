@@ -31,6 +31,8 @@ pub record Parts (image : Image) (at : ℕ) (i : Instr) (types : Option StackTyp
   pub is : types ≡ Some here
   pub nested : is_nested image at i opens ≡ true
   pub typed : entered (entry_in image.targets (at + 1)) (typed_rule image i opens here) ≡ Ok next
+  pub wanted : is_wanted image at ≡ true
+  pub deep : shallow (entered (entry_in image.targets (at + 1)) (typed_rule image i opens here)) ≡ Ok next
 
 pub parts_of : (image : Image) (at : ℕ) (i : Instr) (l : Label) (n : Option StackTypes) → rule image at i l ≡ Ok n → Parts image at i l.types l.opens n
 parts_of image at i l n e =
@@ -38,7 +40,8 @@ parts_of image at i l n e =
     let b = needs_is (is_wanted image at && every (is_target image at) (jumps_of i)) BadTarget _ n a.1 in
     let c = reached_is l.types _ n b.1 in
     let d = needs_is (is_nested image at i l.opens) BadNesting _ n c.2 in
-    record { named = a.0; targets = (and_parts (is_wanted image at) (every (is_target image at) (jumps_of i)) b.0).1; here = c.0; is = c.1; nested = d.0; typed = shallow_is _ n d.1 }
+    let both = and_parts (is_wanted image at) (every (is_target image at) (jumps_of i)) b.0 in
+    record { named = a.0; targets = both.1; here = c.0; is = c.1; nested = d.0; typed = shallow_is _ n d.1; wanted = both.0; deep = d.1 }
 
 pub parts_at : (image : Image) (sound : IsSound image) (at : ℕ) (i : Instr) (lt : at < length image.code) → slice_get image.code at ≡ Some i → Parts image at i (label_at image at).types (label_at image at).opens (sound.each at lt).next
 parts_at image sound at i lt h =

@@ -38,7 +38,7 @@ all_wider (x ∷ stack) (s ∷ ss) (t ∷ ts) rest a h =
     let r = and_parts (assignable s t) (all_assignable ss ts) a in
     (wider s t (Some x) r.0 h.0, all_wider stack ss ts rest r.1 h.1)
 
-entered_ok : (o : Option StackTypes) (r : Falls) (n : Option StackTypes) → entered o r ≡ Ok n → (m : Option StackTypes) × (r ≡ Ok m)
+pub entered_ok : (o : Option StackTypes) (r : Falls) (n : Option StackTypes) → entered o r ≡ Ok n → (m : Option StackTypes) × (r ≡ Ok m)
 entered_ok None r n e = (n, e)
 entered_ok (Some es) (Err k) n e = cc
 entered_ok (Some es) (Ok m) n e = (m, refl)
@@ -47,16 +47,16 @@ fall_by : (o : Option StackTypes) (ns : StackTypes) (n : Option StackTypes) → 
 fall_by None ns n e = (ns, cc, inl refl)
 fall_by (Some es) ns n e = (es, refl, inr (needs_is (all_assignable ns es) WrongKind _ n e).0)
 
-enters_is : (o : Option StackTypes) (ts : StackTypes) → enters o ts ≡ true → (es : StackTypes) × (o ≡ Some es) × (all_assignable ts es ≡ true)
+pub enters_is : (o : Option StackTypes) (ts : StackTypes) → enters o ts ≡ true → (es : StackTypes) × (o ≡ Some es) × (all_assignable ts es ≡ true)
 enters_is None ts e = absurd (true≢false (sym e))
 enters_is (Some es) ts e = (es, refl, e)
 
-two_needs : (a b : Bool) (r : Falls) (m : Option StackTypes) → needs (a && b) WrongKind r ≡ Ok m → (a ≡ true) × (b ≡ true) × (needs (a && b) WrongKind r ≡ r)
+pub two_needs : (a b : Bool) (r : Falls) (m : Option StackTypes) → needs (a && b) WrongKind r ≡ Ok m → (a ≡ true) × (b ≡ true) × (needs (a && b) WrongKind r ≡ r)
 two_needs true true r m e = (refl, refl, refl)
 two_needs true false r m e = cc
 two_needs false b r m e = cc
 
-one_needs : (a : Bool) (r : Falls) (m : Option StackTypes) → needs a WrongKind r ≡ Ok m → (a ≡ true) × (needs a WrongKind r ≡ r)
+pub one_needs : (a : Bool) (r : Falls) (m : Option StackTypes) → needs a WrongKind r ≡ Ok m → (a ≡ true) × (needs a WrongKind r ≡ r)
 one_needs true r m e = (refl, refl)
 one_needs false r m e = cc
 
@@ -69,7 +69,7 @@ label_jump image zero es h e = absurd (omega arith)
 label_jump image (suc k) es h e = ap (λ o. entry_or o (fallen (rule_at image k (slice_get image.code k) (label_at image k)))) e
 
 -- no instruction begins or ends a loop
-opens_is : (image : Image) (at : ℕ) → opens_at image at ≡ []
+pub opens_is : (image : Image) (at : ℕ) → opens_at image at ≡ []
 opens_is image zero = refl
 opens_is image (suc at) = opens_is image at
 

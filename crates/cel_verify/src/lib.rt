@@ -3,6 +3,7 @@
 //! [`verify`] makes a [`Program`] of an image, or answers the first rule that the image breaks.
 #![tactic(auto)]
 
+mod arrivals;
 mod charges;
 mod constants;
 mod fault;

@@ -1,15 +1,16 @@
-ghost use Rattle.std.specs.Prelude.{◌≡◌, ◌↔◌, true, List, IsTrue, Err, IfOk, IfErr, MatchOption, MatchResult};
+ghost use Rattle.std.specs.Prelude.{◌≡◌, ◌↔◌, ◌≤◌, true, List, IsTrue, Err, IfOk, IfErr, MatchOption, MatchResult};
 ghost use Rattle.cel_check.specs.Outcomes.{Outcome, slots_fit};
-ghost use Rattle.cel_verify.specs.Sound.{EndsOnce, IsSound};
+ghost use Rattle.cel_verify.specs.Sound.{EndsOnce, IsSound, max_depth as most_operands};
 ghost use Rattle.cel_verify.specs.Labelled.{HasLabelling};
 ghost use Rattle.cel_verify.specs.Paths.{IsGreatest, charge_at, path_cost as cost_of_path};
 ghost use Rattle.cel_verify.specs.Typed.{RunsWithin};
+ghost use Rattle.cel_verify.specs.Depths.{greatest_depth, NeverMore};
 ghost use Rattle.cel_verify.specs.Accepted.{IsCounted, IsWrongEnd, IsAccepted, IsRefused, fault};
 
 use crate::charges::path_cost;
 use crate::fault::{VerifyError, VerifyFault, VerifyRule};
 use crate::targets::first_misplaced;
-use crate::walk::walk;
+use crate::walk::{Measures, walk};
 use cel_code::{Image, Instr};
 use std::alloc::Global;
 use std::marker::Model;
@@ -22,6 +23,7 @@ const BUDGET: u64 = 10_000_000;
 #[derive(Drop)]
 pub struct Program {
     image: Image,
+    depth: usize,
 }
 
 impl Model for Program {
@@ -30,6 +32,8 @@ impl Model for Program {
     ghost use Rattle.cel_value.specs.contracts.value.Value as cel_value;
     ghost use Rattle.cel_code.specs.declared.image.Image.{Image};
     ghost use Rattle.cel_verify.specs.Accepted.{IsAccepted};
+    ghost use Rattle.cel_verify.specs.Depths.{greatest_depth};
+    ghost use Rattle.std.specs.Prelude.{◌≡◌};
 
     ghost Value = { Image };
 
@@ -37,7 +41,7 @@ impl Model for Program {
 
     ghost view = { λ p. p.image };
 
-    ghost invariant = { λ p. IsAccepted p.image };
+    ghost invariant = { λ p. IsAccepted p.image × (p.depth ≡ greatest_depth p.image) };
 }
 
 impl Program {
@@ -46,6 +50,15 @@ impl Program {
         ensures accepted { IsAccepted self.now }
     {
         &self.image
+    }
+
+    /// The most operands on the stack at any instruction, 16,384 at most: no run has more at a time.
+    pub fn max_depth(&self) -> usize
+        ensures depth { result ≡ greatest_depth self.now }
+        ensures within { result ≤ most_operands }
+        ensures never_more { (slots : List Outcome) → slots_fit self.now.slots slots ≡ true → NeverMore self.now slots result }
+    {
+        self.depth
     }
 }
 
@@ -61,13 +74,15 @@ pub fn verify(alloc: Global, image: Image) -> Result<Program, (VerifyError, Imag
     ensures runs { IfOk result (λ p. (slots : List Outcome) → slots_fit image.slots slots ≡ true → RunsWithin image slots) }
 {
     match check(alloc, &image) {
-        Ok(()) => Ok(Program { image }),
+        Ok(depth) => Ok(Program { image, depth }),
         Err(error) => Err((error, image)),
     }
 }
 
-fn check(alloc: Global, image: &Image) -> Result<(), VerifyError>
-    ensures { MatchResult result (λ _. IsAccepted image.now) (λ e. IsRefused image.now e) }
+// The most operands at any instruction, where the image is accepted.
+fn check(alloc: Global, image: &Image) -> Result<usize, VerifyError>
+    ensures accepted { MatchResult result (λ _. IsAccepted image.now) (λ e. IsRefused image.now e) }
+    ensures depth { IfOk result (λ depth. depth ≡ greatest_depth image.now) }
 {
     if !is_counted(image) {
         return refuse(VerifyRule::TooDeep, 0);
@@ -75,17 +90,17 @@ fn check(alloc: Global, image: &Image) -> Result<(), VerifyError>
     if let Some(at) = wrong_end(image.code.as_slice()) {
         return refuse(VerifyRule::BadTarget, at);
     }
-    let charges = walk(alloc, image)?;
+    let Measures { charges, depth } = walk(alloc, image)?;
     if let Some(at) = first_misplaced(image) {
         return refuse(VerifyRule::BadTarget, at);
     }
     if path_cost(image, charges) > BUDGET {
         return refuse(VerifyRule::OverBudget, image.code.len() - 1);
     }
-    Ok(())
+    Ok(depth)
 }
 
-fn refuse(rule: VerifyRule, at: usize) -> Result<(), VerifyError>
+fn refuse(rule: VerifyRule, at: usize) -> Result<usize, VerifyError>
     ensures { result ≡ Err (VerifyError.Fault (fault rule at)) }
 {
     Err(VerifyError::Fault(VerifyFault { rule, at }))

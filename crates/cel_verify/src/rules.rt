@@ -1,9 +1,12 @@
-ghost use Rattle.std.specs.Prelude.{◌≡◌, List, Some, None, Ok, Err, MatchResult, MatchOption, slice_get};
+ghost use Rattle.std.specs.Prelude.{◌≡◌, ◌<◌, List, Some, None, Ok, Err, MatchResult, MatchOption, length, slice_get};
+ghost use Rattle.std.specs.List.{AllByRecursion};
 ghost use Rattle.cel_check.specs.Operators.{row, type_of_two};
 ghost use Rattle.cel_verify.specs.StackTypes.{constant_type};
-ghost use Rattle.cel_verify.specs.Sound.{Open, given as given_rule, row_rule, op_rule, constant_rule, enters as may_enter, entry_in, test_rule, join_rule, cond_rule, jump_rule, end_rule, typed_rule};
+ghost use Rattle.cel_verify.specs.Sound.{Open, given as given_rule, row_rule, op_rule, constant_rule, enters as may_enter, entry_in, jumps_of, test_rule, join_rule, cond_rule, jump_rule, end_rule, typed_rule};
+ghost use Rattle.cel_verify.specs.Arrivals.{AreArrivals};
 ghost use Rattle.cel_verify.specs.Walked.{Refuses, rule_of_one, rule_of_two};
 
+use crate::arrivals::Arrivals;
 use crate::constants::constant_type;
 use crate::fault::VerifyRule;
 use crate::refusal::Refusal;
@@ -18,9 +21,12 @@ use std::alloc::Global;
 pub fn typed(
     alloc: Global,
     image: &Image,
+    arrivals: &Arrivals,
     instr: Instr,
     types: TypeStack,
 ) -> Result<Option<TypeStack>, Refusal>
+    requires known { AreArrivals image.now arrivals.now }
+    requires inside { AllByRecursion (λ to. to < length image.now.code) (jumps_of instr) }
     ensures { (opens : List Open) → MatchResult result (λ falls. typed_rule image.now instr opens types ≡ Ok falls) (λ r. Refuses r (typed_rule image.now instr opens types)) }
 {
     match instr {
@@ -29,11 +35,11 @@ pub fn typed(
             Some(op) => operation(alloc, op, types),
             None => Err(Refusal::Broken(VerifyRule::BadConstant)),
         },
-        Instr::AndTest(to) | Instr::OrTest(to) => test(image, to, types),
+        Instr::AndTest(to) | Instr::OrTest(to) => test(image, arrivals, to, types),
         Instr::And | Instr::Or => both_sides(types),
-        Instr::Cond(if_false, if_error) => condition(image, if_false, if_error, types),
+        Instr::Cond(if_false, if_error) => condition(image, arrivals, if_false, if_error, types),
         Instr::Jump(to) => {
-            if !enters(image, to, &types) {
+            if !enters(image, arrivals, to, &types) {
                 return Err(Refusal::Broken(VerifyRule::WrongKind));
             }
             Ok(None)
@@ -121,23 +127,32 @@ fn given(
 }
 
 // Whether these types may stand where a jump arrives.
-fn enters(image: &Image, to: usize, types: &TypeStack) -> bool
+fn enters(image: &Image, arrivals: &Arrivals, to: usize, types: &TypeStack) -> bool
+    requires known { AreArrivals image.now arrivals.now }
+    requires inside { to < length image.now.code }
     ensures { result ≡ may_enter (entry_in image.now.targets to) types.now }
 {
-    match entry(image, to) {
+    match entry(image, arrivals, to) {
         Some(entry) => types.fits(entry),
         None => false,
     }
 }
 
-fn test(image: &Image, to: usize, mut types: TypeStack) -> Result<Option<TypeStack>, Refusal>
+fn test(
+    image: &Image,
+    arrivals: &Arrivals,
+    to: usize,
+    mut types: TypeStack,
+) -> Result<Option<TypeStack>, Refusal>
+    requires known { AreArrivals image.now arrivals.now }
+    requires inside { to < length image.now.code }
     ensures { MatchResult result (λ falls. test_rule (entry_in image.now.targets to) types ≡ Ok falls) (λ r. Refuses r (test_rule (entry_in image.now.targets to) types)) }
 {
     let Some(t) = types.pop() else {
         return Err(Refusal::Broken(VerifyRule::Underflow));
     };
     types.push(CelType::Bool)?;
-    if !(is_truth(&t) && enters(image, to, &types)) {
+    if !(is_truth(&t) && enters(image, arrivals, to, &types)) {
         return Err(Refusal::Broken(VerifyRule::WrongKind));
     }
     types.pop();
@@ -163,18 +178,22 @@ fn both_sides(mut types: TypeStack) -> Result<Option<TypeStack>, Refusal>
 
 fn condition(
     image: &Image,
+    arrivals: &Arrivals,
     if_false: usize,
     if_error: usize,
     mut types: TypeStack,
 ) -> Result<Option<TypeStack>, Refusal>
+    requires known { AreArrivals image.now arrivals.now }
+    requires if_false { if_false < length image.now.code }
+    requires if_error { if_error < length image.now.code }
     ensures { MatchResult result (λ falls. cond_rule (entry_in image.now.targets if_false) (entry_in image.now.targets if_error) types ≡ Ok falls) (λ r. Refuses r (cond_rule (entry_in image.now.targets if_false) (entry_in image.now.targets if_error) types)) }
 {
     let Some(t) = types.pop() else {
         return Err(Refusal::Broken(VerifyRule::Underflow));
     };
-    let holds = is_truth(&t) && enters(image, if_false, &types);
+    let holds = is_truth(&t) && enters(image, arrivals, if_false, &types);
     types.push(CelType::Never)?;
-    if !(holds && enters(image, if_error, &types)) {
+    if !(holds && enters(image, arrivals, if_error, &types)) {
         return Err(Refusal::Broken(VerifyRule::WrongKind));
     }
     types.pop();

@@ -1,29 +1,26 @@
-ghost use Rattle.std.specs.Prelude.{◌≡◌, nat_eq, length, slice_get, Some, IsTrue, MatchOption};
-ghost use Rattle.cel_verify.specs.Sound.{entry_in, is_named, is_target, every, some_of, jumps_of, is_jumped, is_wanted};
+ghost use Rattle.std.specs.Prelude.{◌≡◌, ◌<◌, ◌≤◌, length, IsTrue};
+ghost use Rattle.std.specs.List.{AllByRecursion};
+ghost use Rattle.cel_verify.specs.Sound.{entry_in, is_named, is_target, every, jumps_of, is_wanted};
+ghost use Rattle.cel_verify.specs.Arrivals.{AreArrivals};
 ghost use Rattle.cel_verify.specs.Accepted.{misplaced_entry, misplaced};
 ghost use Rattle.cel_verify.specs.Walked.{IsEntry};
 
+use crate::arrivals::Arrivals;
 use crate::constants::constant_type;
 use cel_check::Operator;
-use cel_code::{Image, Instr, Target};
+use cel_code::{Image, Instr};
 use cel_value::CelType;
 
-/// The types where jumps arrive at an instruction, the bottom first.
-pub fn entry(image: &Image, at: usize) -> Option<&[CelType]>
+/// The types where jumps arrive at an instruction, or behind the last one, the bottom first.
+pub fn entry<'a>(image: &'a Image, arrivals: &Arrivals, at: usize) -> Option<&'a [CelType]>
+    requires known { AreArrivals image.now arrivals.now }
+    requires inside { at ≤ length image.now.code }
     ensures { IsEntry result (entry_in image.now.targets at) }
 {
-    entry_of(image.targets.as_slice(), at)
-}
-
-fn entry_of(targets: &[Target], at: usize) -> Option<&[CelType]>
-    ensures { IsEntry result (entry_in targets.now at) }
-{
-    for target in targets {
-        if target.at == at {
-            return Some(target.types.as_slice());
-        }
+    match image.targets.get(arrivals.firsts[at]) {
+        Some(target) => Some(target.types.as_slice()),
+        None => None,
     }
-    None
 }
 
 /// Whether an instruction's constant or operator is there.
@@ -37,51 +34,38 @@ pub fn has_name(image: &Image, instr: Instr) -> bool
     }
 }
 
-fn is_forward(image: &Image, at: usize, to: usize) -> bool
-    ensures { result ≡ is_target image.now at to }
+fn is_forward(image: &Image, arrivals: &Arrivals, at: usize, to: usize) -> bool
+    requires known { AreArrivals image.now arrivals.now }
+    ensures target { result ≡ is_target image.now at to }
+    ensures inside { IsTrue result → to < length image.now.code }
 {
-    at < to && to < image.code.len() && entry(image, to).is_some()
+    at < to && to < image.code.len() && entry(image, arrivals, to).is_some()
 }
 
 /// Whether an instruction's jumps go forward, to instructions that have types.
-pub fn has_targets(image: &Image, at: usize, instr: Instr) -> bool
-    ensures { result ≡ every (is_target image.now at) (jumps_of instr) }
+pub fn has_targets(image: &Image, arrivals: &Arrivals, at: usize, instr: Instr) -> bool
+    requires known { AreArrivals image.now arrivals.now }
+    ensures targets { result ≡ every (is_target image.now at) (jumps_of instr) }
+    ensures inside { IsTrue result → AllByRecursion (λ to. to < length image.now.code) (jumps_of instr) }
 {
     match instr {
-        Instr::AndTest(to) | Instr::OrTest(to) | Instr::Jump(to) => is_forward(image, at, to),
+        Instr::AndTest(to) | Instr::OrTest(to) | Instr::Jump(to) => {
+            is_forward(image, arrivals, at, to)
+        }
         Instr::Cond(if_false, if_error) => {
-            is_forward(image, at, if_false) && is_forward(image, at, if_error)
+            is_forward(image, arrivals, at, if_false) && is_forward(image, arrivals, at, if_error)
         }
         _ => true,
     }
 }
 
-fn jumps_to(instr: Instr, to: usize) -> bool
-    ensures { result ≡ some_of (λ t. nat_eq t to) (jumps_of instr) }
-{
-    match instr {
-        Instr::AndTest(t) | Instr::OrTest(t) | Instr::Jump(t) => t == to,
-        Instr::Cond(if_false, if_error) => if_false == to || if_error == to,
-        _ => false,
-    }
-}
-
-fn any_jumps_to(code: &[Instr], to: usize) -> bool
-    ensures { result ≡ is_jumped code.now to }
-{
-    for instr in code {
-        if jumps_to(*instr, to) {
-            return true;
-        }
-    }
-    false
-}
-
 /// Whether an instruction that has types is one to which an instruction jumps.
-pub fn entry_is_wanted(image: &Image, at: usize) -> bool
+pub fn entry_is_wanted(image: &Image, arrivals: &Arrivals, at: usize) -> bool
+    requires known { AreArrivals image.now arrivals.now }
+    requires inside { at < length image.now.code }
     ensures { result ≡ is_wanted image.now at }
 {
-    entry(image, at).is_none() || any_jumps_to(image.code.as_slice(), at)
+    entry(image, arrivals, at).is_none() || arrivals.jumped[at]
 }
 
 /// The number of the first entry that is out of its place.

@@ -95,18 +95,38 @@ fn outcomes(
     Ok(values)
 }
 
+fn lend_all<'a>(
+    alloc: Global,
+    values: &'a [Result<Value, CelError>],
+) -> Result<Vec<Result<&'a Value, CelError>>, AllocError> {
+    let mut lent = Vec::with_capacity(alloc, values.len())?;
+    for value in values {
+        lent.push(value.as_ref().map_err(|error| *error))?;
+    }
+    Ok(lent)
+}
+
 fn run_with(
+    alloc: Global,
+    program: &Program,
+    values: &[Result<Value, CelError>],
+) -> Result<String, AllocError> {
+    let lent = lend_all(alloc, values)?;
+    if !slots_fit(program, &lent) {
+        return String::from_str(alloc, "does not fit");
+    }
+    let slots = Slots::new(program, lent);
+    let ended = run(alloc, program, &slots)?;
+    run_text(alloc, program, &ended)
+}
+
+fn run_program(
     alloc: Global,
     program: &Program,
     held: &[Result<Constant, CelError>],
 ) -> Result<String, AllocError> {
     let values = outcomes(alloc, held)?;
-    if !slots_fit(program, &values) {
-        return String::from_str(alloc, "does not fit");
-    }
-    let slots = Slots::new(program, values);
-    let ended = run(alloc, program, &slots)?;
-    run_text(alloc, program, &ended)
+    run_with(alloc, program, &values)
 }
 
 // What a run comes to, what it charges, its steps and the constants of its program. Where the image is refused: the
@@ -117,7 +137,7 @@ fn run_image(
     held: &[Result<Constant, CelError>],
 ) -> Result<String, AllocError> {
     match verify(alloc, image) {
-        Ok(program) => run_with(alloc, &program, held),
+        Ok(program) => run_program(alloc, &program, held),
         Err((error, back)) => format!(in alloc; "{error} of {}", back.code.len()),
     }
 }

@@ -1,0 +1,117 @@
+ghost use Rattle.std.specs.Prelude.{◌≡◌, IfOk};
+ghost use Rattle.cel_machine.specs.Lent.{lent};
+ghost use Rattle.cel_machine.specs.Operand.{content_of};
+
+use cel_value::{CelError, Value};
+use std::alloc::{AllocError, Global};
+use std::marker::Model;
+
+/// A value on the stack, which contracts see as the value: one that the slots or the constants lend, or one of the
+/// run's own.
+#[derive(Drop)]
+pub struct Operand<'a> {
+    held: Held<'a>,
+}
+
+/// Where the value of an operand stands.
+#[derive(Drop)]
+pub(crate) enum Held<'a> {
+    /// Among the constants or in a slot, or within what stands there.
+    Lent(&'a Value),
+    /// On the stack.
+    Own(Value),
+}
+
+impl<'a> Model for Operand<'a> {
+    ghost use Rattle.cel_value.specs.declared.value.Value.{Value as CelValue};
+    ghost use Rattle.cel_value.specs.contracts.value.Value as cel_value;
+
+    ghost Value = { CelValue };
+
+    ghost coded = { cel_value.the_row.coded };
+
+    // Below `Value`, since that file speaks of `Held`.
+    ghost use Rattle.cel_machine.specs.Operand.{content_of};
+
+    ghost view = { λ o. content_of o.held };
+}
+
+impl<'a> Operand<'a> {
+    /// A value that stands elsewhere.
+    pub fn lent(value: &'a Value) -> Operand<'a>
+        ensures { result ≡ value.now }
+    {
+        Operand {
+            held: Held::Lent(value),
+        }
+    }
+
+    /// A value of the run's own.
+    pub fn own(value: Value) -> Operand<'a>
+        ensures { result ≡ value }
+    {
+        Operand {
+            held: Held::Own(value),
+        }
+    }
+
+    /// The value.
+    pub fn get(&self) -> &Value
+        ensures { result.now ≡ self.now }
+    {
+        match &self.held {
+            Held::Lent(value) => value,
+            Held::Own(value) => value,
+        }
+    }
+
+    /// The value, with where it stands.
+    pub(crate) fn into_held(self) -> Held<'a>
+        ensures { content_of result ≡ self.entry }
+    {
+        self.held
+    }
+
+    /// The value, which is copied where it was lent.
+    pub fn into_value(self, alloc: Global) -> Result<Value, AllocError>
+        ensures { IfOk result (λ value. value ≡ self.entry) }
+    {
+        match self.held {
+            Held::Lent(value) => value.copy(alloc),
+            Held::Own(value) => Ok(value),
+        }
+    }
+}
+
+/// What an operator made, as an operand.
+pub fn own<'a>(outcome: Result<Value, CelError>) -> Result<Operand<'a>, CelError>
+    ensures { result ≡ outcome }
+{
+    match outcome {
+        Ok(value) => Ok(Operand::own(value)),
+        Err(error) => Err(error),
+    }
+}
+
+/// An operand, as an operator reads it.
+pub fn read<'b>(operand: &'b Result<Operand<'_>, CelError>) -> Result<&'b Value, CelError>
+    ensures { lent result ≡ operand.now }
+{
+    match operand {
+        Ok(operand) => Ok(operand.get()),
+        Err(error) => Err(*error),
+    }
+}
+
+/// An operand, as a run ends with it.
+pub fn outcome_of(
+    alloc: Global,
+    operand: Result<Operand<'_>, CelError>,
+) -> Result<Result<Value, CelError>, AllocError>
+    ensures { IfOk result (λ outcome. outcome ≡ operand.entry) }
+{
+    match operand {
+        Ok(operand) => Ok(Ok(operand.into_value(alloc)?)),
+        Err(error) => Ok(Err(error)),
+    }
+}

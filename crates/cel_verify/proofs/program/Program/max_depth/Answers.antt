@@ -1,0 +1,15 @@
+use Rattle.std.proofs.Common.{[], sym, subst, arith}
+use Rattle.cel_code.specs.Machine.{on, Gets}
+use Rattle.cel_verify.proofs.Bounded.{greatest_within}
+use Rattle.cel_verify.proofs.Depths.{never_more}
+use Rattle.cel_verify.proofs.program.Program.max_depth.Goals as goal
+
+pub returns-clause-within : goal.returns-clause-within
+returns-clause-within c =
+    let le = greatest_within c.self.inside.image c.self.invariant.0.sound in
+    omega (arith, c.self.invariant.1)
+
+pub returns-clause-never_more : goal.returns-clause-never_more
+returns-clause-never_more c = λ slots fits s charge steps g.
+    let le = never_more c.self.inside.image slots c.self.invariant.0.sound s charge steps (subst (λ i. Gets i slots (on 0 [] []) s charge steps) (sym c.self.view_is) g) in
+    omega (arith, c.self.invariant.1)

@@ -1,0 +1,33 @@
+-- Where jumps arrive, found once for the whole code.
+use Rattle.std.specs.Prelude.{◌≡◌, ℕ, ◌+◌, ◌<◌, Bool, false, ◌||◌, nat_eq, List, length, reverse, slice_get, slice_index, slice_index_or, Option, Some, None}
+use Rattle.cel_code.specs.declared.instr.Instr.{Instr}
+use Rattle.cel_code.specs.declared.image.Image.{Image}
+use Rattle.cel_code.specs.declared.image.Target.{Target}
+use Rattle.cel_verify.specs.declared.arrivals.Arrivals.{Arrivals}
+use Rattle.cel_verify.specs.StackTypes.{StackTypes}
+use Rattle.cel_verify.specs.Sound.{entry_in, some_of, is_jumped}
+
+-- the types of a target, the top first
+abbrev pub types_of : Option Target → Option StackTypes
+types_of None = None
+types_of (Some e) = Some (reverse e.types)
+
+-- for each of so many instructions, the number of the target that is the first of these there
+pub record AreFirsts (all these : List Target) (count : ℕ) (firsts : List ℕ) : Type 0 where
+  pub long : length firsts ≡ count
+  pub each : (at : ℕ) → at < count → entry_in these at ≡ types_of (slice_get all (slice_index firsts at))
+
+-- for each of so many instructions, whether one of these jumps to it
+pub record AreJumped (code : List Instr) (count : ℕ) (jumped : List Bool) : Type 0 where
+  pub long : length jumped ≡ count
+  pub each : (at : ℕ) → at < count → slice_index_or jumped at false ≡ is_jumped code at
+
+-- what is told of an image
+pub record AreArrivals (image : Image) (arrivals : Arrivals) : Type 0 where
+  pub firsts : AreFirsts image.targets image.targets (length image.code + 1) arrivals.firsts.items
+  pub jumped : AreJumped image.code (length image.code) arrivals.jumped.items
+
+-- these are marked, and the others are as they were
+pub record Marks (ts : List ℕ) (old new : List Bool) : Type 0 where
+  pub long : length new ≡ length old
+  pub each : (at : ℕ) → at < length old → slice_index_or new at false ≡ (some_of (λ t. nat_eq t at) ts || slice_index_or old at false)
