@@ -1,6 +1,6 @@
 -- What an operator answers is of the type that its row gives, and its charge is at most the greatest.
-use Rattle.std.proofs.Common.{◌≡◌, ℕ, zero, suc, cond, ◌≤◌, Bool, true, false, not, Option, Some, None, refl, ap, sym, ◌∙◌, subst, inl, inr, arith, true≢false}
-use Rattle.std.specs.Prelude.{Result, Ok, Err, ℤ, pos, negsuc, ◌+ℤ◌, ◌-ℤ◌, ◌*ℤ◌, neg_ℤ, int_div, int_rem, int_lt}
+use Rattle.std.proofs.Common.{◌≡◌, ℕ, zero, suc, ◌+◌, ◌^◌, cond, ◌≤◌, Bool, true, false, not, Option, Some, None, refl, ap, sym, ◌∙◌, subst, inl, inr, arith, true≢false}
+use Rattle.std.specs.Prelude.{Result, Ok, Err, ℤ, pos, negsuc, ◌+ℤ◌, ◌-ℤ◌, ◌*ℤ◌, neg_ℤ, int_div, int_rem, int_lt, nat_lt}
 use Rattle.std.proofs.lemmas.Option.{none-some, same_Some}
 use Rattle.std.proofs.lemmas.Bool.{cases_Bool}
 use Rattle.cel_value.specs.declared.value.Value.{Value, out-Value}
@@ -19,13 +19,13 @@ use Rattle.cel_value.proofs.Soundness.{IsWithin-from_assignable}
 use Rattle.cel_value.specs.JoinRules.{IsBare, same_kind_at, are_of_one_kind}
 use Rattle.cel_value.proofs.Joins.{IsBareLevel, bare_from}
 use Rattle.cel_value.proofs.JoinRules.{join-apart}
-use Rattle.cel_check.proofs.Opened.{opened, fits-out, bool_fits, int_fits}
+use Rattle.cel_check.proofs.Opened.{opened, fits-out, bool_fits, int_fits, uint_fits}
 use Rattle.cel_check.specs.declared.operator.Operator.{Operator}
-use Rattle.cel_check.specs.declared.operator.Operator.TheVariants.{Not, Negate, Add, Subtract, Multiply, Divide, Remainder, Equal, NotEqual, Less, AtMost, Greater, AtLeast}
+use Rattle.cel_check.specs.declared.operator.Operator.TheVariants.{Not, Negate, Add, AddUint, Subtract, Multiply, Divide, Remainder, Equal, NotEqual, Less, AtMost, Greater, AtLeast}
 use Rattle.cel_check.specs.declared.fault.TypeRule.{TypeRule}
 use Rattle.cel_check.specs.Outcomes.{Outcome, outcome_fits}
-use Rattle.cel_check.specs.Wants.{Want, Any, Truth, Whole, Ordered, Of, taken_at, taken_value, taken, Limit, limit_at, limit_of, Within, order_at, order_of, order_of_level, order_of_type, in_order}
-use Rattle.cel_check.specs.Operators.{OneRow, TwoRow, Row, One, Two, row, in_range, int_or_overflow, divided, less_at, less, truth_of, untruth_of, bool_where, lesser_weight, lesser_greatest, arithmetic_row, equality_row, order_row, Made, makes, one, two, at_one, at_two, outcome_made, charge_made, of_limit, of_limits, type_of_one, type_of_two, most, most_of_two, greatest_of_one, greatest_of_two}
+use Rattle.cel_check.specs.Wants.{Want, Any, Truth, Whole, Natural, Ordered, Of, taken_at, taken_value, taken, Limit, limit_at, limit_of, Within, order_at, order_of, order_of_level, order_of_type, in_order}
+use Rattle.cel_check.specs.Operators.{OneRow, TwoRow, Row, One, Two, row, in_range, int_or_overflow, divided, less_at, less, truth_of, untruth_of, bool_where, lesser_weight, lesser_greatest, arithmetic_row, natural_row, equality_row, order_row, Made, makes, one, two, at_one, at_two, outcome_made, charge_made, of_limit, of_limits, type_of_one, type_of_two, most, most_of_two, greatest_of_one, greatest_of_two}
 
 -- an operand of the right type, taken as one of the kind, is an error or within the limit
 abbrev pub Taken : (w : Want) → Limit w → Option (Result (Of w) CelError) → Type 0
@@ -62,6 +62,12 @@ whole_taken v CelType-F.Int (Value-F.Int n) t l e h = tt
 whole_taken v CelType-F.Int _ t l e h = absurd (true≢false (sym h))
 whole_taken v _ p t l e h = absurd (none-some _ e)
 
+natural_taken : (v : Value) (o : CelType-F CelType) (p : Value-F Value) (t : CelType) (l : Limit Natural) → limit_at Natural t o ≡ Some l → fits_at (opened o) p ≡ true → Taken Natural l (taken_at Natural v p)
+natural_taken v CelType-F.Never p t l e h = absurd (true≢false (sym h))
+natural_taken v CelType-F.Uint (Value-F.Uint n) t l e h = tt
+natural_taken v CelType-F.Uint _ t l e h = absurd (true≢false (sym h))
+natural_taken v _ p t l e h = absurd (none-some _ e)
+
 ordered_taken : (v : Value) (t : CelType) (l : Limit Ordered) → limit_of Ordered t ≡ Some l → fits v t ≡ true → Taken Ordered l (taken_value Ordered v)
 ordered_taken v t l e h =
     let o = in_order-some (order_of_type t) t l e in
@@ -73,6 +79,7 @@ value_taken : (w : Want) (t : CelType) (v : Value) (l : Limit w) → limit_of w 
 value_taken Any t v l e h = subst (λ s. fits v s ≡ true) (same_Some _ _ e) h
 value_taken Truth t v l e h = truth_taken v (out-CelType t) (out-Value v) t l e (sym (fits-out v t) ∙ h)
 value_taken Whole t v l e h = whole_taken v (out-CelType t) (out-Value v) t l e (sym (fits-out v t) ∙ h)
+value_taken Natural t v l e h = natural_taken v (out-CelType t) (out-Value v) t l e (sym (fits-out v t) ∙ h)
 value_taken Ordered t v l e h = ordered_taken v t l e h
 
 pub taken_fits : (w : Want) (t : CelType) (x : Option Outcome) (l : Limit w) → limit_of w t ≡ Some l → outcome_fits t x ≡ true → Taken w l (taken w x)
@@ -110,6 +117,13 @@ divided_fits f a (negsuc n) = range_fits (in_range (int_div a (negsuc n))) (f a 
 
 arithmetic_right : (f : ℤ → ℤ → Outcome) → ((a b : ℤ) → outcome_fits type.Int (Some (f a b)) ≡ true) → RowRight (Two Whole Whole (arithmetic_row f))
 arithmetic_right f h = λ l m. (omega arith, λ a b p q. (h a b, omega arith))
+
+uint_range_fits : (b : Bool) (n : ℕ) → outcome_fits type.Uint (Some (cond b (Ok (value.Uint n)) (Err Overflow))) ≡ true
+uint_range_fits true n = uint_fits n
+uint_range_fits false n = refl
+
+natural_right : (f : ℕ → ℕ → Outcome) → ((a b : ℕ) → outcome_fits type.Uint (Some (f a b)) ≡ true) → RowRight (Two Natural Natural (natural_row f))
+natural_right f h = λ l m. (omega arith, λ a b p q. (h a b, omega arith))
 
 -- what fits weighs at most the greatest weight, and that is 1 at least
 one_greatest : (s t : CelType) → 1 ≤ lesser_greatest s t
@@ -187,6 +201,7 @@ pub row_right : (op : Operator) → RowRight (row op)
 row_right Not = λ l. (omega arith, λ b p. (bool_fits (not b), omega arith))
 row_right Negate = λ l. (omega arith, λ n p. (checked_fits (neg_ℤ n), omega arith))
 row_right Add = arithmetic_right _ (λ a b. checked_fits (a +ℤ b))
+row_right AddUint = natural_right _ (λ a b. uint_range_fits (nat_lt (a + b) (2 ^ 64)) (a + b))
 row_right Subtract = arithmetic_right _ (λ a b. checked_fits (a -ℤ b))
 row_right Multiply = arithmetic_right _ (λ a b. checked_fits (a *ℤ b))
 row_right Divide = arithmetic_right _ (divided_fits int_div)

@@ -8,13 +8,14 @@ use Rattle.cel_value.specs.declared.cel_error.CelError.{CelError}
 use Rattle.cel_value.specs.CelType.{fits}
 use Rattle.cel_check.specs.Outcomes.{Outcome, Side}
 pub use Rattle.cel_check.specs.declared.operands.Want.{Want}
-pub use Rattle.cel_check.specs.declared.operands.Want.TheVariants.{Any, Truth, Whole, Ordered}
+pub use Rattle.cel_check.specs.declared.operands.Want.TheVariants.{Any, Truth, Whole, Natural, Ordered}
 
 -- what an operand of the kind is
 abbrev pub Of : Want → Type 0
 Of Any = Value
 Of Truth = Bool
 Of Whole = ℤ
+Of Natural = ℕ
 Of Ordered = Value
 
 -- the order that a level stands in, by its number: 2 that of truth values, 3 that of integers; 0 is none
@@ -48,6 +49,7 @@ abbrev pub taken_at : (w : Want) → Value → Value-F Value → Option (Result 
 taken_at Any v _ = Some (Ok v)
 taken_at Truth v (Value-F.Bool b) = Some (Ok b)
 taken_at Whole v (Value-F.Int n) = Some (Ok n)
+taken_at Natural v (Value-F.Uint n) = Some (Ok n)
 taken_at Ordered v p = in_order (order_at p) (Ok v)
 taken_at _ v _ = None
 
@@ -70,6 +72,7 @@ abbrev pub Limit : Want → Type 0
 Limit Any = CelType
 Limit Truth = Unit {0}
 Limit Whole = Unit {0}
+Limit Natural = Unit {0}
 Limit Ordered = CelType
 
 -- what a type, whose level is given, says where it is one of the kind; Never is one of each
@@ -79,6 +82,8 @@ limit_at Truth t CelType-F.Never = Some tt
 limit_at Truth t CelType-F.Bool = Some tt
 limit_at Whole t CelType-F.Never = Some tt
 limit_at Whole t CelType-F.Int = Some tt
+limit_at Natural t CelType-F.Never = Some tt
+limit_at Natural t CelType-F.Uint = Some tt
 limit_at Ordered t o = in_order (order_of_level o) t
 limit_at _ t _ = None
 
@@ -91,4 +96,5 @@ abbrev pub Within : (w : Want) → Limit w → Of w → Type 0
 Within Any t v = fits v t ≡ true
 Within Truth l b = Unit {0}
 Within Whole l n = Unit {0}
+Within Natural l n = Unit {0}
 Within Ordered t v = (fits v t ≡ true) × (1 ≤ order_of v) × (order_of v ≡ order_of_type t)

@@ -20,7 +20,7 @@ pub use checker::check;
 pub use fault::{CheckError, TypeFault, TypeRule, Untyped};
 pub use greatest::{greatest_of_one, greatest_of_two};
 pub use operands::{Operands, Want};
-pub use operator::{Made, Operator, Overload, is_ordered, is_truth, is_whole};
+pub use operator::{Made, Operator, Overload, is_natural, is_ordered, is_truth, is_whole};
 pub use scope::Scope;
 pub use tree::{Form, TypedTree};
 pub use typed::Typed;

@@ -4,6 +4,8 @@ pub enum Want {
     Any,
     Truth,
     Whole,
+    /// An unsigned integer.
+    Natural,
     /// A value of a kind that has an order.
     Ordered,
 }

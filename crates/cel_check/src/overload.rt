@@ -74,7 +74,7 @@ fn binary_overloads(operator: BinaryOperator) -> &'static [Operator]
         BinaryOperator::Equal => &[Operator::Equal],
         BinaryOperator::NotEqual => &[Operator::NotEqual],
         BinaryOperator::In => &[],
-        BinaryOperator::Add => &[Operator::Add],
+        BinaryOperator::Add => &[Operator::Add, Operator::AddUint],
         BinaryOperator::Subtract => &[Operator::Subtract],
         BinaryOperator::Multiply => &[Operator::Multiply],
         BinaryOperator::Divide => &[Operator::Divide],

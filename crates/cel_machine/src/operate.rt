@@ -1,10 +1,10 @@
-ghost use Rattle.std.specs.Prelude.{◌≡◌, ◌-◌, ◌^◌, min, Some, Ok, neg_ℤ, ◌+ℤ◌, ◌-ℤ◌, ◌*ℤ◌, int_div, int_rem};
+ghost use Rattle.std.specs.Prelude.{◌≡◌, ◌+◌, ◌-◌, ◌^◌, min, Some, Ok, neg_ℤ, ◌+ℤ◌, ◌-ℤ◌, ◌*ℤ◌, int_div, int_rem};
 ghost use Rattle.cel_value.specs.declared.value.Value as value;
-ghost use Rattle.cel_check.specs.Operators.{row, operands_of, at_one, at_two, int_or_overflow, divided, less as order_of, lesser_weight as weight_of_lesser, makes};
+ghost use Rattle.cel_check.specs.Operators.{row, operands_of, at_one, at_two, int_or_overflow, uint_or_overflow, divided, less as order_of, lesser_weight as weight_of_lesser, makes};
 ghost use Rattle.cel_check.specs.Meaning.{is_there};
 ghost use Rattle.cel_check.specs.declared.operands.Want.TheVariants.{Ordered};
 ghost use Rattle.cel_check.specs.Wants.{taken};
-ghost use Rattle.cel_machine.specs.Families.{IsOnAny, IsOnInts, IsOnOrdered, truth_where};
+ghost use Rattle.cel_machine.specs.Families.{IsOnAny, IsOnInts, IsOnNaturals, IsOnOrdered, truth_where};
 ghost use Rattle.cel_machine.specs.Follow.{counted};
 ghost use Rattle.cel_machine.specs.Lent.{lent};
 
@@ -44,6 +44,7 @@ pub fn on_two(
 {
     match op.operands() {
         Operands::Two(Want::Whole, Want::Whole) => arithmetic(op, x, y),
+        Operands::Two(Want::Natural, Want::Natural) => natural_arithmetic(op, x, y),
         Operands::Two(Want::Any, Want::Any) => equality(op, x, y),
         Operands::Two(Want::Ordered, Want::Ordered) => order(op, x, y),
         _ => None,
@@ -83,6 +84,41 @@ fn computed(op: Operator, m: i64, n: i64) -> Result<Value, CelError>
         Operator::Divide => quotient(m, n),
         Operator::Remainder => remainder(m, n),
         _ => unreachable!(),
+    }
+}
+
+fn natural_arithmetic(
+    op: Operator,
+    x: Result<&Value, CelError>,
+    y: Result<&Value, CelError>,
+) -> Option<Made>
+    requires { IsOnNaturals (operands_of (row op)) }
+    ensures { result ≡ counted (at_two (row op) (Some (lent x.entry)) (Some (lent y.entry))) }
+{
+    match (x, y) {
+        (Ok(Value::Uint(m)), Ok(Value::Uint(n))) => made(naturals_computed(op, *m, *n), 1),
+        (Ok(Value::Uint(_)), Err(e)) => made(Err(e), 1),
+        (Err(e), Ok(Value::Uint(_)) | Err(_)) => made(Err(e), 1),
+        _ => None,
+    }
+}
+
+fn naturals_computed(op: Operator, m: u64, n: u64) -> Result<Value, CelError>
+    requires { IsOnNaturals (operands_of (row op)) }
+    ensures { at_two (row op) (Some (Ok (value.Uint m))) (Some (Ok (value.Uint n))) ≡ makes (Some result) 1 }
+{
+    match op {
+        Operator::AddUint => uint_sum(m, n),
+        _ => unreachable!(),
+    }
+}
+
+fn uint_sum(m: u64, n: u64) -> Result<Value, CelError>
+    ensures { result ≡ uint_or_overflow (m + n) }
+{
+    match m.checked_add(n) {
+        Some(sum) => Ok(Value::Uint(sum)),
+        None => Err(CelError::Overflow),
     }
 }
 
