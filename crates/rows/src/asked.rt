@@ -1,6 +1,6 @@
 //! Tables of rows, each a question with its answer.
 
-use crate::{containers, names, schemas, tokens, values};
+use crate::{containers, names, operands, schemas, tokens, values};
 use std::alloc::{AllocError, Global};
 use std::process::Abort;
 use std::test::Fail;
@@ -17,6 +17,7 @@ pub enum Asked {
     Types,
     Values,
     Unsigned,
+    Fields,
     Schema,
     /// A document at this schema, with the name of its root.
     Document(&'static str, &'static str),
@@ -41,6 +42,7 @@ fn answer(alloc: Global, asked: Asked, row: &str) -> Result<String, AllocError> 
         Asked::Types => values::types(alloc, row),
         Asked::Values => values::values(alloc, row),
         Asked::Unsigned => values::unsigned(alloc, row),
+        Asked::Fields => operands::fields(alloc, row),
         Asked::Schema => schemas::schema(alloc, row),
         Asked::Document(schema, root) => schemas::document(alloc, schema, root, row),
         Asked::Tokens => tokens::shown(alloc, row),

@@ -20,6 +20,8 @@ mod names;
 #[cfg(test)]
 mod notation;
 #[cfg(test)]
+mod operands;
+#[cfg(test)]
 mod programs;
 #[cfg(test)]
 mod schemas;

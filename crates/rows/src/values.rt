@@ -65,7 +65,7 @@ pub fn types(alloc: Global, row: &str) -> Result<String, AllocError> {
 }
 
 /// The value of a document at a type. A document that is none is as null.
-fn value_at(alloc: Global, cel_type: &Json, document: &Json) -> Result<Value, AllocError> {
+pub fn value_at(alloc: Global, cel_type: &Json, document: &Json) -> Result<Value, AllocError> {
     let cel_type = type_of(alloc, cel_type)?;
     match fit(alloc, document, &cel_type, "") {
         Ok(value) => Ok(value),
