@@ -1,5 +1,5 @@
 -- Values and types by their levels.
-use Rattle.std.proofs.Common.{◌≡◌, Bool, true, Some, ap, sym, ◌∙◌, refl, rules, true≢false}
+use Rattle.std.proofs.Common.{◌≡◌, ℕ, Bool, true, Some, ap, sym, ◌∙◌, refl, rules, true≢false}
 use Rattle.std.proofs.lemmas.Option.{none-some, same_Some}
 use Rattle.std.specs.Prelude.{ℤ, Ok, Err}
 use Rattle.cel_value.specs.declared.value.Value as value
@@ -7,7 +7,7 @@ use Rattle.cel_value.specs.declared.value.Value.{Value, out-Value, roll-Value, t
 use Rattle.cel_value.specs.declared.value.Value.TheOpen.{Value-F}
 use Rattle.cel_value.specs.declared.value.Value.TheVariants.{rolls-Bool}
 use Rattle.cel_value.specs.declared.cel_type.CelType as type
-use Rattle.cel_value.specs.declared.cel_type.CelType.{CelType, out-CelType, roll-CelType, the_lemmas as type_lemmas}
+use Rattle.cel_value.specs.declared.cel_type.CelType.{CelType, out-CelType, the_lemmas as type_lemmas}
 use Rattle.cel_value.specs.declared.cel_type.CelType.TheOpen.{CelType-F}
 use Rattle.cel_value.specs.declared.cel_type.CelType.TheFolds.{map-CelType, fold_out-CelType}
 use Rattle.cel_value.specs.Fits.{fits, fits_at, fits_step}
@@ -31,6 +31,9 @@ out-Bool b = search (rules, value_lemmas)
 pub out-Int : (n : ℤ) → out-Value (value.Int n) ≡ Value-F.Int n
 out-Int n = search (rules, value_lemmas)
 
+pub out-Uint : (n : ℕ) → out-Value (value.Uint n) ≡ Value-F.Uint n
+out-Uint n = search (rules, value_lemmas)
+
 pub out-type-Bool : out-CelType type.Bool ≡ CelType-F.Bool
 out-type-Bool = search (rules, type_lemmas)
 
@@ -51,6 +54,9 @@ bool_fits b = fits-levels (value.Bool b) type.Bool (Value-F.Bool b) CelType-F.Bo
 
 pub int_fits : (n : ℤ) → fits (value.Int n) type.Int ≡ true
 int_fits n = fits-levels (value.Int n) type.Int (Value-F.Int n) CelType-F.Int (out-Int n) out-type-Int
+
+pub uint_fits : (n : ℕ) → fits (value.Uint n) type.Uint ≡ true
+uint_fits n = fits-levels (value.Uint n) type.Uint (Value-F.Uint n) CelType-F.Uint (out-Uint n) out-type-Uint
 
 -- no value has the type Never
 pub never_fits : (v : Value) → fits v type.Never ≡ true → ⊥

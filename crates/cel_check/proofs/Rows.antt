@@ -1,7 +1,8 @@
 -- What an operator answers is of the type that its row gives, and its charge is at most the greatest.
-use Rattle.std.proofs.Common.{◌≡◌, ℕ, zero, suc, cond, ◌≤◌, Bool, true, false, not, Option, Some, None, refl, sym, ◌∙◌, subst, arith, true≢false}
-use Rattle.std.specs.Prelude.{Result, Ok, Err, ℤ, pos, negsuc, ◌+ℤ◌, ◌-ℤ◌, ◌*ℤ◌, neg_ℤ, int_div, int_rem, int_lt}
+use Rattle.std.proofs.Common.{◌≡◌, ℕ, zero, suc, ◌+◌, ◌^◌, cond, ◌≤◌, Bool, true, false, not, Option, Some, None, refl, ap, sym, ◌∙◌, subst, inl, inr, arith, true≢false}
+use Rattle.std.specs.Prelude.{Result, Ok, Err, ℤ, pos, negsuc, ◌+ℤ◌, ◌-ℤ◌, ◌*ℤ◌, neg_ℤ, int_div, int_rem, int_lt, nat_lt}
 use Rattle.std.proofs.lemmas.Option.{none-some, same_Some}
+use Rattle.std.proofs.lemmas.Bool.{cases_Bool}
 use Rattle.cel_value.specs.declared.value.Value.{Value, out-Value}
 use Rattle.cel_value.specs.declared.value.Value as value
 use Rattle.cel_value.specs.declared.value.Value.TheOpen.{Value-F}
@@ -15,14 +16,16 @@ use Rattle.cel_value.specs.Fits.{fits_at}
 use Rattle.cel_value.specs.Value.{same, bool_lt}
 use Rattle.cel_value.proofs.Bounds.{weight_of-le}
 use Rattle.cel_value.proofs.Soundness.{IsWithin-from_assignable}
-use Rattle.cel_value.proofs.Joins.{join-Bool-Int, join-Int-Bool}
-use Rattle.cel_check.proofs.Opened.{opened, fits-out, bool_fits, int_fits}
+use Rattle.cel_value.specs.JoinRules.{IsBare, same_kind_at, are_of_one_kind}
+use Rattle.cel_value.proofs.Joins.{IsBareLevel, bare_from}
+use Rattle.cel_value.proofs.JoinRules.{join-apart}
+use Rattle.cel_check.proofs.Opened.{opened, fits-out, bool_fits, int_fits, uint_fits}
 use Rattle.cel_check.specs.declared.operator.Operator.{Operator}
-use Rattle.cel_check.specs.declared.operator.Operator.TheVariants.{Not, Negate, Add, Subtract, Multiply, Divide, Remainder, Equal, NotEqual, Less, AtMost, Greater, AtLeast}
+use Rattle.cel_check.specs.declared.operator.Operator.TheVariants.{Not, Negate, Add, AddUint, Subtract, Multiply, Divide, Remainder, Equal, NotEqual, Less, AtMost, Greater, AtLeast}
 use Rattle.cel_check.specs.declared.fault.TypeRule.{TypeRule}
 use Rattle.cel_check.specs.Outcomes.{Outcome, outcome_fits}
-use Rattle.cel_check.specs.Wants.{Want, Any, Truth, Whole, Ordered, Of, taken_at, taken_value, taken, Limit, limit_at, limit_of, Within, IsOrdered, IsOrderedLevel}
-use Rattle.cel_check.specs.Operators.{OneRow, TwoRow, Row, One, Two, row, in_range, int_or_overflow, divided, less_at, truth_of, untruth_of, bool_where, lesser_weight, lesser_greatest, arithmetic_row, equality_row, order_row, Made, makes, one, two, at_one, at_two, outcome_made, charge_made, of_limit, of_limits, type_of_one, type_of_two, most, most_of_two, greatest_of_one, greatest_of_two}
+use Rattle.cel_check.specs.Wants.{Want, Any, Truth, Whole, Natural, Ordered, Of, taken_at, taken_value, taken, Limit, limit_at, limit_of, Within, order_at, order_of, order_of_level, order_of_type, in_order}
+use Rattle.cel_check.specs.Operators.{OneRow, TwoRow, Row, One, Two, row, in_range, int_or_overflow, divided, less_at, less, truth_of, untruth_of, bool_where, lesser_weight, lesser_greatest, arithmetic_row, natural_row, equality_row, order_row, Made, makes, one, two, at_one, at_two, outcome_made, charge_made, of_limit, of_limits, type_of_one, type_of_two, most, most_of_two, greatest_of_one, greatest_of_two}
 
 -- an operand of the right type, taken as one of the kind, is an error or within the limit
 abbrev pub Taken : (w : Want) → Limit w → Option (Result (Of w) CelError) → Type 0
@@ -30,8 +33,22 @@ Taken w l None = ⊥
 Taken w l (Some (Err e)) = Unit {0}
 Taken w l (Some (Ok a)) = Within w l a
 
-in_order : (t : CelType) (o : CelType-F CelType) → out-CelType t ≡ o → IsOrderedLevel o → IsOrdered t
-in_order t o e h = subst IsOrderedLevel (sym e) h
+-- a value of a type whose values have an order stands in that order
+ordered_level : (o : CelType-F CelType) (p : Value-F Value) → fits_at (opened o) p ≡ true → 1 ≤ order_of_level o → order_at p ≡ order_of_level o
+ordered_level CelType-F.Bool (Value-F.Bool b) h k = refl
+ordered_level CelType-F.Int (Value-F.Int n) h k = refl
+ordered_level CelType-F.Never p h k = absurd (true≢false (sym h))
+ordered_level CelType-F.Bool _ h k = absurd (true≢false (sym h))
+ordered_level CelType-F.Int _ h k = absurd (true≢false (sym h))
+ordered_level _ p h k = absurd (omega (arith, k))
+
+in_order-some : {A : Type 0} (n : ℕ) (x y : A) → in_order n x ≡ Some y → (1 ≤ n) × (x ≡ y)
+in_order-some zero x y e = absurd (none-some _ e)
+in_order-some (suc n) x y e = (omega arith, same_Some _ _ e)
+
+some-in_order : {A : Type 0} (n : ℕ) (x : A) → 1 ≤ n → in_order n x ≡ Some x
+some-in_order zero x h = absurd (omega (arith, h))
+some-in_order (suc n) x h = refl
 
 truth_taken : (v : Value) (o : CelType-F CelType) (p : Value-F Value) (t : CelType) (l : Limit Truth) → limit_at Truth t o ≡ Some l → fits_at (opened o) p ≡ true → Taken Truth l (taken_at Truth v p)
 truth_taken v CelType-F.Never p t l e h = absurd (true≢false (sym h))
@@ -45,19 +62,25 @@ whole_taken v CelType-F.Int (Value-F.Int n) t l e h = tt
 whole_taken v CelType-F.Int _ t l e h = absurd (true≢false (sym h))
 whole_taken v _ p t l e h = absurd (none-some _ e)
 
-ordered_taken : (v : Value) (o : CelType-F CelType) (p : Value-F Value) (t : CelType) (l : Limit Ordered) → out-CelType t ≡ o → limit_at Ordered t o ≡ Some l → fits_at (opened o) p ≡ true → fits v t ≡ true → Taken Ordered l (taken_at Ordered v p)
-ordered_taken v CelType-F.Never p t l i e h f = absurd (true≢false (sym h))
-ordered_taken v CelType-F.Bool (Value-F.Bool b) t l i e h f = let same = same_Some _ _ e in (subst (λ s. fits v s ≡ true) same f, subst IsOrdered same (in_order t CelType-F.Bool i tt))
-ordered_taken v CelType-F.Bool _ t l i e h f = absurd (true≢false (sym h))
-ordered_taken v CelType-F.Int (Value-F.Int n) t l i e h f = let same = same_Some _ _ e in (subst (λ s. fits v s ≡ true) same f, subst IsOrdered same (in_order t CelType-F.Int i tt))
-ordered_taken v CelType-F.Int _ t l i e h f = absurd (true≢false (sym h))
-ordered_taken v _ p t l i e h f = absurd (none-some _ e)
+natural_taken : (v : Value) (o : CelType-F CelType) (p : Value-F Value) (t : CelType) (l : Limit Natural) → limit_at Natural t o ≡ Some l → fits_at (opened o) p ≡ true → Taken Natural l (taken_at Natural v p)
+natural_taken v CelType-F.Never p t l e h = absurd (true≢false (sym h))
+natural_taken v CelType-F.Uint (Value-F.Uint n) t l e h = tt
+natural_taken v CelType-F.Uint _ t l e h = absurd (true≢false (sym h))
+natural_taken v _ p t l e h = absurd (none-some _ e)
+
+ordered_taken : (v : Value) (t : CelType) (l : Limit Ordered) → limit_of Ordered t ≡ Some l → fits v t ≡ true → Taken Ordered l (taken_value Ordered v)
+ordered_taken v t l e h =
+    let o = in_order-some (order_of_type t) t l e in
+    let q = ordered_level (out-CelType t) (out-Value v) (sym (fits-out v t) ∙ h) o.0 in
+    let known : 1 ≤ order_of v = subst (λ n. 1 ≤ n) (sym q) o.0 in
+    subst (Taken Ordered l) (sym (some-in_order (order_of v) (Ok v) known)) (subst (λ s. fits v s ≡ true) o.1 h, known, q ∙ ap order_of_type o.1)
 
 value_taken : (w : Want) (t : CelType) (v : Value) (l : Limit w) → limit_of w t ≡ Some l → fits v t ≡ true → Taken w l (taken_value w v)
 value_taken Any t v l e h = subst (λ s. fits v s ≡ true) (same_Some _ _ e) h
 value_taken Truth t v l e h = truth_taken v (out-CelType t) (out-Value v) t l e (sym (fits-out v t) ∙ h)
 value_taken Whole t v l e h = whole_taken v (out-CelType t) (out-Value v) t l e (sym (fits-out v t) ∙ h)
-value_taken Ordered t v l e h = ordered_taken v (out-CelType t) (out-Value v) t l refl e (sym (fits-out v t) ∙ h) h
+value_taken Natural t v l e h = natural_taken v (out-CelType t) (out-Value v) t l e (sym (fits-out v t) ∙ h)
+value_taken Ordered t v l e h = ordered_taken v t l e h
 
 pub taken_fits : (w : Want) (t : CelType) (x : Option Outcome) (l : Limit w) → limit_of w t ≡ Some l → outcome_fits t x ≡ true → Taken w l (taken w x)
 taken_fits w t None l e h = absurd (true≢false (sym h))
@@ -95,6 +118,13 @@ divided_fits f a (negsuc n) = range_fits (in_range (int_div a (negsuc n))) (f a 
 arithmetic_right : (f : ℤ → ℤ → Outcome) → ((a b : ℤ) → outcome_fits type.Int (Some (f a b)) ≡ true) → RowRight (Two Whole Whole (arithmetic_row f))
 arithmetic_right f h = λ l m. (omega arith, λ a b p q. (h a b, omega arith))
 
+uint_range_fits : (b : Bool) (n : ℕ) → outcome_fits type.Uint (Some (cond b (Ok (value.Uint n)) (Err Overflow))) ≡ true
+uint_range_fits true n = uint_fits n
+uint_range_fits false n = refl
+
+natural_right : (f : ℕ → ℕ → Outcome) → ((a b : ℕ) → outcome_fits type.Uint (Some (f a b)) ≡ true) → RowRight (Two Natural Natural (natural_row f))
+natural_right f h = λ l m. (omega arith, λ a b p q. (h a b, omega arith))
+
 -- what fits weighs at most the greatest weight, and that is 1 at least
 one_greatest : (s t : CelType) → 1 ≤ lesser_greatest s t
 one_greatest s t = omega (arith, (weight_of-le s).0, (weight_of-le t).0)
@@ -109,55 +139,79 @@ where_right (Some t) P h = h
 equality_right : (f : Bool → Bool) → RowRight (Two Any Any (equality_row f))
 equality_right f = λ s t. where_right (type_join s t) (TwoGood Any Any (equality_row f) s t) (one_greatest s t, λ v w p q. (bool_fits (f (same v w)), weight_within v w s t p q))
 
--- two values of types that have a join are of one kind
-abbrev LessFits : Value → Value → Value-F Value → Value-F Value → Option CelType → Type 0
-LessFits v w p q o = Gives (bool_where o) (λ u. (outcome_fits u (truth_of (less_at p q)) ≡ true) × (outcome_fits u (untruth_of (less_at p q)) ≡ true) × (outcome_fits u (truth_of (less_at q p)) ≡ true) × (outcome_fits u (untruth_of (less_at q p)) ≡ true))
+-- types of one kind give their values one order
+kind_order : (o r : CelType-F CelType) → same_kind_at o r ≡ true → order_of_level o ≡ order_of_level r
+kind_order CelType-F.Never CelType-F.Never h = refl
+kind_order CelType-F.Null CelType-F.Null h = refl
+kind_order CelType-F.Bool CelType-F.Bool h = refl
+kind_order CelType-F.Int CelType-F.Int h = refl
+kind_order CelType-F.Uint CelType-F.Uint h = refl
+kind_order (CelType-F.Text m) (CelType-F.Text n) h = refl
+kind_order (CelType-F.List m p s) (CelType-F.List n q t) h = refl
+kind_order (CelType-F.Map m i s) (CelType-F.Map n j t) h = refl
+kind_order (CelType-F.Object fs) (CelType-F.Object gs) h = refl
+kind_order (CelType-F.Nullable s) (CelType-F.Nullable t) h = refl
+kind_order CelType-F.Opaque CelType-F.Opaque h = refl
+kind_order _ _ h = absurd (true≢false (sym h))
 
-comparison : (v w : Value) (p q : Value-F Value) (o : Option CelType) (a b : Bool) → less_at p q ≡ Some a → less_at q p ≡ Some b → LessFits v w p q o
-comparison v w p q None a b e f = tt
-comparison v w p q (Some t) a b e f = rw (e, f) (bool_fits a, bool_fits (not a), bool_fits b, bool_fits (not b))
+-- a type that has a value in an order is none of Never, Null and Nullable
+bare_level : (o : CelType-F CelType) (p : Value-F Value) → fits_at (opened o) p ≡ true → 1 ≤ order_of_level o → IsBareLevel o
+bare_level CelType-F.Never p h k = absurd (true≢false (sym h))
+bare_level CelType-F.Null p h k = absurd (omega (arith, k))
+bare_level (CelType-F.Nullable t) p h k = absurd (omega (arith, k))
+bare_level _ p h k = tt
 
-less_levels : (v w : Value) (p q : Value-F Value) (s t : CelType) (o r : CelType-F CelType) → out-CelType s ≡ o → out-CelType t ≡ r → fits_at (opened o) p ≡ true → fits_at (opened r) q ≡ true → IsOrderedLevel o → IsOrderedLevel r → LessFits v w p q (type_join s t)
-less_levels v w p q s t CelType-F.Never r e f h k i j = absurd (true≢false (sym h))
-less_levels v w p q s t o CelType-F.Never e f h k i j = absurd (true≢false (sym k))
-less_levels v w (Value-F.Bool a) (Value-F.Bool b) s t CelType-F.Bool CelType-F.Bool e f h k i j = comparison v w (Value-F.Bool a) (Value-F.Bool b) (type_join s t) (bool_lt a b) (bool_lt b a) refl refl
-less_levels v w (Value-F.Int a) (Value-F.Int b) s t CelType-F.Int CelType-F.Int e f h k i j = comparison v w (Value-F.Int a) (Value-F.Int b) (type_join s t) (int_lt a b) (int_lt b a) refl refl
-less_levels v w p q s t CelType-F.Bool CelType-F.Int e f h k i j = rw (join-Bool-Int s t e f) tt
-less_levels v w p q s t CelType-F.Int CelType-F.Bool e f h k i j = rw (join-Int-Bool s t e f) tt
-less_levels v w (Value-F.Bool a) _ s t CelType-F.Bool CelType-F.Bool e f h k i j = absurd (true≢false (sym k))
-less_levels v w (Value-F.Int a) _ s t CelType-F.Int CelType-F.Int e f h k i j = absurd (true≢false (sym k))
-less_levels v w _ q s t CelType-F.Bool CelType-F.Bool e f h k i j = absurd (true≢false (sym h))
-less_levels v w _ q s t CelType-F.Int CelType-F.Int e f h k i j = absurd (true≢false (sym h))
-less_levels v w p q s t CelType-F.Bool _ e f h k i j = absurd j
-less_levels v w p q s t CelType-F.Int _ e f h k i j = absurd j
-less_levels v w p q s t _ r e f h k i j = absurd i
+bare_ordered : (v : Value) (t : CelType) → Within Ordered t v → IsBare t
+bare_ordered v t p = bare_from (out-CelType t) t refl (bare_level (out-CelType t) (out-Value v) (sym (fits-out v t) ∙ p.0) (subst (λ n. 1 ≤ n) p.2 p.1))
 
-less_fits : (v w : Value) (s t : CelType) → Within Ordered s v → Within Ordered t w → LessFits v w (out-Value v) (out-Value w) (type_join s t)
-less_fits v w s t p q = less_levels v w (out-Value v) (out-Value w) s t (out-CelType s) (out-CelType t) refl refl (sym (fits-out v s) ∙ p.0) (sym (fits-out w t) ∙ q.0) p.1 q.1
+-- two values stand in one order
+abbrev InOneOrder : Value → Value → Type 0
+InOneOrder v w = (1 ≤ order_of v) × (order_of v ≡ order_of w)
 
--- what holds of the type that is given, for one type after another
-gives_map : (r : Result CelType TypeRule) (P Q : CelType → Type 0) → ((t : CelType) → P t → Q t) → Gives r P → Gives r Q
-gives_map (Err e) P Q f h = tt
-gives_map (Ok t) P Q f h = f t h
+-- values of types that have a join stand in one order, if they stand in any
+one_order : (v w : Value) (s t u : CelType) → type_join s t ≡ Some u → Within Ordered s v → Within Ordered t w → InOneOrder v w
+one_order v w s t u e p q = elim (cases_Bool (are_of_one_kind s t)) [
+  | inl y ↦ (p.1, p.2 ∙ kind_order (out-CelType s) (out-CelType t) y ∙ sym q.2)
+  | inr n ↦ absurd (none-some _ (sym (join-apart s t (bare_ordered v s p) (bare_ordered w t q) (λ y. true≢false (sym y ∙ n))) ∙ e))
+]
 
-order_gives : (f : Value → Value → Option Outcome) (s t : CelType) (o : Option CelType) → ((v w : Value) → Within Ordered s v → Within Ordered t w → Gives (bool_where o) (λ u. outcome_fits u (f v w) ≡ true)) → Gives (bool_where o) (TwoGood Ordered Ordered (order_row f) s t)
-order_gives f s t None h = tt
-order_gives f s t (Some u) h = (one_greatest s t, λ v w p q. (h v w p q, weight_within v w s t p.0 q.0))
+turned : (v w : Value) → InOneOrder v w → InOneOrder w v
+turned v w h = (subst (λ n. 1 ≤ n) h.1 h.0, sym h.1)
+
+-- levels in one order are compared
+less_there : (p q : Value-F Value) → 1 ≤ order_at p → order_at p ≡ order_at q → (b : Bool) × (less_at p q ≡ Some b)
+less_there (Value-F.Bool a) (Value-F.Bool b) h e = (bool_lt a b, refl)
+less_there (Value-F.Int m) (Value-F.Int n) h e = (int_lt m n, refl)
+less_there _ _ h e = absurd (omega (arith, h, e))
+
+truth_fits : (v w : Value) → InOneOrder v w → outcome_fits type.Bool (truth_of (less v w)) ≡ true
+truth_fits v w h = let l = less_there (out-Value v) (out-Value w) h.0 h.1 in rw l.1 (bool_fits l.0)
+
+untruth_fits : (v w : Value) → InOneOrder v w → outcome_fits type.Bool (untruth_of (less v w)) ≡ true
+untruth_fits v w h = let l = less_there (out-Value v) (out-Value w) h.0 h.1 in rw l.1 (bool_fits (not l.0))
+
+order_right : (f : Value → Value → Option Outcome) → ((v w : Value) → InOneOrder v w → outcome_fits type.Bool (f v w) ≡ true) → RowRight (Two Ordered Ordered (order_row f))
+order_right f h = λ s t. joined_right s t (type_join s t) refl
+  where
+    joined_right : (s t : CelType) (o : Option CelType) → type_join s t ≡ o → Gives (bool_where o) (TwoGood Ordered Ordered (order_row f) s t)
+    joined_right s t None e = tt
+    joined_right s t (Some u) e = (one_greatest s t, λ v w p q. (h v w (one_order v w s t u e p q), weight_within v w s t p.0 q.0))
 
 pub row_right : (op : Operator) → RowRight (row op)
 row_right Not = λ l. (omega arith, λ b p. (bool_fits (not b), omega arith))
 row_right Negate = λ l. (omega arith, λ n p. (checked_fits (neg_ℤ n), omega arith))
 row_right Add = arithmetic_right _ (λ a b. checked_fits (a +ℤ b))
+row_right AddUint = natural_right _ (λ a b. uint_range_fits (nat_lt (a + b) (2 ^ 64)) (a + b))
 row_right Subtract = arithmetic_right _ (λ a b. checked_fits (a -ℤ b))
 row_right Multiply = arithmetic_right _ (λ a b. checked_fits (a *ℤ b))
 row_right Divide = arithmetic_right _ (divided_fits int_div)
 row_right Remainder = arithmetic_right _ (divided_fits int_rem)
 row_right Equal = equality_right (λ b. b)
 row_right NotEqual = equality_right not
-row_right Less = λ s t. order_gives _ s t (type_join s t) (λ v w p q. gives_map (bool_where (type_join s t)) _ _ (λ u z. z.0) (less_fits v w s t p q))
-row_right AtMost = λ s t. order_gives _ s t (type_join s t) (λ v w p q. gives_map (bool_where (type_join s t)) _ _ (λ u z. z.3) (less_fits v w s t p q))
-row_right Greater = λ s t. order_gives _ s t (type_join s t) (λ v w p q. gives_map (bool_where (type_join s t)) _ _ (λ u z. z.2) (less_fits v w s t p q))
-row_right AtLeast = λ s t. order_gives _ s t (type_join s t) (λ v w p q. gives_map (bool_where (type_join s t)) _ _ (λ u z. z.1) (less_fits v w s t p q))
+row_right Less = order_right _ truth_fits
+row_right AtMost = order_right _ (λ v w h. untruth_fits w v (turned v w h))
+row_right Greater = order_right _ (λ v w h. truth_fits w v (turned v w h))
+row_right AtLeast = order_right _ untruth_fits
 
 -- an outcome of a type is one of each type that takes it
 pub wider : (s t : CelType) (x : Option Outcome) → assignable s t ≡ true → outcome_fits s x ≡ true → outcome_fits t x ≡ true

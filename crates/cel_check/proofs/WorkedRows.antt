@@ -1,5 +1,5 @@
 -- Rows of the tables, worked by the definitions.
-use Rattle.std.proofs.Common.{◌≡◌, true, false, Some, None, ap, refl}
+use Rattle.std.proofs.Common.{◌≡◌, true, false, Some, None, ap, sym, refl, true≢false}
 use Rattle.std.specs.Prelude.{Ok, Err, pos, negsuc}
 use Rattle.cel_value.specs.declared.value.Value as value
 use Rattle.cel_value.specs.declared.cel_type.CelType as type
@@ -12,8 +12,9 @@ use Rattle.cel_check.specs.declared.tree.Form.TheVariants as form
 use Rattle.cel_check.specs.Outcomes.{Env}
 use Rattle.cel_check.specs.Operators.{bool_where, row, at_one, at_two, type_of_two}
 use Rattle.cel_check.specs.Meaning.{value_at, cost_at}
-use Rattle.cel_value.proofs.Joins.{join-Int-Bool}
+use Rattle.cel_value.proofs.Joins.{bare_from}
 use Rattle.cel_value.proofs.Taken.{join-self}
+use Rattle.cel_value.proofs.JoinRules.{join-apart}
 use Rattle.cel_check.proofs.Opened.{out-type-Bool, out-type-Int}
 use Rattle.cel_check.specs.Typing.{Names, node, refused, checked_at}
 
@@ -45,7 +46,7 @@ no_sum_row = refl
 
 no_order_row : type_of_two (row operator.Less) type.Int type.Bool ≡ Err NoOverload
 unfolding type.out-CelType denote.Hole.Carrier.out
-no_order_row = ap bool_where (join-Int-Bool type.Int type.Bool out-type-Int out-type-Bool)
+no_order_row = ap bool_where (join-apart type.Int type.Bool (bare_from _ type.Int out-type-Int tt) (bare_from _ type.Bool out-type-Bool tt) (λ h. true≢false (sym h)))
 
 equal_row : type_of_two (row operator.Equal) type.Int type.Int ≡ Ok type.Bool
 equal_row = ap bool_where (join-self type.Int)

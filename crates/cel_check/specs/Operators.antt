@@ -1,6 +1,6 @@
 -- The operators: for each the kinds of its operands, its answer and errors, its charge, its type and its greatest
 -- charge. The value, the cost, the machine and the verifier take an operator from here alone.
-use Rattle.std.specs.Prelude.{ℕ, zero, ◌^◌, min, ℤ, pos, negsuc, ◌+ℤ◌, ◌-ℤ◌, ◌*ℤ◌, neg_ℤ, int_div, int_rem, int_lt, Bool, not, nat_lt, List, [], ◌∷◌, if◌then◌else◌, slice_get, Option, Some, None, Result, Ok, Err}
+use Rattle.std.specs.Prelude.{ℕ, zero, ◌+◌, ◌^◌, min, ℤ, pos, negsuc, ◌+ℤ◌, ◌-ℤ◌, ◌*ℤ◌, neg_ℤ, int_div, int_rem, int_lt, Bool, not, nat_lt, List, [], ◌∷◌, if◌then◌else◌, slice_get, Option, Some, None, Result, Ok, Err}
 use Rattle.cel_value.specs.declared.value.Value.{Value, out-Value}
 use Rattle.cel_value.specs.declared.value.Value as value
 use Rattle.cel_value.specs.declared.value.Value.TheOpen.{Value-F}
@@ -11,12 +11,14 @@ use Rattle.cel_value.specs.declared.cel_error.CelError.TheVariants.{Overflow, Di
 use Rattle.cel_value.specs.Value.{weight_of, same, bool_lt}
 use Rattle.cel_value.specs.CelType.{greatest_of, join}
 use Rattle.cel_check.specs.declared.operator.Operator.{Operator}
-use Rattle.cel_check.specs.declared.operator.Operator.TheVariants.{Not, Negate, Add, Subtract, Multiply, Divide, Remainder, Equal, NotEqual, Less, AtMost, Greater, AtLeast}
+use Rattle.cel_check.specs.declared.operator.Operator.TheVariants.{Not, Negate, Add, AddUint, Subtract, Multiply, Divide, Remainder, Equal, NotEqual, Less, AtMost, Greater, AtLeast}
 pub use Rattle.cel_check.specs.declared.operator.Made.{Made}
+use Rattle.cel_check.specs.declared.operands.Operands.TheVariants as operands
+use Rattle.cel_check.specs.declared.operands.Operands.{Operands}
 use Rattle.cel_check.specs.declared.fault.TypeRule.{TypeRule}
 use Rattle.cel_check.specs.declared.fault.TypeRule.TheVariants.{NoOverload}
 use Rattle.cel_check.specs.Outcomes.{Outcome}
-use Rattle.cel_check.specs.Wants.{Want, Any, Truth, Whole, Ordered, Of, taken, Limit, limit_of}
+use Rattle.cel_check.specs.Wants.{Want, Any, Truth, Whole, Natural, Ordered, Of, taken, Limit, limit_of}
 
 -- an operator with one operand; None is no answer at an operand of its kind
 pub record OneRow (w : Want) : Type 0 where
@@ -37,6 +39,11 @@ pub data Row : Type 0 where
   One : (w : Want) → OneRow w → Row
   Two : (v w : Want) → TwoRow v w → Row
 
+-- how many operands a row has, and their kinds
+abbrev pub operands_of : Row → Operands
+operands_of (One w r) = operands.One w
+operands_of (Two v w r) = operands.Two v w
+
 -- whether a whole number is an int of 64 bits
 abbrev pub in_range : ℤ → Bool
 in_range (pos n) = nat_lt n (2 ^ 63)
@@ -45,6 +52,10 @@ in_range (negsuc n) = nat_lt n (2 ^ 63)
 -- an int, or that it is out of range
 abbrev pub int_or_overflow : ℤ → Outcome
 int_or_overflow z = if in_range z then Ok (value.Int z) else Err Overflow
+
+-- an unsigned integer, or that it is out of range
+abbrev pub uint_or_overflow : ℕ → Outcome
+uint_or_overflow n = if nat_lt n (2 ^ 64) then Ok (value.Uint n) else Err Overflow
 
 -- a quotient or a remainder; the remainder overflows where the quotient does
 abbrev pub divided : (ℤ → ℤ → ℤ) → ℤ → ℤ → Outcome
@@ -96,6 +107,10 @@ negate_row = record { answer = λ n. Some (int_or_overflow (neg_ℤ n)); charge 
 abbrev pub arithmetic_row : (ℤ → ℤ → Outcome) → TwoRow Whole Whole
 arithmetic_row f = record { answer = λ m n. Some (f m n); charge = λ m n. 1; result = λ l k. Ok type.Int; greatest = λ l k. 1 }
 
+-- an operation on two unsigned integers
+abbrev pub natural_row : (ℕ → ℕ → Outcome) → TwoRow Natural Natural
+natural_row f = record { answer = λ m n. Some (f m n); charge = λ m n. 1; result = λ l k. Ok type.Uint; greatest = λ l k. 1 }
+
 -- `==`, and `!=` by the opposite
 abbrev pub equality_row : (Bool → Bool) → TwoRow Any Any
 equality_row f = record { answer = λ v w. Some (Ok (value.Bool (f (same v w)))); charge = lesser_weight; result = λ s t. bool_where (join s t); greatest = lesser_greatest }
@@ -109,6 +124,7 @@ abbrev pub row : Operator → Row
 row Not = One Truth not_row
 row Negate = One Whole negate_row
 row Add = Two Whole Whole (arithmetic_row (λ m n. int_or_overflow (m +ℤ n)))
+row AddUint = Two Natural Natural (natural_row (λ m n. uint_or_overflow (m + n)))
 row Subtract = Two Whole Whole (arithmetic_row (λ m n. int_or_overflow (m -ℤ n)))
 row Multiply = Two Whole Whole (arithmetic_row (λ m n. int_or_overflow (m *ℤ n)))
 row Divide = Two Whole Whole (arithmetic_row (divided int_div))
@@ -122,7 +138,7 @@ row AtLeast = Two Ordered Ordered (order_row (λ v w. untruth_of (less v w)))
 
 -- the operators by their numbers
 abbrev pub operators : List (Option Operator)
-operators = Some Not ∷ Some Negate ∷ Some Add ∷ None ∷ None ∷ None ∷ Some Subtract ∷ None ∷ Some Multiply ∷ None ∷ Some Divide ∷ None ∷ Some Remainder ∷ None ∷ Some Equal ∷ Some NotEqual ∷ Some Less ∷ Some AtMost ∷ Some Greater ∷ Some AtLeast ∷ []
+operators = Some Not ∷ Some Negate ∷ Some Add ∷ Some AddUint ∷ None ∷ None ∷ Some Subtract ∷ None ∷ Some Multiply ∷ None ∷ Some Divide ∷ None ∷ Some Remainder ∷ None ∷ Some Equal ∷ Some NotEqual ∷ Some Less ∷ Some AtMost ∷ Some Greater ∷ Some AtLeast ∷ []
 
 -- what stands at a place of the list of numbers, if the place is there
 abbrev pub entry_of : Option (Option Operator) → Option Operator
@@ -138,6 +154,7 @@ abbrev pub code_of : Operator → ℕ
 code_of Not = 0
 code_of Negate = 1
 code_of Add = 2
+code_of AddUint = 3
 code_of Subtract = 6
 code_of Multiply = 8
 code_of Divide = 10

@@ -1,5 +1,5 @@
 -- The kinds of operands: what each is taken as, and what its type says of it.
-use Rattle.std.specs.Prelude.{◌≡◌, Bool, true, Option, Some, None, Result, Ok, Err, ℤ}
+use Rattle.std.specs.Prelude.{◌≡◌, ◌≤◌, ℕ, zero, suc, Bool, true, Option, Some, None, Result, Ok, Err, ℤ}
 use Rattle.cel_value.specs.declared.value.Value.{Value, out-Value}
 use Rattle.cel_value.specs.declared.value.Value.TheOpen.{Value-F}
 use Rattle.cel_value.specs.declared.cel_type.CelType.{CelType, out-CelType}
@@ -7,28 +7,50 @@ use Rattle.cel_value.specs.declared.cel_type.CelType.TheOpen.{CelType-F}
 use Rattle.cel_value.specs.declared.cel_error.CelError.{CelError}
 use Rattle.cel_value.specs.CelType.{fits}
 use Rattle.cel_check.specs.Outcomes.{Outcome, Side}
-
--- any value, or one of a kind: a truth value, an integer, a value that has an order
-pub data Want : Type 0 where
-  Any : Want
-  Truth : Want
-  Whole : Want
-  Ordered : Want
+pub use Rattle.cel_check.specs.declared.operands.Want.{Want}
+pub use Rattle.cel_check.specs.declared.operands.Want.TheVariants.{Any, Truth, Whole, Natural, Ordered}
 
 -- what an operand of the kind is
 abbrev pub Of : Want → Type 0
 Of Any = Value
 Of Truth = Bool
 Of Whole = ℤ
+Of Natural = ℕ
 Of Ordered = Value
+
+-- the order that a level stands in, by its number: 2 that of truth values, 3 that of integers; 0 is none
+abbrev pub order_at : Value-F Value → ℕ
+order_at (Value-F.Bool b) = 2
+order_at (Value-F.Int n) = 3
+order_at _ = 0
+
+-- the order that a value stands in
+abbrev pub order_of : Value → ℕ
+order_of v = order_at (out-Value v)
+
+-- the order of a type's values; Never, which has none, is given one of its own
+abbrev pub order_of_level : CelType-F CelType → ℕ
+order_of_level CelType-F.Never = 1
+order_of_level CelType-F.Bool = 2
+order_of_level CelType-F.Int = 3
+order_of_level _ = 0
+
+-- the same, of a whole type
+abbrev pub order_of_type : CelType → ℕ
+order_of_type t = order_of_level (out-CelType t)
+
+-- something, where the number is that of an order
+abbrev pub in_order : {A : Type 0} → ℕ → A → Option A
+in_order zero x = None
+in_order (suc n) x = Some x
 
 -- a value, and its level, as one of the kind; None where it is of another
 abbrev pub taken_at : (w : Want) → Value → Value-F Value → Option (Result (Of w) CelError)
 taken_at Any v _ = Some (Ok v)
 taken_at Truth v (Value-F.Bool b) = Some (Ok b)
 taken_at Whole v (Value-F.Int n) = Some (Ok n)
-taken_at Ordered v (Value-F.Bool b) = Some (Ok v)
-taken_at Ordered v (Value-F.Int n) = Some (Ok v)
+taken_at Natural v (Value-F.Uint n) = Some (Ok n)
+taken_at Ordered v p = in_order (order_at p) (Ok v)
 taken_at _ v _ = None
 
 -- a value as one of the kind
@@ -50,6 +72,7 @@ abbrev pub Limit : Want → Type 0
 Limit Any = CelType
 Limit Truth = Unit {0}
 Limit Whole = Unit {0}
+Limit Natural = Unit {0}
 Limit Ordered = CelType
 
 -- what a type, whose level is given, says where it is one of the kind; Never is one of each
@@ -59,29 +82,19 @@ limit_at Truth t CelType-F.Never = Some tt
 limit_at Truth t CelType-F.Bool = Some tt
 limit_at Whole t CelType-F.Never = Some tt
 limit_at Whole t CelType-F.Int = Some tt
-limit_at Ordered t CelType-F.Never = Some t
-limit_at Ordered t CelType-F.Bool = Some t
-limit_at Ordered t CelType-F.Int = Some t
+limit_at Natural t CelType-F.Never = Some tt
+limit_at Natural t CelType-F.Uint = Some tt
+limit_at Ordered t o = in_order (order_of_level o) t
 limit_at _ t _ = None
 
 -- what a type says where it is one of the kind
 abbrev pub limit_of : (w : Want) → CelType → Option (Limit w)
 limit_of w t = limit_at w t (out-CelType t)
 
--- a level of the types whose values have an order
-abbrev pub IsOrderedLevel : CelType-F CelType → Type 0
-IsOrderedLevel CelType-F.Never = Unit {0}
-IsOrderedLevel CelType-F.Bool = Unit {0}
-IsOrderedLevel CelType-F.Int = Unit {0}
-IsOrderedLevel _ = ⊥
-
--- a type whose values have an order
-abbrev pub IsOrdered : CelType → Type 0
-IsOrdered t = IsOrderedLevel (out-CelType t)
-
 -- a value of the kind within what its type says
 abbrev pub Within : (w : Want) → Limit w → Of w → Type 0
 Within Any t v = fits v t ≡ true
 Within Truth l b = Unit {0}
 Within Whole l n = Unit {0}
-Within Ordered t v = (fits v t ≡ true) × IsOrdered t
+Within Natural l n = Unit {0}
+Within Ordered t v = (fits v t ≡ true) × (1 ≤ order_of v) × (order_of v ≡ order_of_type t)

@@ -3,7 +3,7 @@
 ghost use Rattle.std.specs.Prelude.{◌≡◌, ◌-◌, ◌^◌, min};
 ghost use Rattle.cel_check.specs.Operators.{row, greatest_of_one, greatest_of_two};
 
-use crate::operator::{Operator, is_ordered, is_whole};
+use crate::operator::{Operator, is_natural, is_ordered, is_whole};
 use cel_value::{CelType, max_weight};
 
 /// The most that an operator charges at one operand of a type; nothing where it does not take it.
@@ -27,6 +27,7 @@ pub fn greatest_of_two(op: Operator, s: &CelType, t: &CelType) -> u64
                 0
             }
         }
+        Operator::AddUint => { if is_natural(s) && is_natural(t) { 1 } else { 0 } }
         Operator::Not | Operator::Negate => 0,
         _ => { if is_whole(s) && is_whole(t) { 1 } else { 0 } }
     }

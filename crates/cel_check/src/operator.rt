@@ -1,11 +1,14 @@
-ghost use Rattle.std.specs.Prelude.{◌≡◌};
+ghost use Rattle.std.specs.Prelude.{◌≡◌, if◌then◌else◌, Ok, Err};
+ghost use Rattle.cel_value.specs.declared.cel_type.CelType as type;
+ghost use Rattle.cel_check.specs.declared.fault.TypeRule.TheVariants.{NoOverload};
 ghost use Rattle.cel_value.specs.CelType.{join as type_join};
-ghost use Rattle.cel_check.specs.Operators.{row, bool_where, code_of, operator_of, type_of_one, type_of_two};
+ghost use Rattle.cel_check.specs.Operators.{row, bool_where, code_of, operands_of, operator_of, type_of_one, type_of_two};
 ghost use Rattle.cel_check.specs.Meaning.{is_truth, is_there};
-ghost use Rattle.cel_check.specs.Wants.{Whole, Ordered, limit_of};
+ghost use Rattle.cel_check.specs.Wants.{Whole, Natural, Ordered, limit_of};
 ghost use Rattle.cel_check.specs.Typing.{Tells};
 
 use crate::fault::{TypeRule, Untyped};
+use crate::operands::{Operands, Want};
 use cel_value::{CelError, CelType, Value, join};
 use std::alloc::Global;
 
@@ -15,6 +18,7 @@ pub enum Operator {
     Not,
     Negate,
     Add,
+    AddUint,
     Subtract,
     Multiply,
     Divide,
@@ -50,6 +54,7 @@ impl Operator {
             Operator::Not => 0,
             Operator::Negate => 1,
             Operator::Add => 2,
+            Operator::AddUint => 3,
             Operator::Subtract => 6,
             Operator::Multiply => 8,
             Operator::Divide => 10,
@@ -60,6 +65,26 @@ impl Operator {
             Operator::AtMost => 17,
             Operator::Greater => 18,
             Operator::AtLeast => 19,
+        }
+    }
+
+    /// How many operands the operator has, and what each must be.
+    pub fn operands(&self) -> Operands
+        ensures { result ≡ operands_of (row self.now) }
+    {
+        match self {
+            Operator::Not => Operands::One(Want::Truth),
+            Operator::Negate => Operands::One(Want::Whole),
+            Operator::Add
+            | Operator::Subtract
+            | Operator::Multiply
+            | Operator::Divide
+            | Operator::Remainder => Operands::Two(Want::Whole, Want::Whole),
+            Operator::AddUint => Operands::Two(Want::Natural, Want::Natural),
+            Operator::Equal | Operator::NotEqual => Operands::Two(Want::Any, Want::Any),
+            Operator::Less | Operator::AtMost | Operator::Greater | Operator::AtLeast => {
+                Operands::Two(Want::Ordered, Want::Ordered)
+            }
         }
     }
 
@@ -96,6 +121,7 @@ impl Operator {
                     Err(Untyped::Rule(TypeRule::NoOverload))
                 }
             }
+            Operator::AddUint => uint_where(is_natural(left) && is_natural(right)),
             Operator::Equal | Operator::NotEqual => compared(alloc, left, right),
             _ => {
                 if is_ordered(left) && is_ordered(right) {
@@ -132,11 +158,29 @@ pub fn is_whole(cel_type: &CelType) -> bool
     matches!(cel_type, CelType::Never | CelType::Int)
 }
 
+/// Whether a type may stand where an unsigned integer is asked.
+pub fn is_natural(cel_type: &CelType) -> bool
+    ensures { result ≡ is_there (limit_of Natural cel_type.now) }
+{
+    matches!(cel_type, CelType::Never | CelType::Uint)
+}
+
 /// Whether a type may stand where a value that has an order is asked.
 pub fn is_ordered(cel_type: &CelType) -> bool
     ensures { result ≡ is_there (limit_of Ordered cel_type.now) }
 {
     matches!(cel_type, CelType::Never | CelType::Bool | CelType::Int)
+}
+
+/// The type of unsigned integers, where an operator takes its operands.
+fn uint_where(taken: bool) -> Result<CelType, Untyped>
+    ensures { Tells result (if taken then Ok type.Uint else Err NoOverload) }
+{
+    if taken {
+        Ok(CelType::Uint)
+    } else {
+        Err(Untyped::Rule(TypeRule::NoOverload))
+    }
 }
 
 /// The type of a comparison of two types, which want a join.
@@ -153,7 +197,7 @@ static OPERATORS: [Option<Operator>; 20] = [
     Some(Operator::Not),
     Some(Operator::Negate),
     Some(Operator::Add),
-    None,
+    Some(Operator::AddUint),
     None,
     None,
     Some(Operator::Subtract),

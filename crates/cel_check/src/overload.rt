@@ -1,5 +1,5 @@
 ghost use Rattle.std.specs.Prelude.{◌≡◌, Ok, Err};
-ghost use Rattle.cel_check.specs.Typing.{overload_of_one, overload_of_two, Tells};
+ghost use Rattle.cel_check.specs.Typing.{unary_overloads, binary_overloads, overload_of_one, overload_of_two, Tells};
 
 use crate::fault::{TypeRule, Untyped};
 use crate::operator::{Operator, Overload};
@@ -11,12 +11,20 @@ use std::alloc::Global;
 pub fn overload_of_one(operator: UnaryOperator, operand: &CelType) -> Result<Overload, TypeRule>
     ensures { result ≡ overload_of_one operator operand.now }
 {
-    let operator = match operator {
-        UnaryOperator::Not => Operator::Not,
-        UnaryOperator::Negate => Operator::Negate,
-    };
-    let cel_type = operator.type_of_one(operand)?;
-    Ok(Overload { operator, cel_type })
+    let overloads = unary_overloads(operator);
+    for overload in overloads {
+        match overload.type_of_one(operand) {
+            Ok(cel_type) => {
+                return Ok(Overload {
+                    operator: *overload,
+                    cel_type,
+                });
+            }
+            Err(TypeRule::NoOverload) => {}
+            Err(rule) => return Err(rule),
+        }
+    }
+    Err(TypeRule::NoOverload)
 }
 
 /// The first overload that takes operands of two types.
@@ -28,20 +36,48 @@ pub fn overload_of_two(
 ) -> Result<Overload, Untyped>
     ensures { Tells result (overload_of_two operator left.now right.now) }
 {
-    let operator = match operator {
-        BinaryOperator::Less => Operator::Less,
-        BinaryOperator::AtMost => Operator::AtMost,
-        BinaryOperator::Greater => Operator::Greater,
-        BinaryOperator::AtLeast => Operator::AtLeast,
-        BinaryOperator::Equal => Operator::Equal,
-        BinaryOperator::NotEqual => Operator::NotEqual,
-        BinaryOperator::In => return Err(Untyped::Rule(TypeRule::NoOverload)),
-        BinaryOperator::Add => Operator::Add,
-        BinaryOperator::Subtract => Operator::Subtract,
-        BinaryOperator::Multiply => Operator::Multiply,
-        BinaryOperator::Divide => Operator::Divide,
-        BinaryOperator::Remainder => Operator::Remainder,
-    };
-    let cel_type = operator.type_of_two(alloc, left, right)?;
-    Ok(Overload { operator, cel_type })
+    let overloads = binary_overloads(operator);
+    for overload in overloads {
+        match overload.type_of_two(alloc, left, right) {
+            Ok(cel_type) => {
+                return Ok(Overload {
+                    operator: *overload,
+                    cel_type,
+                });
+            }
+            Err(Untyped::Rule(TypeRule::NoOverload)) => {}
+            Err(why) => return Err(why),
+        }
+    }
+    Err(Untyped::Rule(TypeRule::NoOverload))
+}
+
+/// The overloads of an operator in front of one operand, in the order in which they are tried.
+fn unary_overloads(operator: UnaryOperator) -> &'static [Operator]
+    ensures { result.now ≡ unary_overloads operator }
+{
+    match operator {
+        UnaryOperator::Not => &[Operator::Not],
+        UnaryOperator::Negate => &[Operator::Negate],
+    }
+}
+
+/// The overloads of an operator between two operands, likewise.
+fn binary_overloads(operator: BinaryOperator) -> &'static [Operator]
+    ensures { result.now ≡ binary_overloads operator }
+{
+    match operator {
+        BinaryOperator::Less => &[Operator::Less],
+        BinaryOperator::AtMost => &[Operator::AtMost],
+        BinaryOperator::Greater => &[Operator::Greater],
+        BinaryOperator::AtLeast => &[Operator::AtLeast],
+        BinaryOperator::Equal => &[Operator::Equal],
+        BinaryOperator::NotEqual => &[Operator::NotEqual],
+        BinaryOperator::In => &[],
+        BinaryOperator::Add => &[Operator::Add, Operator::AddUint],
+        BinaryOperator::Subtract => &[Operator::Subtract],
+        BinaryOperator::Multiply => &[Operator::Multiply],
+        BinaryOperator::Divide => &[Operator::Divide],
+        BinaryOperator::Remainder => &[Operator::Remainder],
+    }
 }

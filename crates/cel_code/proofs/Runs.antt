@@ -3,7 +3,6 @@ use Rattle.std.proofs.Common.{◌≡◌, ℕ, ◌+◌, true, false, List, [], �
 use Rattle.std.specs.Prelude.{Result, Ok, Err}
 use Rattle.cel_value.specs.declared.value.Value.{Value}
 use Rattle.cel_check.specs.declared.operator.Operator.{Operator}
-use Rattle.cel_check.specs.declared.operator.Operator.TheVariants as operator
 use Rattle.cel_check.specs.declared.tree.TypedTree.{TypedTree}
 use Rattle.cel_code.specs.declared.instr.Instr.{Instr}
 use Rattle.cel_code.specs.declared.instr.Instr.TheVariants.{Const, Op, AndTest, OrTest, And, Or, Cond, Jump, End}
@@ -19,6 +18,7 @@ use Rattle.cel_code.specs.Placed.{Code, code_in, Has, Pushes, Stands, literal, u
 use Rattle.cel_code.specs.Correct.{Computes}
 use Rattle.cel_check.proofs.Opened.{outcome_of, side_of_outcome, side_is}
 use Rattle.cel_check.proofs.Levels.{value_is, value_level, cost_level}
+use Rattle.cel_check.proofs.Numbers.{operator_of-code_of}
 
 module _ (image : Image) (slots : List Outcome) where
   abbrev code : Code
@@ -163,23 +163,8 @@ module _ (image : Image) (slots : List Outcome) where
     conditional_runs None oa ob from m n to stack c d e hm hn lc la lb = tt
     conditional_runs (Some x) oa ob from m n to stack c d e hm hn lc la lb = conditional_by x (side_of (Some x)) oa ob from m n to stack c d e refl hm hn lc la lb
 
-    op_code : (op : Operator) → operator_of (code_of op) ≡ Some op
-    op_code operator.Not = refl
-    op_code operator.Negate = refl
-    op_code operator.Add = refl
-    op_code operator.Subtract = refl
-    op_code operator.Multiply = refl
-    op_code operator.Divide = refl
-    op_code operator.Remainder = refl
-    op_code operator.Equal = refl
-    op_code operator.NotEqual = refl
-    op_code operator.Less = refl
-    op_code operator.AtMost = refl
-    op_code operator.Greater = refl
-    op_code operator.AtLeast = refl
-
     op_step : (op : Operator) (at : ℕ) (s : List Outcome) → Has code at (Op (code_of op)) → step image slots (on at s frames) ≡ operate (row op) at s frames
-    op_step op at s h = at_instr at _ s h ∙ ap (λ o. operate_by o at s frames) (op_code op)
+    op_step op at s h = at_instr at _ s h ∙ ap (λ o. operate_by o at s frames) (operator_of-code_of op)
 
     -- the same under other names of the end, the outcome and the cost
     gives_as : (from n to : ℕ) (stack : List Outcome) (o p : Option Outcome) (c d : ℕ) → to ≡ n → p ≡ o → d ≡ c → Gives from stack n o c → Gives from stack to p d

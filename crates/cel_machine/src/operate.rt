@@ -1,22 +1,35 @@
-ghost use Rattle.std.specs.Prelude.{◌≡◌, ◌-◌, ◌^◌, min, Some, neg_ℤ, ◌+ℤ◌, ◌-ℤ◌, ◌*ℤ◌, int_div, int_rem};
-ghost use Rattle.cel_check.specs.Operators.{row, at_one, at_two, int_or_overflow, divided, less as order_of, lesser_weight as weight_of_lesser, makes};
+ghost use Rattle.std.specs.Prelude.{◌≡◌, ◌+◌, ◌-◌, ◌^◌, min, Some, Ok, neg_ℤ, ◌+ℤ◌, ◌-ℤ◌, ◌*ℤ◌, int_div, int_rem};
+ghost use Rattle.cel_value.specs.declared.value.Value as value;
+ghost use Rattle.cel_check.specs.Operators.{row, operands_of, at_one, at_two, int_or_overflow, uint_or_overflow, divided, less as order_of, lesser_weight as weight_of_lesser, makes};
 ghost use Rattle.cel_check.specs.Meaning.{is_there};
-ghost use Rattle.cel_check.specs.Wants.{Ordered, taken};
-ghost use Rattle.cel_machine.specs.Families.{IsArithmetic, IsOrder, computed, equality_of, truth_where};
+ghost use Rattle.cel_check.specs.declared.operands.Want.TheVariants.{Ordered};
+ghost use Rattle.cel_check.specs.Wants.{taken};
+ghost use Rattle.cel_machine.specs.Families.{IsOnAny, IsOnInts, IsOnNaturals, IsOnOrdered, truth_where};
 ghost use Rattle.cel_machine.specs.Follow.{counted};
 ghost use Rattle.cel_machine.specs.Lent.{lent};
 
-use cel_check::{Made, Operator};
+use cel_check::{Made, Operands, Operator, Want};
 use cel_value::{CelError, Value, equal, weight};
 
 /// What an operator makes of one operand; nothing where it takes another count or another kind.
 pub fn on_one(op: Operator, x: Result<&Value, CelError>) -> Option<Made>
-    ensures { result ≡ at_one (row op) (Some (lent x.entry)) }
+    ensures { result ≡ counted (at_one (row op) (Some (lent x.entry))) }
 {
-    match (op, x) {
-        (Operator::Not, Ok(Value::Bool(b))) => made(Ok(Value::Bool(!*b)), 1),
-        (Operator::Negate, Ok(Value::Int(n))) => made(negated(*n), 1),
-        (Operator::Not | Operator::Negate, Err(e)) => made(Err(e), 1),
+    match op.operands() {
+        Operands::One(_) => match x {
+            Ok(v) => of_one(op, v),
+            Err(e) => made(Err(e), 1),
+        },
+        Operands::Two(_, _) => None,
+    }
+}
+
+fn of_one(op: Operator, v: &Value) -> Option<Made>
+    ensures { result ≡ counted (at_one (row op) (Some (Ok v.now))) }
+{
+    match (op, v) {
+        (Operator::Not, Value::Bool(b)) => made(Ok(Value::Bool(!*b)), 1),
+        (Operator::Negate, Value::Int(n)) => made(negated(*n), 1),
         _ => None,
     }
 }
@@ -29,18 +42,12 @@ pub fn on_two(
 ) -> Option<Made>
     ensures { result ≡ counted (at_two (row op) (Some (lent x.entry)) (Some (lent y.entry))) }
 {
-    match op {
-        Operator::Not | Operator::Negate => None,
-        Operator::Add
-        | Operator::Subtract
-        | Operator::Multiply
-        | Operator::Divide
-        | Operator::Remainder => arithmetic(op, x, y),
-        Operator::Equal => equality(true, x, y),
-        Operator::NotEqual => equality(false, x, y),
-        Operator::Less | Operator::AtMost | Operator::Greater | Operator::AtLeast => {
-            order(op, x, y)
-        }
+    match op.operands() {
+        Operands::Two(Want::Whole, Want::Whole) => arithmetic(op, x, y),
+        Operands::Two(Want::Natural, Want::Natural) => natural_arithmetic(op, x, y),
+        Operands::Two(Want::Any, Want::Any) => equality(op, x, y),
+        Operands::Two(Want::Ordered, Want::Ordered) => order(op, x, y),
+        _ => None,
     }
 }
 
@@ -55,7 +62,7 @@ fn arithmetic(
     x: Result<&Value, CelError>,
     y: Result<&Value, CelError>,
 ) -> Option<Made>
-    requires { IsArithmetic op }
+    requires { IsOnInts (operands_of (row op)) }
     ensures { result ≡ counted (at_two (row op) (Some (lent x.entry)) (Some (lent y.entry))) }
 {
     match (x, y) {
@@ -67,8 +74,8 @@ fn arithmetic(
 }
 
 fn computed(op: Operator, m: i64, n: i64) -> Result<Value, CelError>
-    requires { IsArithmetic op }
-    ensures { result ≡ computed op m n }
+    requires { IsOnInts (operands_of (row op)) }
+    ensures { at_two (row op) (Some (Ok (value.Int m))) (Some (Ok (value.Int n))) ≡ makes (Some result) 1 }
 {
     match op {
         Operator::Add => sum(m, n),
@@ -77,6 +84,41 @@ fn computed(op: Operator, m: i64, n: i64) -> Result<Value, CelError>
         Operator::Divide => quotient(m, n),
         Operator::Remainder => remainder(m, n),
         _ => unreachable!(),
+    }
+}
+
+fn natural_arithmetic(
+    op: Operator,
+    x: Result<&Value, CelError>,
+    y: Result<&Value, CelError>,
+) -> Option<Made>
+    requires { IsOnNaturals (operands_of (row op)) }
+    ensures { result ≡ counted (at_two (row op) (Some (lent x.entry)) (Some (lent y.entry))) }
+{
+    match (x, y) {
+        (Ok(Value::Uint(m)), Ok(Value::Uint(n))) => made(naturals_computed(op, *m, *n), 1),
+        (Ok(Value::Uint(_)), Err(e)) => made(Err(e), 1),
+        (Err(e), Ok(Value::Uint(_)) | Err(_)) => made(Err(e), 1),
+        _ => None,
+    }
+}
+
+fn naturals_computed(op: Operator, m: u64, n: u64) -> Result<Value, CelError>
+    requires { IsOnNaturals (operands_of (row op)) }
+    ensures { at_two (row op) (Some (Ok (value.Uint m))) (Some (Ok (value.Uint n))) ≡ makes (Some result) 1 }
+{
+    match op {
+        Operator::AddUint => uint_sum(m, n),
+        _ => unreachable!(),
+    }
+}
+
+fn uint_sum(m: u64, n: u64) -> Result<Value, CelError>
+    ensures { result ≡ uint_or_overflow (m + n) }
+{
+    match m.checked_add(n) {
+        Some(sum) => Ok(Value::Uint(sum)),
+        None => Err(CelError::Overflow),
     }
 }
 
@@ -140,13 +182,18 @@ fn remainder(m: i64, n: i64) -> Result<Value, CelError>
     }
 }
 
-fn equality(is: bool, x: Result<&Value, CelError>, y: Result<&Value, CelError>) -> Option<Made>
-    ensures { result ≡ counted (at_two (equality_of is) (Some (lent x.entry)) (Some (lent y.entry))) }
+fn equality(op: Operator, x: Result<&Value, CelError>, y: Result<&Value, CelError>) -> Option<Made>
+    requires { IsOnAny (operands_of (row op)) }
+    ensures { result ≡ counted (at_two (row op) (Some (lent x.entry)) (Some (lent y.entry))) }
 {
     match (x, y) {
         (Err(e), _) => made(Err(e), 1),
         (Ok(_), Err(e)) => made(Err(e), 1),
-        (Ok(v), Ok(w)) => made(Ok(Value::Bool(equal(v, w) == is)), lesser_weight(v, w)),
+        (Ok(v), Ok(w)) => match op {
+            Operator::Equal => made(Ok(Value::Bool(equal(v, w))), lesser_weight(v, w)),
+            Operator::NotEqual => made(Ok(Value::Bool(!equal(v, w))), lesser_weight(v, w)),
+            _ => unreachable!(),
+        },
     }
 }
 
@@ -164,7 +211,7 @@ fn has_order(x: Result<&Value, CelError>) -> bool
 }
 
 fn order(op: Operator, x: Result<&Value, CelError>, y: Result<&Value, CelError>) -> Option<Made>
-    requires { IsOrder op }
+    requires { IsOnOrdered (operands_of (row op)) }
     ensures { result ≡ counted (at_two (row op) (Some (lent x.entry)) (Some (lent y.entry))) }
 {
     if !(has_order(x) && has_order(y)) {

@@ -1,4 +1,5 @@
 ghost use Rattle.std.specs.Prelude.{◌≡◌, ◌+◌, ◌<◌, ◌^◌, List, IfOk, Some, slice_get};
+ghost use Rattle.cel_check.specs.Operators.{row};
 ghost use Rattle.cel_check.specs.Wants.{side_of};
 ghost use Rattle.cel_code.specs.Machine.{Frame, act, inputs_of, push, constant as constant_of, operate_by, made as made_next, join as sides_joined};
 ghost use Rattle.cel_machine.specs.Lent.{lent};
@@ -9,7 +10,7 @@ use crate::operand::{Operand, outcome_of, own, read};
 use crate::operate::{on_one, on_two};
 use crate::slots::Slots;
 use crate::stack::Stack;
-use cel_check::{Made, Operator};
+use cel_check::{Made, Operands, Operator};
 use cel_code::{Image, Instr};
 use cel_value::{CelError, Value};
 use std::alloc::{AllocError, Global};
@@ -75,17 +76,16 @@ fn operate(op: Operator, at: usize, stack: &mut Stack<'_>) -> Move
     ensures acts { (frames : List Frame) → metered (operate_by (Some op) at stack.old.items frames) ≡ next_of result stack.new.items frames }
     ensures room { stack.new.room ≡ stack.old.room }
 {
-    match op {
-        Operator::Not => operate_one(op, at, stack),
-        Operator::Negate => operate_one(op, at, stack),
-        _ => operate_two(op, at, stack),
+    match op.operands() {
+        Operands::One(_) => operate_one(op, at, stack),
+        Operands::Two(_, _) => operate_two(op, at, stack),
     }
 }
 
 fn operate_one(op: Operator, at: usize, stack: &mut Stack<'_>) -> Move
     requires at { at + 1 < 2 ^ 64 }
     requires room { HasRoom stack.old }
-    ensures acts { (frames : List Frame) → metered_one op at stack.old.items frames ≡ next_of result stack.new.items frames }
+    ensures acts { (frames : List Frame) → metered_one (row op) at stack.old.items frames ≡ next_of result stack.new.items frames }
     ensures room { stack.new.room ≡ stack.old.room }
 {
     let Some(x) = stack.pop() else {
@@ -97,7 +97,7 @@ fn operate_one(op: Operator, at: usize, stack: &mut Stack<'_>) -> Move
 fn operate_two(op: Operator, at: usize, stack: &mut Stack<'_>) -> Move
     requires at { at + 1 < 2 ^ 64 }
     requires room { HasRoom stack.old }
-    ensures acts { (frames : List Frame) → metered_two op at stack.old.items frames ≡ next_of result stack.new.items frames }
+    ensures acts { (frames : List Frame) → metered_two (row op) at stack.old.items frames ≡ next_of result stack.new.items frames }
     ensures room { stack.new.room ≡ stack.old.room }
 {
     let Some(y) = stack.pop() else {

@@ -9,7 +9,8 @@ use Rattle.cel_value.specs.declared.cel_type.CelType.{CelType}
 use Rattle.cel_value.specs.declared.cel_type.CelType.TheOpen.{CelType-F}
 use Rattle.cel_value.specs.CelType.{fits}
 use Rattle.cel_check.specs.Outcomes.{Outcome, Side, and_of, or_of}
-use Rattle.cel_check.specs.Wants.{Truth, Limit, limit_of, side_of}
+use Rattle.cel_check.specs.declared.operands.Want.TheVariants.{Truth}
+use Rattle.cel_check.specs.Wants.{Limit, limit_of, side_of}
 use Rattle.cel_check.specs.Meaning.{is_there, is_truth}
 use Rattle.cel_check.proofs.Opened.{fits-levels, bool_fits, out-type-Null, out-type-Bool, out-type-Int, out-type-Uint, side_is}
 use Rattle.cel_check.proofs.Rows.{Taken, taken_fits}

@@ -2,11 +2,10 @@
 use Rattle.std.specs.Borrow.{Bor}
 use Rattle.std.specs.Prelude.{◌≡◌, ℕ, ◌+◌, ◌<◌, ◌≤◌, min, ◌-◌, ◌^◌, List, [], length, slice_get, slice_index, reverse, ◌∷◌, Option, Some, None, Ok, Err}
 use Rattle.cel_value.specs.declared.cel_type.CelType.{CelType}
-use Rattle.cel_check.specs.declared.operator.Operator.{Operator}
 use Rattle.cel_code.specs.declared.instr.Instr.{Instr}
 use Rattle.cel_code.specs.declared.instr.Instr.TheVariants.{End}
 use Rattle.cel_code.specs.declared.image.Image.{Image}
-use Rattle.cel_check.specs.Operators.{row, type_of_one, type_of_two}
+use Rattle.cel_check.specs.Operators.{Row, type_of_one, type_of_two, greatest_of_one, greatest_of_two}
 use Rattle.cel_verify.specs.declared.fault.VerifyRule.TheVariants.{Underflow}
 use Rattle.cel_verify.specs.declared.fault.VerifyError.{VerifyError}
 use Rattle.cel_verify.specs.declared.fault.VerifyError.TheVariants.{OutOfMemory, Fault}
@@ -22,14 +21,24 @@ Refuses (Broken r) falls = falls ≡ Err r
 Refuses NoMemory falls = Unit {0}
 
 -- an operator at the type of one operand
-abbrev pub rule_of_one : Operator → StackTypes → Falls
-rule_of_one op [] = Err Underflow
-rule_of_one op (s ∷ ts) = given (type_of_one (row op) s) ts
+abbrev pub rule_of_one : Row → StackTypes → Falls
+rule_of_one r [] = Err Underflow
+rule_of_one r (s ∷ ts) = given (type_of_one r s) ts
 
 -- an operator at the types of two operands
-abbrev pub rule_of_two : Operator → StackTypes → Falls
-rule_of_two op (t ∷ s ∷ ts) = given (type_of_two (row op) s t) ts
-rule_of_two op _ = Err Underflow
+abbrev pub rule_of_two : Row → StackTypes → Falls
+rule_of_two r (t ∷ s ∷ ts) = given (type_of_two r s t) ts
+rule_of_two r _ = Err Underflow
+
+-- the greatest charge of an operator at the type of one operand
+abbrev pub charge_on_one : Row → StackTypes → ℕ
+charge_on_one r [] = 0
+charge_on_one r (s ∷ ts) = greatest_of_one r s
+
+-- the greatest charge of an operator at the types of two operands
+abbrev pub charge_on_two : Row → StackTypes → ℕ
+charge_on_two r (t ∷ s ∷ ts) = greatest_of_two r s t
+charge_on_two r _ = 0
 
 -- an entry that is lent, its bottom first
 abbrev pub IsEntry : Option (Bor (List CelType)) → Option StackTypes → Type 0

@@ -2,10 +2,10 @@ ghost use Rattle.std.specs.Prelude.{◌≡◌, ◌+◌, ◌-◌, ◌<◌, ◌^�
 ghost use Rattle.cel_check.specs.Operators.{row};
 ghost use Rattle.cel_verify.specs.Sound.{IsSound};
 ghost use Rattle.cel_verify.specs.Paths.{row_charge, charge_in, goes_to, greatest, path_cost as cost_of_path};
-ghost use Rattle.cel_verify.specs.Walked.{AreCharges};
+ghost use Rattle.cel_verify.specs.Walked.{AreCharges, charge_on_one, charge_on_two};
 
 use crate::type_stack::TypeStack;
-use cel_check::{Operator, greatest_of_one, greatest_of_two};
+use cel_check::{Operands, Operator, greatest_of_one, greatest_of_two};
 use cel_code::{Image, Instr};
 use cel_value::CelType;
 
@@ -29,13 +29,25 @@ pub fn charge(instr: Instr, label: &Option<TypeStack>) -> u64
 fn operator_charge(op: Operator, types: &[CelType]) -> u64
     ensures { result ≡ min (row_charge (row op) (reverse types.now)) (2 ^ 64 - 1) }
 {
-    let [below @ .., t] = types else {
+    match op.operands() {
+        Operands::One(_) => charge_on_one(op, types),
+        Operands::Two(_, _) => charge_on_two(op, types),
+    }
+}
+
+fn charge_on_one(op: Operator, types: &[CelType]) -> u64
+    ensures { result ≡ min (charge_on_one (row op) (reverse types.now)) (2 ^ 64 - 1) }
+{
+    let [.., t] = types else {
         return 0;
     };
-    if matches!(op, Operator::Not | Operator::Negate) {
-        return greatest_of_one(op, t);
-    }
-    let [.., s] = below else {
+    greatest_of_one(op, t)
+}
+
+fn charge_on_two(op: Operator, types: &[CelType]) -> u64
+    ensures { result ≡ min (charge_on_two (row op) (reverse types.now)) (2 ^ 64 - 1) }
+{
+    let [.., s, t] = types else {
         return 0;
     };
     greatest_of_two(op, s, t)

@@ -12,7 +12,7 @@ use crate::fault::VerifyRule;
 use crate::refusal::Refusal;
 use crate::targets::entry;
 use crate::type_stack::TypeStack;
-use cel_check::{Operator, TypeRule, Untyped, is_truth};
+use cel_check::{Operands, Operator, TypeRule, Untyped, is_truth};
 use cel_code::{Image, Instr};
 use cel_value::{CelType, assignable};
 use std::alloc::Global;
@@ -65,15 +65,14 @@ fn constant(
 fn operation(alloc: Global, op: Operator, types: TypeStack) -> Result<Option<TypeStack>, Refusal>
     ensures { MatchResult result (λ falls. row_rule (row op) types ≡ Ok falls) (λ r. Refuses r (row_rule (row op) types)) }
 {
-    match op {
-        Operator::Not => operation_on_one(op, types),
-        Operator::Negate => operation_on_one(op, types),
-        _ => operation_on_two(alloc, op, types),
+    match op.operands() {
+        Operands::One(_) => operation_on_one(op, types),
+        Operands::Two(_, _) => operation_on_two(alloc, op, types),
     }
 }
 
 fn operation_on_one(op: Operator, mut types: TypeStack) -> Result<Option<TypeStack>, Refusal>
-    ensures { MatchResult result (λ falls. rule_of_one op types ≡ Ok falls) (λ r. Refuses r (rule_of_one op types)) }
+    ensures { MatchResult result (λ falls. rule_of_one (row op) types ≡ Ok falls) (λ r. Refuses r (rule_of_one (row op) types)) }
 {
     let Some(s) = types.pop() else {
         return Err(Refusal::Broken(VerifyRule::Underflow));
@@ -86,7 +85,7 @@ fn operation_on_two(
     op: Operator,
     mut types: TypeStack,
 ) -> Result<Option<TypeStack>, Refusal>
-    ensures { MatchResult result (λ falls. rule_of_two op types ≡ Ok falls) (λ r. Refuses r (rule_of_two op types)) }
+    ensures { MatchResult result (λ falls. rule_of_two (row op) types ≡ Ok falls) (λ r. Refuses r (rule_of_two (row op) types)) }
 {
     let Some(t) = types.pop() else {
         return Err(Refusal::Broken(VerifyRule::Underflow));

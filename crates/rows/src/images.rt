@@ -142,10 +142,11 @@ fn a_tree_past_depth_100_is_too_large(rt: HostRuntime) -> Result<(), Fail> {
     Ok(())
 }
 
-static OPERATORS: [(Operator, usize); 13] = [
+static OPERATORS: [(Operator, usize); 14] = [
     (Operator::Not, 0),
     (Operator::Negate, 1),
     (Operator::Add, 2),
+    (Operator::AddUint, 3),
     (Operator::Subtract, 6),
     (Operator::Multiply, 8),
     (Operator::Divide, 10),
@@ -164,7 +165,7 @@ fn operators_have_their_numbers(rt: HostRuntime) {
         assert_eq!(rt; operator.code(), code);
         assert_eq!(rt; Operator::from_code(code), Some(operator));
     }
-    for code in [3, 20] {
+    for code in [4, 20] {
         assert_eq!(rt; Operator::from_code(code), None);
     }
 }
@@ -197,10 +198,11 @@ fn roles(kind: Kind) -> (bool, bool, bool) {
     )
 }
 
-static ROLES: [(Kind, (bool, bool, bool)); 4] = [
+static ROLES: [(Kind, (bool, bool, bool)); 5] = [
     (Kind::Never, (true, true, true)),
     (Kind::Truth, (true, false, true)),
     (Kind::Whole, (false, true, true)),
+    (Kind::Natural, (false, false, false)),
     (Kind::Text, (false, false, false)),
 ];
 
@@ -208,6 +210,7 @@ static ROLES: [(Kind, (bool, bool, bool)); 4] = [
 fn operators_have_their_types(rt: HostRuntime) {
     assert!(rt; is_at_one(Operator::Not, Kind::Truth, Kind::Truth));
     assert!(rt; is_at_one(Operator::Negate, Kind::Whole, Kind::Whole));
+    assert!(rt; is_at_two(rt.alloc(), Operator::AddUint, Kind::Natural, Kind::Natural));
     assert!(rt; is_at_two(rt.alloc(), Operator::Less, Kind::Truth, Kind::Truth));
     for &(kind, own) in &ROLES {
         assert_eq!(rt; roles(kind), own);

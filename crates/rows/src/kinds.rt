@@ -9,6 +9,7 @@ pub enum Kind {
     Never,
     Truth,
     Whole,
+    Natural,
     /// Texts of at most 3 code points.
     Text,
 }
@@ -17,6 +18,7 @@ pub enum Kind {
 pub enum Constant {
     Truth(bool),
     Whole(i64),
+    Natural(u64),
 }
 
 pub fn type_of(kind: Kind) -> CelType {
@@ -24,6 +26,7 @@ pub fn type_of(kind: Kind) -> CelType {
         Kind::Never => CelType::Never,
         Kind::Truth => CelType::Bool,
         Kind::Whole => CelType::Int,
+        Kind::Natural => CelType::Uint,
         Kind::Text => CelType::Text { max: 3 },
     }
 }
@@ -32,6 +35,7 @@ pub fn type_name(cel_type: &CelType) -> &'static str {
     match cel_type {
         CelType::Bool => "bool",
         CelType::Int => "int",
+        CelType::Uint => "uint",
         _ => "of another type",
     }
 }
@@ -40,6 +44,7 @@ pub fn value_of(constant: Constant) -> Value {
     match constant {
         Constant::Truth(truth) => Value::Bool(truth),
         Constant::Whole(number) => Value::Int(number),
+        Constant::Natural(number) => Value::Uint(number),
     }
 }
 
@@ -47,6 +52,7 @@ pub fn value_text(alloc: Global, value: &Value) -> Result<String, AllocError> {
     match value {
         Value::Bool(truth) => format!(in alloc; "{truth}"),
         Value::Int(number) => format!(in alloc; "{number}"),
+        Value::Uint(number) => format!(in alloc; "{number}u"),
         _ => String::from_str(alloc, "another value"),
     }
 }

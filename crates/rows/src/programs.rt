@@ -158,7 +158,7 @@ fn come_to(rt: &impl Abort, alloc: Global, rows: &[(Written, &str)]) -> Result<(
     Ok(())
 }
 
-static RUNS: [(Written<'static>, &str); 5] = [
+static RUNS: [(Written<'static>, &str); 7] = [
     // `21 + 21`
     (
         Written {
@@ -169,6 +169,34 @@ static RUNS: [(Written<'static>, &str); 5] = [
             code: &[Instr::Const(0), Instr::Const(0), Instr::Op(2), Instr::End],
         },
         "42, charged 1, steps 4, constants 1",
+    ),
+    // `9223372036854775808u + 21u`
+    (
+        Written {
+            result: Kind::Natural,
+            slots: &[],
+            constants: &[
+                Constant::Natural(9223372036854775808),
+                Constant::Natural(21),
+            ],
+            targets: &[],
+            code: &[Instr::Const(0), Instr::Const(1), Instr::Op(3), Instr::End],
+        },
+        "9223372036854775829u, charged 1, steps 4, constants 2",
+    ),
+    // `18446744073709551615u + 1u`
+    (
+        Written {
+            result: Kind::Natural,
+            slots: &[],
+            constants: &[
+                Constant::Natural(18446744073709551615),
+                Constant::Natural(1),
+            ],
+            targets: &[],
+            code: &[Instr::Const(0), Instr::Const(1), Instr::Op(3), Instr::End],
+        },
+        "Overflow, charged 1, steps 4, constants 2",
     ),
     // `1 + 2 * 3 == 7 && !(4 < 3)`
     (
@@ -290,7 +318,7 @@ const ALONE: Written<'static> = Written {
     code: &[Instr::Const(0), Instr::End],
 };
 
-static FAULTS: [(Written<'static>, &str); 11] = [
+static FAULTS: [(Written<'static>, &str); 12] = [
     // A missing operand.
     (
         Written {
@@ -304,6 +332,15 @@ static FAULTS: [(Written<'static>, &str); 11] = [
         Written {
             constants: &[Constant::Truth(true)],
             code: &[Instr::Const(0), Instr::Const(0), Instr::Op(2), Instr::End],
+            ..ALONE
+        },
+        "WrongKind at 2 of 4",
+    ),
+    // An int and a uint have no sum.
+    (
+        Written {
+            constants: &[Constant::Whole(1), Constant::Natural(1)],
+            code: &[Instr::Const(0), Instr::Const(1), Instr::Op(3), Instr::End],
             ..ALONE
         },
         "WrongKind at 2 of 4",
