@@ -11,7 +11,7 @@ use Rattle.cel_check.specs.Outcomes.{Outcome, Env, Side, and_of, or_of, both_sid
 use Rattle.cel_value.specs.declared.cel_error.CelError.{CelError}
 use Rattle.cel_check.specs.Wants.{side_of, taken}
 use Rattle.cel_check.specs.declared.operator.Made.{Made}
-use Rattle.cel_check.specs.Operators.{Row, One, Two, row, operator_of, code_of, makes, two, at_one, at_two, outcome_made, charge_made}
+use Rattle.cel_check.specs.Operators.{Row, One, Two, row, code_of, makes, two, at_one, at_two, outcome_made, charge_made}
 use Rattle.cel_check.specs.Meaning.{value_of, priced_of, cost_of}
 use Rattle.cel_code.specs.Machine.{Frame, State, on, Goes, Ends, push, constant, made, operate, operate_by, and_test, or_test, branch, joined, join, act, act_at, inputs_of, step, Gets, Stays, Moves, Run}
 use Rattle.cel_code.specs.Placed.{Code, code_in, Has, Pushes, Stands, literal, unary, binary, both, either, conditional}
