@@ -22,7 +22,8 @@ opened o = map-CelType _ _ (λ t v. fits v t) o
 pub fits-out : (v : Value) (t : CelType) → fits v t ≡ fits_at (opened (out-CelType t)) (out-Value v)
 fits-out v t = ap (λ f. f v) (fold_out-CelType (Value → Bool) fits_step t)
 
-pub fits-levels : (v : Value) (t : CelType) (p : Value-F Value) (o : CelType-F CelType) → out-Value v ≡ p → out-CelType t ≡ o → fits v t ≡ fits_at (opened o) p
+pub fits-levels : (v : Value) (t : CelType) (p : Value-F Value) (o : CelType-F CelType) → out-Value v ≡ p → out-CelType t ≡ o
+    → fits v t ≡ fits_at (opened o) p
 fits-levels v t p o e f = fits-out v t ∙ ap (λ q. fits_at (opened (out-CelType t)) q) e ∙ ap (λ q. fits_at (opened q) p) f
 
 pub out-Bool : (b : Bool) → out-Value (value.Bool b) ≡ Value-F.Bool b
@@ -80,11 +81,12 @@ pub side_of_outcome : (s : Side) → side_of (Some (outcome_of s)) ≡ Some s
 side_of_outcome (Ok b) = side-Bool b
 side_of_outcome (Err e) = refl
 
-level_is : (v : Value) (p : Value-F Value) (s : Side) → out-Value v ≡ p → taken_at Truth v p ≡ Some s → Ok v ≡ outcome_of s
-level_is v (Value-F.Bool b) s e h = ap Ok (is-Bool v b e) ∙ ap outcome_of (same_Some _ _ h)
-level_is v _ s e h = absurd (none-some _ h)
+level_is : (v : Value) (p : Value-F Value) (b : Bool) → out-Value v ≡ p → taken_at Truth v p ≡ Some (Ok b) → Ok v ≡ outcome_of (Ok b)
+level_is v (Value-F.Bool c) b e h = ap Ok (is-Bool v c e) ∙ ap outcome_of (same_Some _ _ h)
+level_is v Value-F.Null b e h = cc
+level_is v _ b e h = absurd (none-some _ h)
 
--- an outcome that is a side
-pub side_is : (x : Outcome) (s : Side) → side_of (Some x) ≡ Some s → x ≡ outcome_of s
-side_is (Err e) s h = ap outcome_of (same_Some _ _ h)
-side_is (Ok v) s h = level_is v (out-Value v) s refl h
+-- an outcome that is a truth value at a side
+pub side_is : (x : Outcome) (b : Bool) → side_of (Some x) ≡ Some (Ok b) → x ≡ outcome_of (Ok b)
+side_is (Err e) b h = ap outcome_of (same_Some _ _ h)
+side_is (Ok v) b h = level_is v (out-Value v) b refl h

@@ -12,10 +12,12 @@ use Rattle.cel_check.specs.declared.tree.TypedTree.TheOpen.{TypedTree-F}
 use Rattle.cel_check.specs.declared.tree.TypedTree.TheFolds.{map-TypedTree, fold-roll-TypedTree, fold_out-TypedTree, ind-TypedTree}
 use Rattle.cel_check.specs.declared.tree.Form.{Form}
 use Rattle.cel_check.specs.declared.tree.Form.TheVariants.{Literal, Unary, Binary, And, Or, Conditional}
-use Rattle.cel_check.specs.Outcomes.{Outcome, outcome_fits, Env, Types, slots_fit, env_fits, outside, types_outside, Side, and_of, or_of, and_value, or_value, conditional_value}
+use Rattle.cel_check.specs.Outcomes.{Outcome, outcome_fits, Env, Types, slots_fit, env_fits, outside}
+use Rattle.cel_check.specs.Outcomes.{types_outside, Side, and_of, or_of, and_value, or_value, conditional_value}
 use Rattle.cel_check.specs.Wants.{Truth, limit_of, side_of, taken}
 use Rattle.cel_check.specs.Operators.{row, at_one, at_two, outcome_made, type_of_one, type_of_two}
-use Rattle.cel_check.specs.Meaning.{Valuation, value_at, value_of, type_of, is_there, is_truth, takes_result, Judged, right_at, judged_step, judged_of, is_right}
+use Rattle.cel_check.specs.Meaning.{Valuation, value_at, value_of, type_of, is_there, is_truth}
+use Rattle.cel_check.specs.Meaning.{takes_result, Judged, right_at, judged_step, judged_of, is_right}
 use Rattle.cel_check.proofs.Rows.{Taken, taken_fits, wider, row_right, one_operand, two_operands}
 use Rattle.cel_check.proofs.Opened.{bool_fits}
 use Rattle.cel_check.proofs.Levels.{part, fused}
@@ -40,7 +42,8 @@ or_fits (Err e) (Err f) = refl
 IsSide : Option Side → Type 0
 IsSide o = is_there o ≡ true
 
-side_there : (s : CelType) (x : Option Outcome) (o : Option _) → limit_of Truth s ≡ o → is_there o ≡ true → outcome_fits s x ≡ true → is_there (side_of x) ≡ true
+side_there : (s : CelType) (x : Option Outcome) (o : Option _) → limit_of Truth s ≡ o → is_there o ≡ true
+    → outcome_fits s x ≡ true → is_there (side_of x) ≡ true
 side_there s x None q h k = absurd (true≢false (sym h))
 side_there s x (Some l) q h k = there (taken Truth x) (taken_fits Truth s x l q k)
   where
@@ -65,20 +68,24 @@ or_value_fits (Some (Ok false)) (Some y) h k = or_fits (Ok false) y
 or_value_fits (Some (Err e)) None h k = absurd (true≢false (sym k))
 or_value_fits (Some (Err e)) (Some y) h k = or_fits (Err e) y
 
-conditional_fits : (t : CelType) (x : Option Side) (a b : Option Outcome) → is_there x ≡ true → outcome_fits t a ≡ true → outcome_fits t b ≡ true → outcome_fits t (conditional_value x a b) ≡ true
+conditional_fits : (t : CelType) (x : Option Side) (a b : Option Outcome) → is_there x ≡ true → outcome_fits t a ≡ true
+    → outcome_fits t b ≡ true → outcome_fits t (conditional_value x a b) ≡ true
 conditional_fits t None a b h k l = absurd (true≢false (sym h))
 conditional_fits t (Some (Err e)) a b h k l = refl
 conditional_fits t (Some (Ok true)) a b h k l = k
 conditional_fits t (Some (Ok false)) a b h k l = l
 
 -- what a row gives, for a type that takes it
-taken_result : (t : CelType) (r : Result CelType TypeRule) (P : CelType → Type 0) → takes_result t r ≡ true → ((s : CelType) → r ≡ Ok s → assignable s t ≡ true → P t) → P t
+taken_result : (t : CelType) (r : Result CelType TypeRule) (P : CelType → Type 0) → takes_result t r ≡ true
+    → ((s : CelType) → r ≡ Ok s → assignable s t ≡ true → P t) → P t
 taken_result t (Err e) P h k = absurd (true≢false (sym h))
 taken_result t (Ok s) P h k = k s refl h
 
 -- in each fitting environment, an error or a value of the type
 abbrev Good : TypedTree → Type 0
-Good e = (types : Types) (env : Env) → is_right e types ≡ true → env_fits types env ≡ true → outcome_fits (judged_of e).type (value_of e env) ≡ true
+Good e =
+    (types : Types) (env : Env) → is_right e types ≡ true → env_fits types env ≡ true
+    → outcome_fits (judged_of e).type (value_of e env) ≡ true
 
 abbrev Such : Type 0
 Such = (e : TypedTree) × Good e
@@ -93,52 +100,76 @@ module _ (types : Types) (env : Env) (h : env_fits types env ≡ true) where
   abbrev good : (e : Such) → is_right e.0 types ≡ true → outcome_fits (judged e).type (valued e env) ≡ true
   good e g = e.1 types env g h
 
-  level : (t : CelType) (y : Form Such) → right_at t (part judged t y) types ≡ true → outcome_fits t (value_at (part valued t y) env) ≡ true
+  level : (t : CelType) (y : Form Such) → right_at t (part judged t y) types ≡ true
+      → outcome_fits t (value_at (part valued t y) env) ≡ true
   level t (Literal v) g = g
   level t (Unary op a) g =
       let p = and_parts (is_right a.0 types) (takes_result t (type_of_one (row op) (judged a).type)) g in
-      taken_result t (type_of_one (row op) (judged a).type) (λ u. outcome_fits u (outcome_made (at_one (row op) (valued a env))) ≡ true) p.1
+      taken_result t (type_of_one (row op) (judged a).type)
+      (λ u. outcome_fits u (outcome_made (at_one (row op) (valued a env))) ≡ true) p.1
       (λ s e w. wider s t _ w (one_operand (row op) (judged a).type s (valued a env) (row_right op) e (good a p.0)).0)
   level t (Binary op a b) g =
-      let p = and_parts (is_right a.0 types && is_right b.0 types) (takes_result t (type_of_two (row op) (judged a).type (judged b).type)) g in
+      let p =
+      and_parts (is_right a.0 types && is_right b.0 types) (takes_result t (type_of_two (row op) (judged a).type (judged b).type)) g in
       let q = and_parts (is_right a.0 types) (is_right b.0 types) p.0 in
-      taken_result t (type_of_two (row op) (judged a).type (judged b).type) (λ u. outcome_fits u (outcome_made (at_two (row op) (valued a env) (valued b env))) ≡ true) p.1
-      (λ s e w. wider s t _ w (two_operands (row op) (judged a).type (judged b).type s (valued a env) (valued b env) (row_right op) e (good a q.0) (good b q.1)).0)
+      taken_result t (type_of_two (row op) (judged a).type (judged b).type)
+      (λ u. outcome_fits u (outcome_made (at_two (row op) (valued a env) (valued b env))) ≡ true) p.1
+      (λ s e w.
+      wider s t _ w
+      (two_operands (row op) (judged a).type (judged b).type s (valued a env) (valued b env) (row_right op) e (good a q.0) (good b q.1)).0)
   level t (And a b) g =
-      let p = and_parts (is_right a.0 types && is_right b.0 types) ((is_truth (judged a).type && is_truth (judged b).type) && assignable type.Bool t) g in
+      let p =
+      and_parts (is_right a.0 types && is_right b.0 types)
+      ((is_truth (judged a).type && is_truth (judged b).type) && assignable type.Bool t) g in
       let q = and_parts (is_right a.0 types) (is_right b.0 types) p.0 in
       let r = and_parts (is_truth (judged a).type && is_truth (judged b).type) (assignable type.Bool t) p.1 in
       let s = and_parts (is_truth (judged a).type) (is_truth (judged b).type) r.0 in
-      wider type.Bool t _ r.1 (and_value_fits (side_of (valued a env)) (side_of (valued b env)) (side_there (judged a).type (valued a env) _ refl s.0 (good a q.0)) (side_there (judged b).type (valued b env) _ refl s.1 (good b q.1)))
+      wider type.Bool t _ r.1
+      (and_value_fits (side_of (valued a env)) (side_of (valued b env)) (side_there (judged a).type (valued a env) _ refl s.0 (good a q.0))
+      (side_there (judged b).type (valued b env) _ refl s.1 (good b q.1)))
   level t (Or a b) g =
-      let p = and_parts (is_right a.0 types && is_right b.0 types) ((is_truth (judged a).type && is_truth (judged b).type) && assignable type.Bool t) g in
+      let p =
+      and_parts (is_right a.0 types && is_right b.0 types)
+      ((is_truth (judged a).type && is_truth (judged b).type) && assignable type.Bool t) g in
       let q = and_parts (is_right a.0 types) (is_right b.0 types) p.0 in
       let r = and_parts (is_truth (judged a).type && is_truth (judged b).type) (assignable type.Bool t) p.1 in
       let s = and_parts (is_truth (judged a).type) (is_truth (judged b).type) r.0 in
-      wider type.Bool t _ r.1 (or_value_fits (side_of (valued a env)) (side_of (valued b env)) (side_there (judged a).type (valued a env) _ refl s.0 (good a q.0)) (side_there (judged b).type (valued b env) _ refl s.1 (good b q.1)))
+      wider type.Bool t _ r.1
+      (or_value_fits (side_of (valued a env)) (side_of (valued b env)) (side_there (judged a).type (valued a env) _ refl s.0 (good a q.0))
+      (side_there (judged b).type (valued b env) _ refl s.1 (good b q.1)))
   level t (Conditional c a b) g =
-      let p = and_parts ((is_right c.0 types && is_truth (judged c).type) && (is_right a.0 types && is_right b.0 types)) (assignable (judged a).type t && assignable (judged b).type t) g in
+      let p =
+      and_parts ((is_right c.0 types && is_truth (judged c).type) && (is_right a.0 types && is_right b.0 types))
+      (assignable (judged a).type t && assignable (judged b).type t) g in
       let q = and_parts (is_right c.0 types && is_truth (judged c).type) (is_right a.0 types && is_right b.0 types) p.0 in
       let r = and_parts (is_right c.0 types) (is_truth (judged c).type) q.0 in
       let s = and_parts (is_right a.0 types) (is_right b.0 types) q.1 in
       let u = and_parts (assignable (judged a).type t) (assignable (judged b).type t) p.1 in
-      conditional_fits t (side_of (valued c env)) (valued a env) (valued b env) (side_there (judged c).type (valued c env) _ refl r.1 (good c r.0)) (wider (judged a).type t _ u.0 (good a s.0)) (wider (judged b).type t _ u.1 (good b s.1))
+      conditional_fits t (side_of (valued c env)) (valued a env) (valued b env)
+      (side_there (judged c).type (valued c env) _ refl r.1 (good c r.0)) (wider (judged a).type t _ u.0 (good a s.0))
+      (wider (judged b).type t _ u.1 (good b s.1))
 
 step : (y : TypedTree-F Such) → Good (roll-TypedTree (map-TypedTree _ _ (λ e. e.0) y))
 step y = λ types env g h.
     let z = map-TypedTree _ _ (λ e. e.0) y in
-    let j : judged_of (roll-TypedTree z) ≡ judged_step (map-TypedTree _ _ judged y) = fold-roll-TypedTree Judged judged_step z ∙ ap judged_step (fused Such TypedTree Judged judged_of (λ e. e.0) y) in
-    let v : value_of (roll-TypedTree z) ≡ value_at (part valued y.cel_type y.form) = fold-roll-TypedTree Valuation (λ t. value_at t.form) z ∙ ap (λ w. value_at w.form) (fused Such TypedTree Valuation value_of (λ e. e.0) y) in
-    ap (λ x. outcome_fits x.type (value_of (roll-TypedTree z) env)) j ∙ ap (λ f. outcome_fits y.cel_type (f env)) v ∙ level types env h y.cel_type y.form (sym (ap (λ x. x.right types) j) ∙ g)
+    let j : judged_of (roll-TypedTree z) ≡ judged_step (map-TypedTree _ _ judged y) =
+    fold-roll-TypedTree Judged judged_step z ∙ ap judged_step (fused Such TypedTree Judged judged_of (λ e. e.0) y) in
+    let v : value_of (roll-TypedTree z) ≡ value_at (part valued y.cel_type y.form) =
+    fold-roll-TypedTree Valuation (λ t. value_at t.form) z
+    ∙ ap (λ w. value_at w.form) (fused Such TypedTree Valuation value_of (λ e. e.0) y) in
+    ap (λ x. outcome_fits x.type (value_of (roll-TypedTree z) env)) j ∙ ap (λ f. outcome_fits y.cel_type (f env)) v
+    ∙ level types env h y.cel_type y.form (sym (ap (λ x. x.right types) j) ∙ g)
 
 good_of : (e : TypedTree) → Good e
 good_of = ind-TypedTree Good (λ x y is. subst (λ z. Good (roll-TypedTree z)) is (step y))
 
-pub preserved : (e : TypedTree) (types : Types) (env : Env) → is_right e types ≡ true → env_fits types env ≡ true → outcome_fits (type_of e) (value_of e env) ≡ true
+pub preserved : (e : TypedTree) (types : Types) (env : Env) → is_right e types ≡ true → env_fits types env ≡ true
+    → outcome_fits (type_of e) (value_of e env) ≡ true
 preserved e types env g h =
     let j : (judged_of e).type ≡ type_of e = ap (λ j. j.type) (fold_out-TypedTree Judged judged_step e) in
     sym (ap (λ s. outcome_fits s (value_of e env)) j) ∙ good_of e types env g h
 
-pub preserved_outside : (typed : Typed) (slots : List Outcome) → slots_fit typed.slots slots ≡ true → outcome_fits (type_of typed.tree) (value_of typed.tree (outside slots)) ≡ true
+pub preserved_outside : (typed : Typed) (slots : List Outcome) → slots_fit typed.slots slots ≡ true
+    → outcome_fits (type_of typed.tree) (value_of typed.tree (outside slots)) ≡ true
 preserved_outside typed slots h =
     preserved typed.tree (types_outside typed.slots) (outside slots) typed.well_typed (and_from (slots_fit typed.slots slots) true h refl)

@@ -1,31 +1,32 @@
 -- What an operator answers is of the type that its row gives, and its charge is at most the greatest.
-use Rattle.std.proofs.Common.{◌≡◌, ℕ, zero, suc, ◌+◌, ◌^◌, cond, ◌≤◌, Bool, true, false, not, Option, Some, None, refl, ap, sym, ◌∙◌, subst, inl, inr, arith, true≢false}
+use Rattle.std.proofs.Common.{◌≡◌, ℕ, zero, suc, ◌+◌, ◌^◌, cond, ◌≤◌, Bool, true, false, not, Option, Some, None, refl, ap, sym, ◌∙◌, subst, inl, inr, arith, rules, true≢false, ◌||◌}
 use Rattle.std.specs.Prelude.{Result, Ok, Err, ℤ, pos, negsuc, ◌+ℤ◌, ◌-ℤ◌, ◌*ℤ◌, neg_ℤ, int_div, int_rem, int_lt, nat_lt}
 use Rattle.std.proofs.lemmas.Option.{none-some, same_Some}
 use Rattle.std.proofs.lemmas.Bool.{cases_Bool}
-use Rattle.cel_value.specs.declared.value.Value.{Value, out-Value}
+use Rattle.cel_value.specs.declared.value.Value.{Value, out-Value, roll-Value, the_lemmas as value_lemmas}
 use Rattle.cel_value.specs.declared.value.Value as value
 use Rattle.cel_value.specs.declared.value.Value.TheOpen.{Value-F}
 use Rattle.cel_value.specs.declared.cel_type.CelType.{CelType, out-CelType}
 use Rattle.cel_value.specs.declared.cel_type.CelType as type
 use Rattle.cel_value.specs.declared.cel_type.CelType.TheOpen.{CelType-F}
 use Rattle.cel_value.specs.declared.cel_error.CelError.{CelError}
-use Rattle.cel_value.specs.declared.cel_error.CelError.TheVariants.{Overflow}
+use Rattle.cel_value.specs.declared.cel_error.CelError.TheVariants.{Overflow, NullOperand}
 use Rattle.cel_value.specs.CelType.{fits, assignable, join as type_join}
-use Rattle.cel_value.specs.Fits.{fits_at}
+use Rattle.cel_value.specs.Fits.{fits_at, is_null}
 use Rattle.cel_value.specs.Value.{same, bool_lt}
 use Rattle.cel_value.proofs.Bounds.{weight_of-le}
 use Rattle.cel_value.proofs.Soundness.{IsWithin-from_assignable}
 use Rattle.cel_value.specs.JoinRules.{IsBare, same_kind_at, are_of_one_kind}
 use Rattle.cel_value.proofs.Joins.{IsBareLevel, bare_from}
 use Rattle.cel_value.proofs.JoinRules.{join-apart}
-use Rattle.cel_check.proofs.Opened.{opened, fits-out, bool_fits, int_fits, uint_fits}
+use Rattle.cel_check.proofs.Opened.{opened, fits-out, fits-levels, bool_fits, int_fits, uint_fits}
 use Rattle.cel_check.specs.declared.operator.Operator.{Operator}
 use Rattle.cel_check.specs.declared.operator.Operator.TheVariants.{Not, Negate, Add, AddUint, Subtract, Multiply, Divide, Remainder, Equal, NotEqual, Less, AtMost, Greater, AtLeast}
 use Rattle.cel_check.specs.declared.fault.TypeRule.{TypeRule}
 use Rattle.cel_check.specs.Outcomes.{Outcome, outcome_fits}
-use Rattle.cel_check.specs.Wants.{Want, Any, Truth, Whole, Natural, Ordered, Of, taken_at, taken_value, taken, Limit, limit_at, limit_of, Within, order_at, order_of, order_of_level, order_of_type, in_order}
-use Rattle.cel_check.specs.Operators.{OneRow, TwoRow, Row, One, Two, row, in_range, int_or_overflow, divided, less_at, less, truth_of, untruth_of, bool_where, lesser_weight, lesser_greatest, arithmetic_row, natural_row, equality_row, order_row, Made, makes, one, two, at_one, at_two, outcome_made, charge_made, of_limit, of_limits, type_of_one, type_of_two, most, most_of_two, greatest_of_one, greatest_of_two}
+use Rattle.cel_check.specs.Compared.{are_comparable}
+use Rattle.cel_check.specs.Wants.{Want, Any, Truth, Whole, Natural, Ordered, Of, kind_at, taken_at, taken_value, taken, Limit, limit_at, limit_of, without_null_at, without_null, Within, order_at, order_of, order_of_level, order_of_type, in_order}
+use Rattle.cel_check.specs.Operators.{OneRow, TwoRow, Row, One, Two, row, in_range, int_or_overflow, divided, less_at, less, truth_of, untruth_of, bool_where, bool_if, lesser_weight, lesser_greatest, arithmetic_row, natural_row, equality_row, order_row, Made, makes, one, two, at_one, at_two, outcome_made, charge_made, of_limit, of_limits, type_of_one, type_of_two, most, most_of_two, greatest_of_one, greatest_of_two}
 
 -- an operand of the right type, taken as one of the kind, is an error or within the limit
 abbrev pub Taken : (w : Want) → Limit w → Option (Result (Of w) CelError) → Type 0
@@ -50,37 +51,61 @@ some-in_order : {A : Type 0} (n : ℕ) (x : A) → 1 ≤ n → in_order n x ≡ 
 some-in_order zero x h = absurd (omega (arith, h))
 some-in_order (suc n) x h = refl
 
-truth_taken : (v : Value) (o : CelType-F CelType) (p : Value-F Value) (t : CelType) (l : Limit Truth) → limit_at Truth t o ≡ Some l → fits_at (opened o) p ≡ true → Taken Truth l (taken_at Truth v p)
+truth_taken : (v : Value) (o : CelType-F CelType) (p : Value-F Value) (t : CelType) (l : Limit Truth) → limit_at Truth t o ≡ Some l → fits_at (opened o) p ≡ true → Taken Truth l (kind_at Truth v p)
 truth_taken v CelType-F.Never p t l e h = absurd (true≢false (sym h))
 truth_taken v CelType-F.Bool (Value-F.Bool b) t l e h = tt
 truth_taken v CelType-F.Bool _ t l e h = absurd (true≢false (sym h))
 truth_taken v _ p t l e h = absurd (none-some _ e)
 
-whole_taken : (v : Value) (o : CelType-F CelType) (p : Value-F Value) (t : CelType) (l : Limit Whole) → limit_at Whole t o ≡ Some l → fits_at (opened o) p ≡ true → Taken Whole l (taken_at Whole v p)
+whole_taken : (v : Value) (o : CelType-F CelType) (p : Value-F Value) (t : CelType) (l : Limit Whole) → limit_at Whole t o ≡ Some l → fits_at (opened o) p ≡ true → Taken Whole l (kind_at Whole v p)
 whole_taken v CelType-F.Never p t l e h = absurd (true≢false (sym h))
 whole_taken v CelType-F.Int (Value-F.Int n) t l e h = tt
 whole_taken v CelType-F.Int _ t l e h = absurd (true≢false (sym h))
 whole_taken v _ p t l e h = absurd (none-some _ e)
 
-natural_taken : (v : Value) (o : CelType-F CelType) (p : Value-F Value) (t : CelType) (l : Limit Natural) → limit_at Natural t o ≡ Some l → fits_at (opened o) p ≡ true → Taken Natural l (taken_at Natural v p)
+natural_taken : (v : Value) (o : CelType-F CelType) (p : Value-F Value) (t : CelType) (l : Limit Natural) → limit_at Natural t o ≡ Some l → fits_at (opened o) p ≡ true → Taken Natural l (kind_at Natural v p)
 natural_taken v CelType-F.Never p t l e h = absurd (true≢false (sym h))
 natural_taken v CelType-F.Uint (Value-F.Uint n) t l e h = tt
 natural_taken v CelType-F.Uint _ t l e h = absurd (true≢false (sym h))
 natural_taken v _ p t l e h = absurd (none-some _ e)
 
-ordered_taken : (v : Value) (t : CelType) (l : Limit Ordered) → limit_of Ordered t ≡ Some l → fits v t ≡ true → Taken Ordered l (taken_value Ordered v)
+ordered_taken : (v : Value) (t : CelType) (l : Limit Ordered) → limit_at Ordered t (out-CelType t) ≡ Some l → fits v t ≡ true → Taken Ordered l (kind_at Ordered v (out-Value v))
 ordered_taken v t l e h =
     let o = in_order-some (order_of_type t) t l e in
     let q = ordered_level (out-CelType t) (out-Value v) (sym (fits-out v t) ∙ h) o.0 in
     let known : 1 ≤ order_of v = subst (λ n. 1 ≤ n) (sym q) o.0 in
     subst (Taken Ordered l) (sym (some-in_order (order_of v) (Ok v) known)) (subst (λ s. fits v s ≡ true) o.1 h, known, q ∙ ap order_of_type o.1)
 
+kind_taken : (w : Want) (t : CelType) (v : Value) (l : Limit w) → limit_at w t (out-CelType t) ≡ Some l → fits v t ≡ true → Taken w l (kind_at w v (out-Value v))
+kind_taken Any t v l e h = subst (λ s. fits v s ≡ true) (same_Some _ _ e) h
+kind_taken Truth t v l e h = truth_taken v (out-CelType t) (out-Value v) t l e (sym (fits-out v t) ∙ h)
+kind_taken Whole t v l e h = whole_taken v (out-CelType t) (out-Value v) t l e (sym (fits-out v t) ∙ h)
+kind_taken Natural t v l e h = natural_taken v (out-CelType t) (out-Value v) t l e (sym (fits-out v t) ∙ h)
+kind_taken Ordered t v l e h = ordered_taken v t l e h
+
+-- what is of a type and not null is of the type beside null
+beside_null : (v : Value) (t : CelType) (o : CelType-F CelType) → out-CelType t ≡ o → is_null (out-Value v) ≡ false → fits v t ≡ true → fits v (without_null_at t o) ≡ true
+beside_null v t (CelType-F.Nullable s) e n h =
+    let here : (is_null (out-Value v) || fits (roll-Value (out-Value v)) s) ≡ true = sym (fits-levels v t (out-Value v) (CelType-F.Nullable s) refl e) ∙ h in
+    let inside : fits (roll-Value (out-Value v)) s ≡ true = subst (λ b. (b || fits (roll-Value (out-Value v)) s) ≡ true) n here in
+    let rolled : roll-Value (out-Value v) ≡ v = search (rules, value_lemmas) in
+    subst (λ w. fits w s ≡ true) rolled inside
+beside_null v t _ e n h = h
+
+null_or : (w : Want) (l : Limit w) (b : Bool) (x : Option (Result (Of w) CelError)) → (b ≡ false → Taken w l x) → Taken w l (cond b (Some (Err NullOperand)) x)
+null_or w l true x f = tt
+null_or w l false x f = f refl
+
+kind_or_null : (w : Want) (t : CelType) (v : Value) (l : Limit w) → limit_at w (without_null t) (out-CelType (without_null t)) ≡ Some l → fits v t ≡ true → Taken w l (cond (is_null (out-Value v)) (Some (Err NullOperand)) (kind_at w v (out-Value v)))
+kind_or_null w t v l e h =
+    null_or w l (is_null (out-Value v)) (kind_at w v (out-Value v)) (λ n. kind_taken w (without_null t) v l e (beside_null v t (out-CelType t) refl n h))
+
 value_taken : (w : Want) (t : CelType) (v : Value) (l : Limit w) → limit_of w t ≡ Some l → fits v t ≡ true → Taken w l (taken_value w v)
 value_taken Any t v l e h = subst (λ s. fits v s ≡ true) (same_Some _ _ e) h
-value_taken Truth t v l e h = truth_taken v (out-CelType t) (out-Value v) t l e (sym (fits-out v t) ∙ h)
-value_taken Whole t v l e h = whole_taken v (out-CelType t) (out-Value v) t l e (sym (fits-out v t) ∙ h)
-value_taken Natural t v l e h = natural_taken v (out-CelType t) (out-Value v) t l e (sym (fits-out v t) ∙ h)
-value_taken Ordered t v l e h = ordered_taken v t l e h
+value_taken Truth t v l e h = kind_or_null Truth t v l e h
+value_taken Whole t v l e h = kind_or_null Whole t v l e h
+value_taken Natural t v l e h = kind_or_null Natural t v l e h
+value_taken Ordered t v l e h = kind_or_null Ordered t v l e h
 
 pub taken_fits : (w : Want) (t : CelType) (x : Option Outcome) (l : Limit w) → limit_of w t ≡ Some l → outcome_fits t x ≡ true → Taken w l (taken w x)
 taken_fits w t None l e h = absurd (true≢false (sym h))
@@ -132,12 +157,12 @@ one_greatest s t = omega (arith, (weight_of-le s).0, (weight_of-le t).0)
 weight_within : (v w : Value) (s t : CelType) → fits v s ≡ true → fits w t ≡ true → lesser_weight v w ≤ lesser_greatest s t
 weight_within v w s t h k = omega (arith, (weight_of-le s).1 v h, (weight_of-le t).1 w k)
 
-where_right : (o : Option CelType) (P : CelType → Type 0) → P type.Bool → Gives (bool_where o) P
-where_right None P h = tt
-where_right (Some t) P h = h
+if_right : (b : Bool) (P : CelType → Type 0) → P type.Bool → Gives (bool_if b) P
+if_right true P h = h
+if_right false P h = tt
 
 equality_right : (f : Bool → Bool) → RowRight (Two Any Any (equality_row f))
-equality_right f = λ s t. where_right (type_join s t) (TwoGood Any Any (equality_row f) s t) (one_greatest s t, λ v w p q. (bool_fits (f (same v w)), weight_within v w s t p q))
+equality_right f = λ s t. if_right (are_comparable s t) (TwoGood Any Any (equality_row f) s t) (one_greatest s t, λ v w p q. (bool_fits (f (same v w)), weight_within v w s t p q))
 
 -- types of one kind give their values one order
 kind_order : (o r : CelType-F CelType) → same_kind_at o r ≡ true → order_of_level o ≡ order_of_level r

@@ -1,3 +1,4 @@
+pub mod Compared
 pub mod Meaning
 pub mod Operators
 pub mod Outcomes

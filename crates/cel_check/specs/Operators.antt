@@ -1,6 +1,8 @@
 -- The operators: for each the kinds of its operands, its answer and errors, its charge, its type and its greatest
 -- charge. The value, the cost, the machine and the verifier take an operator from here alone.
-use Rattle.std.specs.Prelude.{ℕ, zero, ◌+◌, ◌^◌, min, ℤ, pos, negsuc, ◌+ℤ◌, ◌-ℤ◌, ◌*ℤ◌, neg_ℤ, int_div, int_rem, int_lt, Bool, not, nat_lt, List, [], ◌∷◌, if◌then◌else◌, slice_get, Option, Some, None, Result, Ok, Err}
+use Rattle.std.specs.Prelude.{ℕ, zero, ◌+◌, ◌^◌, min, ℤ, pos, negsuc, ◌+ℤ◌, ◌-ℤ◌}
+use Rattle.std.specs.Prelude.{◌*ℤ◌, neg_ℤ, int_div, int_rem, int_lt, Bool, not, nat_lt, List, []}
+use Rattle.std.specs.Prelude.{◌∷◌, if◌then◌else◌, slice_get, Option, Some, None, Result, Ok, Err}
 use Rattle.cel_value.specs.declared.value.Value.{Value, out-Value}
 use Rattle.cel_value.specs.declared.value.Value as value
 use Rattle.cel_value.specs.declared.value.Value.TheOpen.{Value-F}
@@ -11,12 +13,14 @@ use Rattle.cel_value.specs.declared.cel_error.CelError.TheVariants.{Overflow, Di
 use Rattle.cel_value.specs.Value.{weight_of, same, bool_lt}
 use Rattle.cel_value.specs.CelType.{greatest_of, join}
 use Rattle.cel_check.specs.declared.operator.Operator.{Operator}
-use Rattle.cel_check.specs.declared.operator.Operator.TheVariants.{Not, Negate, Add, AddUint, Subtract, Multiply, Divide, Remainder, Equal, NotEqual, Less, AtMost, Greater, AtLeast}
+use Rattle.cel_check.specs.declared.operator.Operator.TheVariants.{Not, Negate, Add, AddUint, Subtract, Multiply, Divide}
+use Rattle.cel_check.specs.declared.operator.Operator.TheVariants.{Remainder, Equal, NotEqual, Less, AtMost, Greater, AtLeast}
 pub use Rattle.cel_check.specs.declared.operator.Made.{Made}
 use Rattle.cel_check.specs.declared.operands.Operands.TheVariants as operands
 use Rattle.cel_check.specs.declared.operands.Operands.{Operands}
 use Rattle.cel_check.specs.declared.fault.TypeRule.{TypeRule}
 use Rattle.cel_check.specs.declared.fault.TypeRule.TheVariants.{NoOverload}
+use Rattle.cel_check.specs.Compared.{are_comparable}
 use Rattle.cel_check.specs.Outcomes.{Outcome}
 use Rattle.cel_check.specs.Wants.{Want, Any, Truth, Whole, Natural, Ordered, Of, taken, Limit, limit_of}
 
@@ -87,6 +91,10 @@ abbrev pub bool_where : Option CelType → Result CelType TypeRule
 bool_where None = Err NoOverload
 bool_where (Some t) = Ok type.Bool
 
+-- a truth value, where an operator takes its operands
+abbrev pub bool_if : Bool → Result CelType TypeRule
+bool_if b = if b then Ok type.Bool else Err NoOverload
+
 -- the lesser weight of two values
 abbrev pub lesser_weight : Value → Value → ℕ
 lesser_weight v w = min (weight_of v) (weight_of w)
@@ -113,7 +121,7 @@ natural_row f = record { answer = λ m n. Some (f m n); charge = λ m n. 1; resu
 
 -- `==`, and `!=` by the opposite
 abbrev pub equality_row : (Bool → Bool) → TwoRow Any Any
-equality_row f = record { answer = λ v w. Some (Ok (value.Bool (f (same v w)))); charge = lesser_weight; result = λ s t. bool_where (join s t); greatest = lesser_greatest }
+equality_row f = record { answer = λ v w. Some (Ok (value.Bool (f (same v w)))); charge = lesser_weight; result = λ s t. bool_if (are_comparable s t); greatest = lesser_greatest }
 
 -- `<` and its like, by what they say of two values
 abbrev pub order_row : (Value → Value → Option Outcome) → TwoRow Ordered Ordered

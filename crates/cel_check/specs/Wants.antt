@@ -1,11 +1,13 @@
 -- The kinds of operands: what each is taken as, and what its type says of it.
-use Rattle.std.specs.Prelude.{◌≡◌, ◌≤◌, ℕ, zero, suc, Bool, true, Option, Some, None, Result, Ok, Err, ℤ}
+use Rattle.std.specs.Prelude.{◌≡◌, ◌≤◌, ℕ, zero, suc, Bool, true, Option, Some, None, Result, Ok, Err, ℤ, if◌then◌else◌}
 use Rattle.cel_value.specs.declared.value.Value.{Value, out-Value}
 use Rattle.cel_value.specs.declared.value.Value.TheOpen.{Value-F}
 use Rattle.cel_value.specs.declared.cel_type.CelType.{CelType, out-CelType}
 use Rattle.cel_value.specs.declared.cel_type.CelType.TheOpen.{CelType-F}
 use Rattle.cel_value.specs.declared.cel_error.CelError.{CelError}
+use Rattle.cel_value.specs.declared.cel_error.CelError.TheVariants.{NullOperand}
 use Rattle.cel_value.specs.CelType.{fits}
+use Rattle.cel_value.specs.Fits.{is_null}
 use Rattle.cel_check.specs.Outcomes.{Outcome, Side}
 pub use Rattle.cel_check.specs.declared.operands.Want.{Want}
 pub use Rattle.cel_check.specs.declared.operands.Want.TheVariants.{Any, Truth, Whole, Natural, Ordered}
@@ -45,13 +47,18 @@ in_order zero x = None
 in_order (suc n) x = Some x
 
 -- a value, and its level, as one of the kind; None where it is of another
+abbrev pub kind_at : (w : Want) → Value → Value-F Value → Option (Result (Of w) CelError)
+kind_at Any v _ = Some (Ok v)
+kind_at Truth v (Value-F.Bool b) = Some (Ok b)
+kind_at Whole v (Value-F.Int n) = Some (Ok n)
+kind_at Natural v (Value-F.Uint n) = Some (Ok n)
+kind_at Ordered v p = in_order (order_at p) (Ok v)
+kind_at _ v _ = None
+
+-- the same, where null is an error unless any value will do
 abbrev pub taken_at : (w : Want) → Value → Value-F Value → Option (Result (Of w) CelError)
-taken_at Any v _ = Some (Ok v)
-taken_at Truth v (Value-F.Bool b) = Some (Ok b)
-taken_at Whole v (Value-F.Int n) = Some (Ok n)
-taken_at Natural v (Value-F.Uint n) = Some (Ok n)
-taken_at Ordered v p = in_order (order_at p) (Ok v)
-taken_at _ v _ = None
+taken_at Any v p = Some (Ok v)
+taken_at w v p = if is_null p then Some (Err NullOperand) else kind_at w v p
 
 -- a value as one of the kind
 abbrev pub taken_value : (w : Want) → Value → Option (Result (Of w) CelError)
@@ -87,9 +94,19 @@ limit_at Natural t CelType-F.Uint = Some tt
 limit_at Ordered t o = in_order (order_of_level o) t
 limit_at _ t _ = None
 
--- what a type says where it is one of the kind
+-- the type beside null, where a type, whose level is given, has null too
+abbrev pub without_null_at : CelType → CelType-F CelType → CelType
+without_null_at t (CelType-F.Nullable s) = s
+without_null_at t _ = t
+
+-- T for Nullable T, and any other type as it is
+abbrev pub without_null : CelType → CelType
+without_null t = without_null_at t (out-CelType t)
+
+-- what a type says where it is one of the kind, or Nullable of one
 abbrev pub limit_of : (w : Want) → CelType → Option (Limit w)
-limit_of w t = limit_at w t (out-CelType t)
+limit_of Any t = Some t
+limit_of w t = limit_at w (without_null t) (out-CelType (without_null t))
 
 -- a value of the kind within what its type says
 abbrev pub Within : (w : Want) → Limit w → Of w → Type 0

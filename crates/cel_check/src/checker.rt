@@ -1,6 +1,7 @@
 ghost use Rattle.std.specs.Prelude.{◌≡◌, IfOk};
 ghost use Rattle.cel_check.specs.declared.fault.TypeRule.TheVariants.{NoOverload};
-ghost use Rattle.cel_check.specs.Typing.{Names, names_of, types_in, refused, after_each, after_entries, each_checked, entries_checked, checked, checked_within, Answers};
+ghost use Rattle.cel_check.specs.Typing.{Names, names_of, types_in, refused, checked, checked_within, Answers};
+ghost use Rattle.cel_check.specs.Typing.{after_each, after_entries, each_checked, entries_checked};
 
 use crate::fault::{CheckError, TypeFault, TypeRule};
 use crate::node::{binary, conditional, conjunction, disjunction, literal, refused, unary};
@@ -48,7 +49,8 @@ fn refused_behind(
     place: usize,
     parts: &[Expr],
 ) -> Result<Boxed<TypedTree>, CheckError>
-    ensures { (names : Names) → Answers result (λ tree. tree) (after_each (each_checked parts.now) names (refused place NoOverload)) }
+    ensures { (names : Names) → Answers result (λ tree. tree)
+        (after_each (each_checked parts.now) names (refused place NoOverload)) }
 {
     for part in parts {
         typed_tree(alloc, part)?;
@@ -62,7 +64,8 @@ fn refused_behind_entries(
     place: usize,
     entries: &[Entry<Expr>],
 ) -> Result<Boxed<TypedTree>, CheckError>
-    ensures { (names : Names) → Answers result (λ tree. tree) (after_entries (entries_checked entries.now) names (refused place NoOverload)) }
+    ensures { (names : Names) → Answers result (λ tree. tree)
+        (after_entries (entries_checked entries.now) names (refused place NoOverload)) }
 {
     for entry in entries {
         typed_tree(alloc, &entry.key)?;

@@ -3,6 +3,7 @@
 ghost use Rattle.std.specs.Prelude.{◌≡◌, ◌-◌, ◌^◌, min};
 ghost use Rattle.cel_check.specs.Operators.{row, greatest_of_one, greatest_of_two};
 
+use crate::operands::without_null;
 use crate::operator::{Operator, is_natural, is_ordered, is_whole};
 use cel_value::{CelType, max_weight};
 
@@ -22,7 +23,7 @@ pub fn greatest_of_two(op: Operator, s: &CelType, t: &CelType) -> u64
         Operator::Equal | Operator::NotEqual => max_weight(s).min(max_weight(t)),
         Operator::Less | Operator::AtMost | Operator::Greater | Operator::AtLeast => {
             if is_ordered(s) && is_ordered(t) {
-                max_weight(s).min(max_weight(t))
+                max_weight(without_null(s)).min(max_weight(without_null(t)))
             } else {
                 0
             }

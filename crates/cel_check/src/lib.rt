@@ -5,6 +5,7 @@
 #![tactic(auto)]
 
 mod checker;
+mod equating;
 mod fault;
 mod greatest;
 mod node;

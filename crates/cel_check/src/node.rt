@@ -46,7 +46,8 @@ pub fn unary(
     operator: UnaryOperator,
     operand: Boxed<TypedTree>,
 ) -> Result<Boxed<TypedTree>, CheckError>
-    ensures { Answers result (λ tree. tree) (chosen place (λ o. form.Unary o operand) (overload_of_one operator (type_of operand))) }
+    ensures { Answers result (λ tree. tree)
+        (chosen place (λ o. form.Unary o operand) (overload_of_one operator (type_of operand))) }
 {
     match overload_of_one(operator, &operand.get().cel_type) {
         Ok(overload) => new_node(
@@ -65,7 +66,8 @@ pub fn binary(
     left: Boxed<TypedTree>,
     right: Boxed<TypedTree>,
 ) -> Result<Boxed<TypedTree>, CheckError>
-    ensures { Answers result (λ tree. tree) (chosen place (λ o. form.Binary o left right) (overload_of_two operator (type_of left) (type_of right))) }
+    ensures { Answers result (λ tree. tree)
+        (chosen place (λ o. form.Binary o left right) (overload_of_two operator (type_of left) (type_of right))) }
 {
     match overload_of_two(alloc, operator, &left.get().cel_type, &right.get().cel_type) {
         Ok(overload) => new_node(

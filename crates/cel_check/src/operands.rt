@@ -1,4 +1,9 @@
-/// What an operand must be: any value, or one of a kind.
+ghost use Rattle.std.specs.Prelude.{◌≡◌};
+ghost use Rattle.cel_check.specs.Wants.{without_null};
+
+use cel_value::CelType;
+
+/// What an operand must be: any value, or one of a kind. Null is of none; at an operand of a kind it is an error.
 #[derive(Clone, Copy)]
 pub enum Want {
     Any,
@@ -15,4 +20,14 @@ pub enum Want {
 pub enum Operands {
     One(Want),
     Two(Want, Want),
+}
+
+/// The type beside null, where a type has null too: T for Nullable T. Any other type as it is.
+pub fn without_null(cel_type: &CelType) -> &CelType
+    ensures { result.now ≡ without_null cel_type.now }
+{
+    match cel_type {
+        CelType::Nullable(item) => item.get(),
+        _ => cel_type,
+    }
 }

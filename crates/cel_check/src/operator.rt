@@ -2,13 +2,14 @@ ghost use Rattle.std.specs.Prelude.{◌≡◌, if◌then◌else◌, Ok, Err};
 ghost use Rattle.cel_value.specs.declared.cel_type.CelType as type;
 ghost use Rattle.cel_check.specs.declared.fault.TypeRule.TheVariants.{NoOverload};
 ghost use Rattle.cel_value.specs.CelType.{join as type_join};
-ghost use Rattle.cel_check.specs.Operators.{row, bool_where, code_of, operands_of, operator_of, type_of_one, type_of_two};
+ghost use Rattle.cel_check.specs.Operators.{row, bool_if, bool_where, code_of, operands_of, operator_of, type_of_one, type_of_two};
 ghost use Rattle.cel_check.specs.Meaning.{is_truth, is_there};
 ghost use Rattle.cel_check.specs.Wants.{Whole, Natural, Ordered, limit_of};
 ghost use Rattle.cel_check.specs.Typing.{Tells};
 
+use crate::equating::are_comparable;
 use crate::fault::{TypeRule, Untyped};
-use crate::operands::{Operands, Want};
+use crate::operands::{Operands, Want, without_null};
 use cel_value::{CelError, CelType, Value, join};
 use std::alloc::Global;
 
@@ -92,7 +93,7 @@ impl Operator {
     pub fn type_of_one(&self, operand: &CelType) -> Result<CelType, TypeRule>
         ensures { result ≡ type_of_one (row self.now) operand.now }
     {
-        match (self, operand) {
+        match (self, without_null(operand)) {
             (Operator::Not, CelType::Never | CelType::Bool) => Ok(CelType::Bool),
             (Operator::Negate, CelType::Never | CelType::Int) => Ok(CelType::Int),
             _ => Err(TypeRule::NoOverload),
@@ -122,10 +123,12 @@ impl Operator {
                 }
             }
             Operator::AddUint => uint_where(is_natural(left) && is_natural(right)),
-            Operator::Equal | Operator::NotEqual => compared(alloc, left, right),
+            Operator::Equal | Operator::NotEqual => truth_where(are_comparable(
+                alloc, left, right,
+            )?),
             _ => {
                 if is_ordered(left) && is_ordered(right) {
-                    compared(alloc, left, right)
+                    compared(alloc, without_null(left), without_null(right))
                 } else {
                     Err(Untyped::Rule(TypeRule::NoOverload))
                 }
@@ -144,32 +147,36 @@ impl Operator {
     }
 }
 
-/// Whether a type may stand where a truth value is asked.
+/// Whether a type may stand where a truth value is asked. Null may be one of its values, here and below: it is an error
+/// then, and of no kind.
 pub fn is_truth(cel_type: &CelType) -> bool
     ensures { result ≡ is_truth cel_type.now }
 {
-    matches!(cel_type, CelType::Never | CelType::Bool)
+    matches!(without_null(cel_type), CelType::Never | CelType::Bool)
 }
 
 /// Whether a type may stand where an integer is asked.
 pub fn is_whole(cel_type: &CelType) -> bool
     ensures { result ≡ is_there (limit_of Whole cel_type.now) }
 {
-    matches!(cel_type, CelType::Never | CelType::Int)
+    matches!(without_null(cel_type), CelType::Never | CelType::Int)
 }
 
 /// Whether a type may stand where an unsigned integer is asked.
 pub fn is_natural(cel_type: &CelType) -> bool
     ensures { result ≡ is_there (limit_of Natural cel_type.now) }
 {
-    matches!(cel_type, CelType::Never | CelType::Uint)
+    matches!(without_null(cel_type), CelType::Never | CelType::Uint)
 }
 
 /// Whether a type may stand where a value that has an order is asked.
 pub fn is_ordered(cel_type: &CelType) -> bool
     ensures { result ≡ is_there (limit_of Ordered cel_type.now) }
 {
-    matches!(cel_type, CelType::Never | CelType::Bool | CelType::Int)
+    matches!(
+        without_null(cel_type),
+        CelType::Never | CelType::Bool | CelType::Int
+    )
 }
 
 /// The type of unsigned integers, where an operator takes its operands.
@@ -178,6 +185,17 @@ fn uint_where(taken: bool) -> Result<CelType, Untyped>
 {
     if taken {
         Ok(CelType::Uint)
+    } else {
+        Err(Untyped::Rule(TypeRule::NoOverload))
+    }
+}
+
+/// The type of truth values, where an operator takes its operands.
+fn truth_where(taken: bool) -> Result<CelType, Untyped>
+    ensures { Tells result (bool_if taken) }
+{
+    if taken {
+        Ok(CelType::Bool)
     } else {
         Err(Untyped::Rule(TypeRule::NoOverload))
     }

@@ -1,5 +1,6 @@
 -- The targets of the image that an expression compiles to are where its jumps go.
-use Rattle.std.proofs.Common.{◌≡◌, ℕ, zero, suc, ◌+◌, ◌<◌, ◌≤◌, Bool, true, false, List, [], ◌∷◌, ◌++◌, length, Some, ◌⊎◌, refl, sym, ap, ◌∙◌, subst, inl, inr, arith}
+use Rattle.std.proofs.Common.{◌≡◌, ℕ, zero, suc, ◌+◌, ◌<◌, ◌≤◌, Bool, true, false, List, [], ◌∷◌}
+use Rattle.std.proofs.Common.{◌++◌, length, Some, ◌⊎◌, refl, sym, ap, ◌∙◌, subst, inl, inr, arith}
 use Rattle.std.specs.Prelude.{slice_get, if◌then◌else◌}
 use Rattle.std.proofs.lemmas.Bool.{cases_lt}
 use Rattle.cel_value.specs.declared.cel_type.CelType.{CelType}
@@ -41,37 +42,50 @@ end_rises : (b : Bool) (at to : ℕ) (types : List CelType) → at ≡ to → Ri
 end_rises true at to types e = (omega (arith, e), omega (arith, e))
 end_rises false at to types e = omega arith
 
-end_target : (b : Bool) (at x : ℕ) (types : List CelType) → b ≡ true → at ≡ x → IsTarget (if b then target at types ∷ [] else []) x
+end_target : (b : Bool) (at x : ℕ) (types : List CelType) → b ≡ true → at ≡ x
+    → IsTarget (if b then target at types ∷ [] else []) x
 end_target true at x types h e = inl e
 end_target false at x types h e = cc
 
-end_is : (b : Bool) (at x : ℕ) (types : List CelType) → IsTarget (if b then target at types ∷ [] else []) x → (b ≡ true) × (at ≡ x)
+end_is : (b : Bool) (at x : ℕ) (types : List CelType) → IsTarget (if b then target at types ∷ [] else []) x
+    → (b ≡ true) × (at ≡ x)
 end_is true at x types (inl e) = (refl, e)
 end_is true at x types (inr e) = absurd e
 end_is false at x types h = absurd h
 
-all_rise : (l : Layout) (from at to : ℕ) (below : List CelType) → at + l.size ≡ to → Rises from (l.within at below) to → Rises from (targets_from l at below) (to + 1)
-all_rise l from at to below e h = rises_on (l.within at below) (target_at_end l at below) from to (to + 1) h (end_rises l.joins (at + l.size) to (below ++ l.type ∷ []) e)
+all_rise : (l : Layout) (from at to : ℕ) (below : List CelType) → at + l.size ≡ to → Rises from (l.within at below) to
+    → Rises from (targets_from l at below) (to + 1)
+all_rise l from at to below e h =
+    rises_on (l.within at below) (target_at_end l at below) from to (to + 1) h
+    (end_rises l.joins (at + l.size) to (below ++ l.type ∷ []) e)
 
 -- a place to which a jump goes is a target before the end, or the end where jumps go there
 abbrev Goes : Layout → ℕ → ℕ → List CelType → ℕ → Type 0
 Goes l at to below x = IsTarget (l.within at below) x ⊎ ((x ≡ to) × (l.joins ≡ true))
 
-all_go : (l : Layout) (at to : ℕ) (below : List CelType) (x : ℕ) → at + l.size ≡ to → Goes l at to below x → IsTarget (targets_from l at below) x
+all_go : (l : Layout) (at to : ℕ) (below : List CelType) (x : ℕ) → at + l.size ≡ to → Goes l at to below x
+    → IsTarget (targets_from l at below) x
 all_go l at to below x e (inl h) = target_left (l.within at below) (target_at_end l at below) x h
-all_go l at to below x e (inr h) = target_right (l.within at below) (target_at_end l at below) x (end_target l.joins (at + l.size) x (below ++ l.type ∷ []) h.1 (e ∙ sym h.0))
+all_go l at to below x e (inr h) =
+    target_right (l.within at below) (target_at_end l at below) x
+    (end_target l.joins (at + l.size) x (below ++ l.type ∷ []) h.1 (e ∙ sym h.0))
 
 module _ (code : Code) where
   sized : (e : TypedTree) (from to : ℕ) → Stands code e from to → from + (layout_of e).size ≡ to
   sized e from to (literal v f h) = rw (laid e _ f.is) (sym h.next)
   sized e from to (unary op a m f h i next) = let x = sized a from m h in rw (laid e _ f.is) (omega (arith, x, next))
-  sized e from to (binary op a b m n f h k i next) = let x = sized a from m h in let y = sized b m n k in rw (laid e _ f.is) (omega (arith, x, y, next))
-  sized e from to (both a b m n f h i k j next) = let x = sized a from m h in let y = sized b (m + 1) n k in rw (laid e _ f.is) (omega (arith, x, y, next))
-  sized e from to (either a b m n f h i k j next) = let x = sized a from m h in let y = sized b (m + 1) n k in rw (laid e _ f.is) (omega (arith, x, y, next))
-  sized e from to (conditional c a b m n f h i k j l) = let x = sized c from m h in let y = sized a (m + 1) n k in let z = sized b (n + 1) to l in rw (laid e _ f.is) (omega (arith, x, y, z))
+  sized e from to (binary op a b m n f h k i next) =
+      let x = sized a from m h in let y = sized b m n k in rw (laid e _ f.is) (omega (arith, x, y, next))
+  sized e from to (both a b m n f h i k j next) =
+      let x = sized a from m h in let y = sized b (m + 1) n k in rw (laid e _ f.is) (omega (arith, x, y, next))
+  sized e from to (either a b m n f h i k j next) =
+      let x = sized a from m h in let y = sized b (m + 1) n k in rw (laid e _ f.is) (omega (arith, x, y, next))
+  sized e from to (conditional c a b m n f h i k j l) =
+      let x = sized c from m h in let y = sized a (m + 1) n k in let z = sized b (n + 1) to l in rw (laid e _ f.is) (omega (arith, x, y, z))
 
   -- the targets before the end stand behind the first instruction, in increasing order
-  rise : (e : TypedTree) (from to : ℕ) → Stands code e from to → (at : ℕ) → at ≡ from → (below : List CelType) → Rises (from + 1) ((layout_of e).within at below) to
+  rise : (e : TypedTree) (from to : ℕ) → Stands code e from to → (at : ℕ) → at ≡ from → (below : List CelType)
+      → Rises (from + 1) ((layout_of e).within at below) to
   rise e from to (literal v f h) at same below = rw (laid e _ f.is) (omega (arith, h.next))
   rise e from to (unary op a m f h i next) at same below =
       let x = sized a from m h in
@@ -80,19 +94,25 @@ module _ (code : Code) where
       let x = sized a from m h in
       let y = sized b m n k in
       let p = all_rise (layout_of a) (from + 1) at m below (omega arith) (rise a from m h at same below) in
-      let q = all_rise (layout_of b) (m + 1) (at + (layout_of a).size) n (below ++ (layout_of a).type ∷ []) (omega arith) (rise b m n k _ (omega arith) _) in
+      let q =
+      all_rise (layout_of b) (m + 1) (at + (layout_of a).size) n (below ++ (layout_of a).type ∷ []) (omega arith)
+      (rise b m n k _ (omega arith) _) in
       rw (laid e _ f.is, next) (rises_on _ _ (from + 1) (m + 1) (n + 1) p q)
   rise e from to (both a b m n f h i k j next) at same below =
       let x = sized a from m h in
       let y = sized b (m + 1) n k in
       let p = all_rise (layout_of a) (from + 1) at m below (omega arith) (rise a from m h at same below) in
-      let q = all_rise (layout_of b) (m + 1 + 1) (at + (layout_of a).size + 1) n (below ++ (layout_of a).type ∷ []) (omega arith) (rise b (m + 1) n k _ (omega arith) _) in
+      let q =
+      all_rise (layout_of b) (m + 1 + 1) (at + (layout_of a).size + 1) n (below ++ (layout_of a).type ∷ []) (omega arith)
+      (rise b (m + 1) n k _ (omega arith) _) in
       rw (laid e _ f.is, next) (rises_on _ _ (from + 1) (m + 1) (n + 1) p (rises_from _ (m + 1) (m + 1 + 1) (n + 1) (omega arith) q))
   rise e from to (either a b m n f h i k j next) at same below =
       let x = sized a from m h in
       let y = sized b (m + 1) n k in
       let p = all_rise (layout_of a) (from + 1) at m below (omega arith) (rise a from m h at same below) in
-      let q = all_rise (layout_of b) (m + 1 + 1) (at + (layout_of a).size + 1) n (below ++ (layout_of a).type ∷ []) (omega arith) (rise b (m + 1) n k _ (omega arith) _) in
+      let q =
+      all_rise (layout_of b) (m + 1 + 1) (at + (layout_of a).size + 1) n (below ++ (layout_of a).type ∷ []) (omega arith)
+      (rise b (m + 1) n k _ (omega arith) _) in
       rw (laid e _ f.is, next) (rises_on _ _ (from + 1) (m + 1) (n + 1) p (rises_from _ (m + 1) (m + 1 + 1) (n + 1) (omega arith) q))
   rise e from to (conditional c a b m n f h i k j l) at same below =
       let x = sized c from m h in
@@ -100,9 +120,13 @@ module _ (code : Code) where
       let no_at = at + (layout_of c).size + 1 + (layout_of a).size + 1 in
       let no_is : no_at ≡ n + 1 = omega arith in
       let p = all_rise (layout_of c) (from + 1) at m below (omega arith) (rise c from m h at same below) in
-      let q = all_rise (layout_of a) (m + 1 + 1) (at + (layout_of c).size + 1) n below (omega arith) (rise a (m + 1) n k _ (omega arith) _) in
+      let q =
+      all_rise (layout_of a) (m + 1 + 1) (at + (layout_of c).size + 1) n below (omega arith) (rise a (m + 1) n k _ (omega arith) _) in
       let r = rise b (n + 1) to l no_at no_is below in
-      rw (laid e _ f.is) (rises_on _ _ (from + 1) (n + 1) to (rises_on _ _ (from + 1) (m + 1) (n + 1) p (rises_from _ (m + 1) (m + 1 + 1) (n + 1) (omega arith) q)) (omega arith, rises_from _ (no_at + 1) (n + 1 + 1) to (omega arith) r))
+      rw (laid e _ f.is)
+      (rises_on _ _ (from + 1) (n + 1) to
+      (rises_on _ _ (from + 1) (m + 1) (n + 1) p (rises_from _ (m + 1) (m + 1 + 1) (n + 1) (omega arith) q))
+      (omega arith, rises_from _ (no_at + 1) (n + 1 + 1) to (omega arith) r))
 
   -- what an instruction does, the instruction does that stands there
   here : (k m : ℕ) (i j : Instr) → Has code k i → Has code m j → m ≡ k → (x : ℕ) → Jumps i x → Jumps j x
@@ -111,8 +135,11 @@ module _ (code : Code) where
       let is : i ≡ j = cc in
       subst (λ z. Jumps z x) is h
 
-  go : (e : TypedTree) (from to : ℕ) → Stands code e from to → (at : ℕ) → at ≡ from → (below : List CelType) → (s : ℕ) → from ≤ s → s < to → (instr : Instr) → Has code s instr → (x : ℕ) → Jumps instr x → Goes (layout_of e) at to below x
-  go e from to (literal v f h) at same below s le lt instr has x j = absurd (here s from instr (Const h.number) has h.instr (omega (arith, h.next)) x j)
+  go : (e : TypedTree) (from to : ℕ) → Stands code e from to → (at : ℕ) → at ≡ from → (below : List CelType) → (s : ℕ)
+      → from ≤ s → s < to → (instr : Instr) → Has code s instr → (x : ℕ) → Jumps instr x
+      → Goes (layout_of e) at to below x
+  go e from to (literal v f h) at same below s le lt instr has x j =
+      absurd (here s from instr (Const h.number) has h.instr (omega (arith, h.next)) x j)
   go e from to (unary op a m f h i next) at same below s le lt instr has x j =
       let u = sized a from m h in
       rw (laid e _ f.is) (elim (cases_lt s m) [
@@ -123,9 +150,13 @@ module _ (code : Code) where
       let u = sized a from m h in
       let v = sized b m n k in
       rw (laid e _ f.is) (elim (cases_lt s m) [
-        | inl less ↦ inl (target_left _ _ x (all_go (layout_of a) at m below x (omega arith) (go a from m h at same below s le less instr has x j)))
+        | inl less ↦
+            inl (target_left _ _ x (all_go (layout_of a) at m below x (omega arith) (go a from m h at same below s le less instr has x j)))
         | inr more ↦ elim (cases_lt s n) [
-          | inl less ↦ inl (target_right (targets_from (layout_of a) at below) _ x (all_go (layout_of b) _ n _ x (omega arith) (go b m n k _ (omega arith) _ s more less instr has x j)))
+          | inl less ↦
+              inl
+              (target_right (targets_from (layout_of a) at below) _ x
+              (all_go (layout_of b) _ n _ x (omega arith) (go b m n k _ (omega arith) _ s more less instr has x j)))
           | inr last ↦ absurd (here s n instr _ has i (omega arith) x j)
         ]
       ])
@@ -133,11 +164,15 @@ module _ (code : Code) where
       let u = sized a from m h in
       let v = sized b (m + 1) n k in
       rw (laid e _ f.is) (elim (cases_lt s m) [
-        | inl less ↦ inl (target_left _ _ x (all_go (layout_of a) at m below x (omega arith) (go a from m h at same below s le less instr has x j)))
+        | inl less ↦
+            inl (target_left _ _ x (all_go (layout_of a) at m below x (omega arith) (go a from m h at same below s le less instr has x j)))
         | inr more ↦ elim (cases_lt s (m + 1)) [
           | inl less ↦ inr (sym (here s m instr (AndTest to) has i (omega arith) x j), refl)
           | inr right ↦ elim (cases_lt s n) [
-            | inl less ↦ inl (target_right (targets_from (layout_of a) at below) _ x (all_go (layout_of b) _ n _ x (omega arith) (go b (m + 1) n k _ (omega arith) _ s right less instr has x j)))
+            | inl less ↦
+                inl
+                (target_right (targets_from (layout_of a) at below) _ x
+                (all_go (layout_of b) _ n _ x (omega arith) (go b (m + 1) n k _ (omega arith) _ s right less instr has x j)))
             | inr last ↦ absurd (here s n instr _ has j' (omega arith) x j)
           ]
         ]
@@ -146,11 +181,15 @@ module _ (code : Code) where
       let u = sized a from m h in
       let v = sized b (m + 1) n k in
       rw (laid e _ f.is) (elim (cases_lt s m) [
-        | inl less ↦ inl (target_left _ _ x (all_go (layout_of a) at m below x (omega arith) (go a from m h at same below s le less instr has x j)))
+        | inl less ↦
+            inl (target_left _ _ x (all_go (layout_of a) at m below x (omega arith) (go a from m h at same below s le less instr has x j)))
         | inr more ↦ elim (cases_lt s (m + 1)) [
           | inl less ↦ inr (sym (here s m instr (OrTest to) has i (omega arith) x j), refl)
           | inr right ↦ elim (cases_lt s n) [
-            | inl less ↦ inl (target_right (targets_from (layout_of a) at below) _ x (all_go (layout_of b) _ n _ x (omega arith) (go b (m + 1) n k _ (omega arith) _ s right less instr has x j)))
+            | inl less ↦
+                inl
+                (target_right (targets_from (layout_of a) at below) _ x
+                (all_go (layout_of b) _ n _ x (omega arith) (go b (m + 1) n k _ (omega arith) _ s right less instr has x j)))
             | inr last ↦ absurd (here s n instr _ has j' (omega arith) x j)
           ]
         ]
@@ -163,14 +202,22 @@ module _ (code : Code) where
       let first = targets_from (layout_of c) at below in
       let second = targets_from (layout_of a) (at + (layout_of c).size + 1) below in
       rw (laid e _ f.is) (elim (cases_lt s m) [
-        | inl less ↦ inl (target_left (first ++ second) _ x (target_left first second x (all_go (layout_of c) at m below x (omega arith) (go c from m h at same below s le less instr has x j))))
+        | inl less ↦
+            inl
+            (target_left (first ++ second) _ x
+            (target_left first second x
+            (all_go (layout_of c) at m below x (omega arith) (go c from m h at same below s le less instr has x j))))
         | inr more ↦ elim (cases_lt s (m + 1)) [
           | inl less ↦ elim (here s m instr (Cond (n + 1) to) has i (omega arith) x j) [
             | inl on_false ↦ inl (target_right (first ++ second) _ x (inl (no_is ∙ on_false)))
             | inr on_error ↦ inr (sym on_error, refl)
           ]
           | inr later ↦ elim (cases_lt s n) [
-            | inl less ↦ inl (target_left (first ++ second) _ x (target_right first second x (all_go (layout_of a) _ n below x (omega arith) (go a (m + 1) n k _ (omega arith) below s later less instr has x j))))
+            | inl less ↦
+                inl
+                (target_left (first ++ second) _ x
+                (target_right first second x
+                (all_go (layout_of a) _ n below x (omega arith) (go a (m + 1) n k _ (omega arith) below s later less instr has x j))))
             | inr jump ↦ elim (cases_lt s (n + 1)) [
               | inl less ↦ inr (sym (here s n instr (Jump to) has j' (omega arith) x j), refl)
               | inr no_branch ↦ elim (go b (n + 1) to l no_at no_is below s no_branch lt instr has x j) [
@@ -191,13 +238,16 @@ module _ (code : Code) where
   come_end e from to (either a b m n f h i k j next) q = record { from = m; instr = OrTest to; stands = i.is; jumps = refl }
   come_end e from to (conditional c a b m n f h i k j l) q = record { from = n; instr = Jump to; stands = j.is; jumps = refl }
 
-  all_come : (l : Layout) (at to : ℕ) (below : List CelType) (x : ℕ) → at + l.size ≡ to → (IsTarget (l.within at below) x → IsJumpedTo code.instrs x) → (l.joins ≡ true → IsJumpedTo code.instrs to) → IsTarget (targets_from l at below) x → IsJumpedTo code.instrs x
+  all_come : (l : Layout) (at to : ℕ) (below : List CelType) (x : ℕ) → at + l.size ≡ to
+      → (IsTarget (l.within at below) x → IsJumpedTo code.instrs x) → (l.joins ≡ true → IsJumpedTo code.instrs to)
+      → IsTarget (targets_from l at below) x → IsJumpedTo code.instrs x
   all_come l at to below x e f g h = elim (target_cases (l.within at below) (target_at_end l at below) x h) [
     | inl p ↦ f p
     | inr p ↦ let q = end_is l.joins (at + l.size) x (below ++ l.type ∷ []) p in subst (IsJumpedTo code.instrs) (sym e ∙ q.1) (g q.0)
   ]
 
-  come : (e : TypedTree) (from to : ℕ) → Stands code e from to → (at : ℕ) → at ≡ from → (below : List CelType) → (x : ℕ) → IsTarget ((layout_of e).within at below) x → IsJumpedTo code.instrs x
+  come : (e : TypedTree) (from to : ℕ) → Stands code e from to → (at : ℕ) → at ≡ from → (below : List CelType) → (x : ℕ)
+      → IsTarget ((layout_of e).within at below) x → IsJumpedTo code.instrs x
   come e from to (literal v f h) at same below x t = absurd (rw (laid e _ f.is) at t)
   come e from to (unary op a m f h i next) at same below x t =
       let u = sized a from m h in
@@ -208,7 +258,9 @@ module _ (code : Code) where
       let under = below ++ (layout_of a).type ∷ [] in
       elim (target_cases (targets_from (layout_of a) at below) (targets_from (layout_of b) (at + (layout_of a).size) under) x (rw (laid e _ f.is) at t)) [
         | inl p ↦ all_come (layout_of a) at m below x (omega arith) (come a from m h at same below x) (come_end a from m h) p
-        | inr p ↦ all_come (layout_of b) _ n under x (omega arith) (come b m n k (at + (layout_of a).size) (omega arith) under x) (come_end b m n k) p
+        | inr p ↦
+            all_come (layout_of b) _ n under x (omega arith) (come b m n k (at + (layout_of a).size) (omega arith) under x)
+            (come_end b m n k) p
       ]
   come e from to (both a b m n f h i k j next) at same below x t =
       let u = sized a from m h in
@@ -216,7 +268,9 @@ module _ (code : Code) where
       let under = below ++ (layout_of a).type ∷ [] in
       elim (target_cases (targets_from (layout_of a) at below) (targets_from (layout_of b) (at + (layout_of a).size + 1) under) x (rw (laid e _ f.is) at t)) [
         | inl p ↦ all_come (layout_of a) at m below x (omega arith) (come a from m h at same below x) (come_end a from m h) p
-        | inr p ↦ all_come (layout_of b) _ n under x (omega arith) (come b (m + 1) n k (at + (layout_of a).size + 1) (omega arith) under x) (come_end b (m + 1) n k) p
+        | inr p ↦
+            all_come (layout_of b) _ n under x (omega arith) (come b (m + 1) n k (at + (layout_of a).size + 1) (omega arith) under x)
+            (come_end b (m + 1) n k) p
       ]
   come e from to (either a b m n f h i k j next) at same below x t =
       let u = sized a from m h in
@@ -224,7 +278,9 @@ module _ (code : Code) where
       let under = below ++ (layout_of a).type ∷ [] in
       elim (target_cases (targets_from (layout_of a) at below) (targets_from (layout_of b) (at + (layout_of a).size + 1) under) x (rw (laid e _ f.is) at t)) [
         | inl p ↦ all_come (layout_of a) at m below x (omega arith) (come a from m h at same below x) (come_end a from m h) p
-        | inr p ↦ all_come (layout_of b) _ n under x (omega arith) (come b (m + 1) n k (at + (layout_of a).size + 1) (omega arith) under x) (come_end b (m + 1) n k) p
+        | inr p ↦
+            all_come (layout_of b) _ n under x (omega arith) (come b (m + 1) n k (at + (layout_of a).size + 1) (omega arith) under x)
+            (come_end b (m + 1) n k) p
       ]
   come e from to (conditional c a b m n f h i k j l) at same below x t =
       let u = sized c from m h in
@@ -237,7 +293,9 @@ module _ (code : Code) where
       elim (target_cases (first ++ second) (target no_at below ∷ (layout_of b).within no_at below) x (rw (laid e _ f.is) at t)) [
         | inl p ↦ elim (target_cases first second x p) [
           | inl q ↦ all_come (layout_of c) at m below x (omega arith) (come c from m h at same below x) (come_end c from m h) q
-          | inr q ↦ all_come (layout_of a) yes_at n below x (omega arith) (come a (m + 1) n k yes_at (omega arith) below x) (come_end a (m + 1) n k) q
+          | inr q ↦
+              all_come (layout_of a) yes_at n below x (omega arith) (come a (m + 1) n k yes_at (omega arith) below x)
+              (come_end a (m + 1) n k) q
         ]
         | inr p ↦ elim p [
           | inl q ↦ record { from = m; instr = Cond (n + 1) to; stands = i.is; jumps = inl (sym no_is ∙ q) }
@@ -260,7 +318,9 @@ targets_are_jumps image tree types is =
     let within = within_list image.code j.from j.instr j.stands in
     let has : Has code j.from j.instr = record { is = j.stands } in
     elim (cases_lt j.from layout.size) [
-      | inl less ↦ all_go layout 0 layout.size [] x size (go code tree 0 layout.size is.stands 0 refl [] j.from (omega arith) less j.instr has x j.jumps)
+      | inl less ↦
+          all_go layout 0 layout.size [] x size
+          (go code tree 0 layout.size is.stands 0 refl [] j.from (omega arith) less j.instr has x j.jumps)
       | inr last ↦ absurd (here code j.from layout.size j.instr End has is.ends (omega (arith, is.whole)) x j.jumps)
     ] in
     record {

@@ -1,5 +1,6 @@
 -- Constants and the numbers under which their keys stand.
-use Rattle.std.proofs.Common.{◌≡◌, ◌≢◌, ℕ, zero, suc, ◌-◌, true, false, [], ◌∷◌, ◌++◌, length, Some, refl, sym, ap, ◌∙◌, subst, inl, inr, ⊎_elim, rules, arith}
+use Rattle.std.proofs.Common.{◌≡◌, ◌≢◌, ℕ, zero, suc, ◌-◌, true, false, [], ◌∷◌, ◌++◌, length}
+use Rattle.std.proofs.Common.{Some, refl, sym, ap, ◌∙◌, subst, inl, inr, ⊎_elim, rules, arith}
 use Rattle.std.specs.Prelude.{pos, negsuc, nat_eq, slice_get, Contains, if◌then◌else◌, ◌⊎◌, Result, Ok, Err, OnOk, OnErr}
 use Rattle.std.proofs.lemmas.Option.{same_Some}
 use Rattle.std.proofs.lemmas.Map.Lookups.{CmpEqualImpliesEq, exact_pairs, exact_unsigned}
@@ -53,7 +54,8 @@ apart p q ne = by (key_cmp p q) refl
     by Equal e = absurd (ne (exact p q e))
     by Greater e = refl
 
-pub noted : (old new : BTreeMap (ℕ × ℕ) ℕ) (v : Value) (q : ℕ × ℕ) (number : ℕ) → key_of v ≡ Some q → Updates key_cmp old new q (Some number) → Notes old new v number
+pub noted : (old new : BTreeMap (ℕ × ℕ) ℕ) (v : Value) (q : ℕ × ℕ) (number : ℕ) → key_of v ≡ Some q
+    → Updates key_cmp old new q (Some number) → Notes old new v number
 noted old new v q number has u =
     record {
       own = λ p e. let same : q ≡ p = same_Some q p (sym has ∙ e) in ap (get key_cmp new) (sym same) ∙ u.1;
@@ -61,7 +63,8 @@ noted old new v q number has u =
     }
 
 -- a number is noted for a value that is no constant yet
-pub still_numbered : (constants : Values) (old new : BTreeMap (ℕ × ℕ) ℕ) (v : Value) (number : ℕ) → IsNumbered constants old → ¬ Contains constants v → Notes old new v number → IsNumbered constants new
+pub still_numbered : (constants : Values) (old new : BTreeMap (ℕ × ℕ) ℕ) (v : Value) (number : ℕ) → IsNumbered constants old
+    → ¬ Contains constants v → Notes old new v number → IsNumbered constants new
 still_numbered constants old new v number is fresh notes =
     record {
       each = λ k w q here has.
@@ -72,14 +75,16 @@ still_numbered constants old new v number is fresh notes =
           );
     }
 
-last_or_before : (xs : Values) (y x : Value) (k : ℕ) → slice_get (xs ++ y ∷ []) k ≡ Some x → (slice_get xs k ≡ Some x) ⊎ (x ≡ y)
+last_or_before : (xs : Values) (y x : Value) (k : ℕ) → slice_get (xs ++ y ∷ []) k ≡ Some x
+    → (slice_get xs k ≡ Some x) ⊎ (x ≡ y)
 last_or_before [] y x zero h = inr (sym (same_Some _ _ h))
 last_or_before [] y x (suc k) h = cc
 last_or_before (z ∷ xs) y x zero h = inl h
 last_or_before (z ∷ xs) y x (suc k) h = last_or_before xs y x k h
 
 -- and then it is one
-pub numbered_next : (constants : Values) (old new : BTreeMap (ℕ × ℕ) ℕ) (v : Value) → IsNumbered constants old → ¬ Contains constants v → Notes old new v (length constants) → IsNumbered (constants ++ v ∷ []) new
+pub numbered_next : (constants : Values) (old new : BTreeMap (ℕ × ℕ) ℕ) (v : Value) → IsNumbered constants old
+    → ¬ Contains constants v → Notes old new v (length constants) → IsNumbered (constants ++ v ∷ []) new
 numbered_next constants old new v is fresh notes =
     let before = still_numbered constants old new v (length constants) is fresh notes in
     record {
@@ -91,8 +96,11 @@ numbered_next constants old new v is fresh notes =
     }
 
 -- whichever way the list of constants ends
-pub numbered_after : {A B : Type 0} (r : Result A B) (constants new : Values) (old numbers : BTreeMap (ℕ × ℕ) ℕ) (v w : Value) (number : ℕ) → w ≡ v → number ≡ length constants → IsNumbered constants old → ¬ Contains constants v → Notes old numbers v number → OnOk r (new ≡ constants ++ w ∷ []) → OnErr r (new ≡ constants) → IsNumbered new numbers
+pub numbered_after : {A B : Type 0} (r : Result A B) (constants new : Values) (old numbers : BTreeMap (ℕ × ℕ) ℕ) (v w : Value)
+    (number : ℕ) → w ≡ v → number ≡ length constants → IsNumbered constants old → ¬ Contains constants v
+    → Notes old numbers v number → OnOk r (new ≡ constants ++ w ∷ []) → OnErr r (new ≡ constants) → IsNumbered new numbers
 numbered_after (Ok a) constants new old numbers v w number same last is fresh notes ok err =
-    subst (λ cs. IsNumbered cs numbers) (sym (ok ∙ ap (λ x. constants ++ x ∷ []) same)) (numbered_next constants old numbers v is fresh (subst (Notes old numbers v) last notes))
+    subst (λ cs. IsNumbered cs numbers) (sym (ok ∙ ap (λ x. constants ++ x ∷ []) same))
+    (numbered_next constants old numbers v is fresh (subst (Notes old numbers v) last notes))
 numbered_after (Err b) constants new old numbers v w number same last is fresh notes ok err =
     subst (λ cs. IsNumbered cs numbers) (sym err) (still_numbered constants old numbers v number is fresh notes)

@@ -1,5 +1,6 @@
 -- Instructions stay where they were put.
-use Rattle.std.proofs.Common.{◌≡◌, ◌≢◌, ℕ, zero, suc, ◌+◌, ◌<◌, ◌≤◌, List, [], ◌∷◌, ◌++◌, length, Some, refl, sym, ap, ◌∙◌, subst, arith, length-append}
+use Rattle.std.proofs.Common.{◌≡◌, ◌≢◌, ℕ, zero, suc, ◌+◌, ◌<◌, ◌≤◌, List, [], ◌∷◌}
+use Rattle.std.proofs.Common.{◌++◌, length, Some, refl, sym, ap, ◌∙◌, subst, arith, length-append}
 use Rattle.std.specs.Prelude.{slice_get, slice_set, Contains}
 use Rattle.std.proofs.Math.ListN.{length-set}
 use Rattle.cel_value.specs.declared.value.Value.{Value}
@@ -9,7 +10,8 @@ use Rattle.cel_check.specs.declared.tree.Form.TheVariants as form
 use Rattle.cel_code.specs.declared.instr.Instr.{Instr}
 use Rattle.cel_code.specs.declared.instr.Instr.TheVariants.{Const, Op, AndTest, OrTest, And, Or, Cond, Jump, End}
 use Rattle.cel_check.specs.Operators.{code_of}
-use Rattle.cel_code.specs.Placed.{Code, with_instr, patched, Interns, Has, Pushes, Stands, literal, unary, binary, both, either, conditional, Same, Keeps, Emits}
+use Rattle.cel_code.specs.Placed.{Code, with_instr, patched, Interns, Has, Pushes, Stands, literal}
+use Rattle.cel_code.specs.Placed.{unary, binary, both, either, conditional, Same, Keeps, Emits}
 
 -- one element more
 pub get_before : {X : Type 0} (xs : List X) (y : X) (i : ℕ) → i < length xs → slice_get (xs ++ y ∷ []) i ≡ slice_get xs i
@@ -21,7 +23,8 @@ pub get_last : {X : Type 0} (xs : List X) (y : X) → slice_get (xs ++ y ∷ [])
 get_last [] y = refl
 get_last (x ∷ xs) y = get_last xs y
 
-pub get_kept : {X : Type 0} (xs : List X) (y : X) (i : ℕ) (x : X) → slice_get xs i ≡ Some x → slice_get (xs ++ y ∷ []) i ≡ Some x
+pub get_kept : {X : Type 0} (xs : List X) (y : X) (i : ℕ) (x : X) → slice_get xs i ≡ Some x
+    → slice_get (xs ++ y ∷ []) i ≡ Some x
 get_kept [] y i x h = cc
 get_kept (x' ∷ xs) y zero x h = h
 get_kept (x' ∷ xs) y (suc i) x h = get_kept xs y i x h
@@ -66,7 +69,8 @@ stands_lt code e from to (unary op a m f h i n) = omega (arith, stands_lt code a
 stands_lt code e from to (binary op a b m n f h k i l) = omega (arith, stands_lt code a from m h, stands_lt code b m n k, l)
 stands_lt code e from to (both a b m n f h i k j l) = omega (arith, stands_lt code a from m h, stands_lt code b (m + 1) n k, l)
 stands_lt code e from to (either a b m n f h i k j l) = omega (arith, stands_lt code a from m h, stands_lt code b (m + 1) n k, l)
-stands_lt code e from to (conditional c a b m n f h i k j l) = omega (arith, stands_lt code c from m h, stands_lt code a (m + 1) n k, stands_lt code b (n + 1) to l)
+stands_lt code e from to (conditional c a b m n f h i k j l) =
+    omega (arith, stands_lt code c from m h, stands_lt code a (m + 1) n k, stands_lt code b (n + 1) to l)
 
 module _ (old new : Code) where
   has_moved : (i : Instr) (at from to : ℕ) → Has old at i → Same old new from to → from ≤ at → at < to → Has new at i
@@ -81,24 +85,37 @@ module _ (old new : Code) where
   moved e from to (literal v f h) s = literal v f (push_moved v from to h s)
   moved e from to (unary op a m f h i l) s =
       let x = stands_lt old a from m h in
-      unary op a m f (moved a from m h (narrow old new from to _ _ s (omega arith) (omega (arith, l)))) (has_moved _ m from to i s (omega arith) (omega (arith, l))) l
+      unary op a m f (moved a from m h (narrow old new from to _ _ s (omega arith) (omega (arith, l))))
+      (has_moved _ m from to i s (omega arith) (omega (arith, l))) l
   moved e from to (binary op a b m n f h k i l) s =
       let x = stands_lt old a from m h in
       let y = stands_lt old b m n k in
-      binary op a b m n f (moved a from m h (narrow old new from to _ _ s (omega arith) (omega (arith, l)))) (moved b m n k (narrow old new from to _ _ s (omega arith) (omega (arith, l)))) (has_moved _ n from to i s (omega arith) (omega (arith, l))) l
+      binary op a b m n f (moved a from m h (narrow old new from to _ _ s (omega arith) (omega (arith, l))))
+      (moved b m n k (narrow old new from to _ _ s (omega arith) (omega (arith, l))))
+      (has_moved _ n from to i s (omega arith) (omega (arith, l))) l
   moved e from to (both a b m n f h i k j l) s =
       let x = stands_lt old a from m h in
       let y = stands_lt old b (m + 1) n k in
-      both a b m n f (moved a from m h (narrow old new from to _ _ s (omega arith) (omega (arith, l)))) (has_moved _ m from to i s (omega arith) (omega (arith, l))) (moved b (m + 1) n k (narrow old new from to _ _ s (omega arith) (omega (arith, l)))) (has_moved _ n from to j s (omega arith) (omega (arith, l))) l
+      both a b m n f (moved a from m h (narrow old new from to _ _ s (omega arith) (omega (arith, l))))
+      (has_moved _ m from to i s (omega arith) (omega (arith, l)))
+      (moved b (m + 1) n k (narrow old new from to _ _ s (omega arith) (omega (arith, l))))
+      (has_moved _ n from to j s (omega arith) (omega (arith, l))) l
   moved e from to (either a b m n f h i k j l) s =
       let x = stands_lt old a from m h in
       let y = stands_lt old b (m + 1) n k in
-      either a b m n f (moved a from m h (narrow old new from to _ _ s (omega arith) (omega (arith, l)))) (has_moved _ m from to i s (omega arith) (omega (arith, l))) (moved b (m + 1) n k (narrow old new from to _ _ s (omega arith) (omega (arith, l)))) (has_moved _ n from to j s (omega arith) (omega (arith, l))) l
+      either a b m n f (moved a from m h (narrow old new from to _ _ s (omega arith) (omega (arith, l))))
+      (has_moved _ m from to i s (omega arith) (omega (arith, l)))
+      (moved b (m + 1) n k (narrow old new from to _ _ s (omega arith) (omega (arith, l))))
+      (has_moved _ n from to j s (omega arith) (omega (arith, l))) l
   moved e from to (conditional c a b m n f h i k j l) s =
       let x = stands_lt old c from m h in
       let y = stands_lt old a (m + 1) n k in
       let z = stands_lt old b (n + 1) to l in
-      conditional c a b m n f (moved c from m h (narrow old new from to _ _ s (omega arith) (omega arith))) (has_moved _ m from to i s (omega arith) (omega arith)) (moved a (m + 1) n k (narrow old new from to _ _ s (omega arith) (omega arith))) (has_moved _ n from to j s (omega arith) (omega arith)) (moved b (n + 1) to l (narrow old new from to _ _ s (omega arith) (omega arith)))
+      conditional c a b m n f (moved c from m h (narrow old new from to _ _ s (omega arith) (omega arith)))
+      (has_moved _ m from to i s (omega arith) (omega arith))
+      (moved a (m + 1) n k (narrow old new from to _ _ s (omega arith) (omega arith)))
+      (has_moved _ n from to j s (omega arith) (omega arith))
+      (moved b (n + 1) to l (narrow old new from to _ _ s (omega arith) (omega arith)))
 
 length_put : (c : Code) (i : Instr) → length (with_instr c i).instrs ≡ length c.instrs + 1
 length_put c i = omega (arith, length-append c.instrs (i ∷ []))
@@ -117,35 +134,48 @@ keeps_patched a b m i le k =
 has_put : (c : Code) (i : Instr) → Has (with_instr c i) (length c.instrs) i
 has_put c i = record { is = get_last c.instrs i }
 
-pub interned : (old new : Code) (v w : Value) (number : ℕ) → w ≡ v → number ≡ length old.constants → new.constants ≡ old.constants ++ w ∷ [] → new.instrs ≡ old.instrs → Interns old new v number
+pub interned : (old new : Code) (v w : Value) (number : ℕ) → w ≡ v → number ≡ length old.constants
+    → new.constants ≡ old.constants ++ w ∷ [] → new.instrs ≡ old.instrs → Interns old new v number
 interned old new v w number same last added code =
     let added : new.constants ≡ old.constants ++ v ∷ [] = rw (sym same) added in
-    rw last (record { instrs = code; constant = rw added (get_last old.constants v); kept = λ k x h. rw added (get_kept old.constants v k x h) })
+    rw last
+    (record { instrs = code; constant = rw added (get_last old.constants v); kept = λ k x h. rw added (get_kept old.constants v k x h) })
 
 keeps_interned : (old new : Code) (v : Value) (k : ℕ) → Interns old new v k → Keeps old new
 keeps_interned old new v k n =
     record { grows = omega (arith, ap length n.instrs); same = record { instr = λ i p q. ap (λ is. slice_get is i) n.instrs; constant = n.kept } }
 
-pub emits_literal : (old c1 new : Code) (e : TypedTree) (v : Value) (k : ℕ) → (out-TypedTree e).form ≡ form.Literal v → Interns old c1 v k → new ≡ with_instr c1 (Const k) → Emits old new e
+pub emits_literal : (old c1 new : Code) (e : TypedTree) (v : Value) (k : ℕ) → (out-TypedTree e).form ≡ form.Literal v
+    → Interns old c1 v k → new ≡ with_instr c1 (Const k) → Emits old new e
 emits_literal old c1 new e v k is n put =
-    let grown : length (with_instr c1 (Const k)).instrs ≡ length old.instrs + 1 = length_put c1 (Const k) ∙ ap (λ is. length is + 1) n.instrs in
-    let here : Has (with_instr c1 (Const k)) (length old.instrs) (Const k) = subst (λ is. Has (with_instr c1 (Const k)) (length is) (Const k)) n.instrs (has_put c1 (Const k)) in
-    rw put (record { stands = literal v (record { is = is }) (record { number = k; instr = here; constant = n.constant; next = grown }); keeps = keeps_on old c1 _ (keeps_interned old c1 v k n) (keeps_put c1 (Const k)) })
+    let grown : length (with_instr c1 (Const k)).instrs ≡ length old.instrs + 1 =
+    length_put c1 (Const k) ∙ ap (λ is. length is + 1) n.instrs in
+    let here : Has (with_instr c1 (Const k)) (length old.instrs) (Const k) =
+    subst (λ is. Has (with_instr c1 (Const k)) (length is) (Const k)) n.instrs (has_put c1 (Const k)) in
+    rw put
+    (record { stands = literal v (record { is = is }) (record { number = k; instr = here; constant = n.constant; next = grown }); keeps = keeps_on old c1 _ (keeps_interned old c1 v k n) (keeps_put c1 (Const k)) })
 
-pub emits_unary : (old c1 new : Code) (e : TypedTree) (op : Operator) (a a' : TypedTree) (k : ℕ) → (out-TypedTree e).form ≡ form.Unary op a → a' ≡ a → Emits old c1 a' → k ≡ code_of op → new ≡ with_instr c1 (Op k) → Emits old new e
+pub emits_unary : (old c1 new : Code) (e : TypedTree) (op : Operator) (a a' : TypedTree) (k : ℕ)
+    → (out-TypedTree e).form ≡ form.Unary op a → a' ≡ a → Emits old c1 a' → k ≡ code_of op → new ≡ with_instr c1 (Op k)
+    → Emits old new e
 emits_unary old c1 new e op a a' k is same ea ek put =
     let i = Op (code_of op) in
     let ea : Emits old c1 a = rw (sym same) ea in
-    rw (put, ek) (record { stands = unary op a (length c1.instrs) (record { is = is }) (moved c1 (with_instr c1 i) a _ _ ea.stands (narrow c1 _ 0 _ _ _ (same_put c1 i) (omega arith) (omega arith))) (has_put c1 i) (length_put c1 i); keeps = keeps_on old c1 _ ea.keeps (keeps_put c1 i) })
+    rw (put, ek)
+    (record { stands = unary op a (length c1.instrs) (record { is = is }) (moved c1 (with_instr c1 i) a _ _ ea.stands (narrow c1 _ 0 _ _ _ (same_put c1 i) (omega arith) (omega arith))) (has_put c1 i) (length_put c1 i); keeps = keeps_on old c1 _ ea.keeps (keeps_put c1 i) })
 
-pub emits_binary : (old c1 c2 new : Code) (e : TypedTree) (op : Operator) (a b a' b' : TypedTree) (k : ℕ) → (out-TypedTree e).form ≡ form.Binary op a b → a' ≡ a → b' ≡ b → Emits old c1 a' → Emits c1 c2 b' → k ≡ code_of op → new ≡ with_instr c2 (Op k) → Emits old new e
+pub emits_binary : (old c1 c2 new : Code) (e : TypedTree) (op : Operator) (a b a' b' : TypedTree) (k : ℕ)
+    → (out-TypedTree e).form ≡ form.Binary op a b → a' ≡ a → b' ≡ b → Emits old c1 a' → Emits c1 c2 b' → k ≡ code_of op
+    → new ≡ with_instr c2 (Op k) → Emits old new e
 emits_binary old c1 c2 new e op a b a' b' k is sa sb ea eb ek put =
     let i = Op (code_of op) in
     let ea : Emits old c1 a = rw (sym sa) ea in
     let eb : Emits c1 c2 b = rw (sym sb) eb in
     let p = same_put c2 i in
-    let s1 : Same c1 (with_instr c2 i) 0 (length c1.instrs) = same_on c1 c2 _ 0 _ eb.keeps.same (narrow c2 _ 0 _ 0 _ p (omega arith) eb.keeps.grows) in
-    rw (put, ek) (record { stands = binary op a b (length c1.instrs) (length c2.instrs) (record { is = is }) (moved c1 (with_instr c2 i) a _ _ ea.stands (narrow c1 _ 0 _ _ _ s1 (omega arith) (omega arith))) (moved c2 (with_instr c2 i) b _ _ eb.stands (narrow c2 _ 0 _ _ _ p (omega arith) (omega arith))) (has_put c2 i) (length_put c2 i); keeps = keeps_on old c1 _ ea.keeps (keeps_on c1 c2 _ eb.keeps (keeps_put c2 i)) })
+    let s1 : Same c1 (with_instr c2 i) 0 (length c1.instrs) =
+    same_on c1 c2 _ 0 _ eb.keeps.same (narrow c2 _ 0 _ 0 _ p (omega arith) eb.keeps.grows) in
+    rw (put, ek)
+    (record { stands = binary op a b (length c1.instrs) (length c2.instrs) (record { is = is }) (moved c1 (with_instr c2 i) a _ _ ea.stands (narrow c1 _ 0 _ _ _ s1 (omega arith) (omega arith))) (moved c2 (with_instr c2 i) b _ _ eb.stands (narrow c2 _ 0 _ _ _ p (omega arith) (omega arith))) (has_put c2 i) (length_put c2 i); keeps = keeps_on old c1 _ ea.keeps (keeps_on c1 c2 _ eb.keeps (keeps_put c2 i)) })
 
 -- where both sides of `&&` or `||` stand, with the jump patched
 record TwoSides (new : Code) (a b : TypedTree) (j : ℕ → Instr) (last : Instr) (from : ℕ) : Type 0 where
@@ -157,7 +187,9 @@ record TwoSides (new : Code) (a b : TypedTree) (j : ℕ → Instr) (last : Instr
   join : Has new n last
   next : length new.instrs ≡ n + 1
 
-two_sides : (old c1 c3 : Code) (a b : TypedTree) (j : ℕ → Instr) (last : Instr) → Emits old c1 a → Emits (with_instr c1 (j 0)) c3 b → let new = patched (with_instr c3 last) (length c1.instrs) (j (length (with_instr c3 last).instrs)) in TwoSides new a b j last (length old.instrs) × Keeps old new
+two_sides : (old c1 c3 : Code) (a b : TypedTree) (j : ℕ → Instr) (last : Instr) → Emits old c1 a → Emits (with_instr c1 (j 0)) c3 b
+    → let new = patched (with_instr c3 last) (length c1.instrs) (j (length (with_instr c3 last).instrs)) in TwoSides new a b j last
+    (length old.instrs) × Keeps old new
 two_sides old c1 c3 a b j last ea eb =
     let c2 = with_instr c1 (j 0) in
     let c4 = with_instr c3 last in
@@ -173,14 +205,18 @@ two_sides old c1 c3 a b j last ea eb =
     let s24 : Same c2 c4 0 (length c2.instrs) = same_on c2 c3 c4 0 _ eb.keeps.same (narrow c3 c4 0 n 0 _ put (omega arith) g) in
     let s14 : Same c1 c4 0 m = same_on c1 c2 c4 0 m (same_put c1 (j 0)) (narrow c2 c4 0 _ 0 m s24 (omega arith) (omega (arith, l2))) in
     let s1 : Same c1 new 0 m = same_on c1 c4 new 0 m s14 (same_before c4 m (j to)) in
-    let s3 : Same c3 new (m + 1) n = same_on c3 c4 new (m + 1) n (narrow c3 c4 0 n (m + 1) n put (omega arith) (omega arith)) (same_after c4 m n (j to)) in
+    let s3 : Same c3 new (m + 1) n =
+    same_on c3 c4 new (m + 1) n (narrow c3 c4 0 n (m + 1) n put (omega arith) (omega arith)) (same_after c4 m n (j to)) in
     let sb : Stands c3 b (m + 1) n = rw (sym l2) eb.stands in
     let within : m < length c4.instrs = omega (arith, l2, l4, g) in
     let here : Has new m (j (length new.instrs)) = rw l5 (record { is = get_set c4.instrs m (j to) within }) in
-    let there : Has new n last = has_moved c4 new last n (m + 1) (n + 1) (has_put c3 last) (same_after c4 m (n + 1) (j to)) (omega (arith, l2, g)) (omega arith) in
+    let there : Has new n last =
+    has_moved c4 new last n (m + 1) (n + 1) (has_put c3 last) (same_after c4 m (n + 1) (j to)) (omega (arith, l2, g)) (omega arith) in
     (record { m = m; n = n; left = moved c1 new a _ _ ea.stands (narrow c1 new 0 m _ _ s1 (omega arith) (omega arith)); test = here; right = moved c3 new b (m + 1) n sb s3; join = there; next = l5 ∙ l4 }, keeps_patched old c4 m (j to) ea.keeps.grows (keeps_on old c1 c4 ea.keeps (keeps_on c1 c2 c4 (keeps_put c1 (j 0)) (keeps_on c2 c3 c4 eb.keeps (keeps_put c3 last)))))
 
-pub emits_both : (old c1 c2 c3 c4 new : Code) (e a b a' b' : TypedTree) (m to : ℕ) → (out-TypedTree e).form ≡ form.And a b → a' ≡ a → b' ≡ b → Emits old c1 a' → m ≡ length c1.instrs → c2 ≡ with_instr c1 (AndTest 0) → Emits c2 c3 b' → c4 ≡ with_instr c3 And → to ≡ length c4.instrs → new ≡ patched c4 m (AndTest to) → Emits old new e
+pub emits_both : (old c1 c2 c3 c4 new : Code) (e a b a' b' : TypedTree) (m to : ℕ) → (out-TypedTree e).form ≡ form.And a b
+    → a' ≡ a → b' ≡ b → Emits old c1 a' → m ≡ length c1.instrs → c2 ≡ with_instr c1 (AndTest 0) → Emits c2 c3 b'
+    → c4 ≡ with_instr c3 And → to ≡ length c4.instrs → new ≡ patched c4 m (AndTest to) → Emits old new e
 emits_both old c1 c2 c3 c4 new e a b a' b' m to is sa sb ea em e2 eb e4 et e5 =
     let ea : Emits old c1 a = rw (sym sa) ea in
     let eb : Emits (with_instr c1 (AndTest 0)) c3 b = rw (sym sb, sym e2) eb in
@@ -188,7 +224,9 @@ emits_both old c1 c2 c3 c4 new e a b a' b' m to is sa sb ea em e2 eb e4 et e5 =
     let s = r.0 in
     rw (e5, em, et, e4) (record { stands = both a b s.m s.n (record { is = is }) s.left s.test s.right s.join s.next; keeps = r.1 })
 
-pub emits_either : (old c1 c2 c3 c4 new : Code) (e a b a' b' : TypedTree) (m to : ℕ) → (out-TypedTree e).form ≡ form.Or a b → a' ≡ a → b' ≡ b → Emits old c1 a' → m ≡ length c1.instrs → c2 ≡ with_instr c1 (OrTest 0) → Emits c2 c3 b' → c4 ≡ with_instr c3 Or → to ≡ length c4.instrs → new ≡ patched c4 m (OrTest to) → Emits old new e
+pub emits_either : (old c1 c2 c3 c4 new : Code) (e a b a' b' : TypedTree) (m to : ℕ) → (out-TypedTree e).form ≡ form.Or a b
+    → a' ≡ a → b' ≡ b → Emits old c1 a' → m ≡ length c1.instrs → c2 ≡ with_instr c1 (OrTest 0) → Emits c2 c3 b'
+    → c4 ≡ with_instr c3 Or → to ≡ length c4.instrs → new ≡ patched c4 m (OrTest to) → Emits old new e
 emits_either old c1 c2 c3 c4 new e a b a' b' m to is sa sb ea em e2 eb e4 et e5 =
     let ea : Emits old c1 a = rw (sym sa) ea in
     let eb : Emits (with_instr c1 (OrTest 0)) c3 b = rw (sym sb, sym e2) eb in
@@ -206,7 +244,10 @@ record ThreeParts (new : Code) (c a b : TypedTree) (from : ℕ) : Type 0 where
   jump : Has new n (Jump (length new.instrs))
   no_branch : Stands new b (n + 1) (length new.instrs)
 
-three_parts : (old c1 c3 c5 : Code) (c a b : TypedTree) → Emits old c1 c → Emits (with_instr c1 (Cond 0 0)) c3 a → Emits (with_instr c3 (Jump 0)) c5 b → let new = patched (patched c5 (length c1.instrs) (Cond (length c3.instrs + 1) (length c5.instrs))) (length c3.instrs) (Jump (length c5.instrs)) in ThreeParts new c a b (length old.instrs) × Keeps old new
+three_parts : (old c1 c3 c5 : Code) (c a b : TypedTree) → Emits old c1 c → Emits (with_instr c1 (Cond 0 0)) c3 a
+    → Emits (with_instr c3 (Jump 0)) c5 b
+    → let new = patched (patched c5 (length c1.instrs) (Cond (length c3.instrs + 1) (length c5.instrs))) (length c3.instrs)
+    (Jump (length c5.instrs)) in ThreeParts new c a b (length old.instrs) × Keeps old new
 three_parts old c1 c3 c5 c a b ec ea eb =
     let m = length c1.instrs in
     let n = length c3.instrs in
@@ -223,29 +264,47 @@ three_parts old c1 c3 c5 c a b ec ea eb =
     let l7 : length new.instrs ≡ to = length-set c6.instrs n j ∙ l6 in
     let ga = ea.keeps.grows in
     let gb = eb.keeps.grows in
-    let s35 : Same c3 c5 0 n = same_on c3 c4 c5 0 n (same_put c3 (Jump 0)) (narrow c4 c5 0 _ 0 n eb.keeps.same (omega arith) (omega (arith, l4))) in
-    let s15 : Same c1 c5 0 m = same_on c1 c2 c5 0 m (same_put c1 (Cond 0 0)) (narrow c2 c5 0 _ 0 m (same_on c2 c3 c5 0 _ ea.keeps.same (narrow c3 c5 0 n 0 _ s35 (omega arith) ga)) (omega arith) (omega (arith, l2))) in
-    let s1 : Same c1 new 0 m = same_on c1 c6 new 0 m (same_on c1 c5 c6 0 m s15 (same_before c5 m i)) (narrow c6 new 0 n 0 m (same_before c6 n j) (omega arith) (omega (arith, l2, ga))) in
-    let s3 : Same c3 new (m + 1) n = same_on c3 c6 new (m + 1) n (same_on c3 c5 c6 (m + 1) n (narrow c3 c5 0 n (m + 1) n s35 (omega arith) (omega arith)) (same_after c5 m n i)) (narrow c6 new 0 n (m + 1) n (same_before c6 n j) (omega arith) (omega arith)) in
-    let s5 : Same c5 new (n + 1) to = same_on c5 c6 new (n + 1) to (narrow c5 c6 (m + 1) to (n + 1) to (same_after c5 m to i) (omega (arith, l2, ga)) (omega arith)) (same_after c6 n to j) in
+    let s35 : Same c3 c5 0 n =
+    same_on c3 c4 c5 0 n (same_put c3 (Jump 0)) (narrow c4 c5 0 _ 0 n eb.keeps.same (omega arith) (omega (arith, l4))) in
+    let s15 : Same c1 c5 0 m =
+    same_on c1 c2 c5 0 m (same_put c1 (Cond 0 0))
+    (narrow c2 c5 0 _ 0 m (same_on c2 c3 c5 0 _ ea.keeps.same (narrow c3 c5 0 n 0 _ s35 (omega arith) ga)) (omega arith)
+    (omega (arith, l2))) in
+    let s1 : Same c1 new 0 m =
+    same_on c1 c6 new 0 m (same_on c1 c5 c6 0 m s15 (same_before c5 m i))
+    (narrow c6 new 0 n 0 m (same_before c6 n j) (omega arith) (omega (arith, l2, ga))) in
+    let s3 : Same c3 new (m + 1) n =
+    same_on c3 c6 new (m + 1) n
+    (same_on c3 c5 c6 (m + 1) n (narrow c3 c5 0 n (m + 1) n s35 (omega arith) (omega arith)) (same_after c5 m n i))
+    (narrow c6 new 0 n (m + 1) n (same_before c6 n j) (omega arith) (omega arith)) in
+    let s5 : Same c5 new (n + 1) to =
+    same_on c5 c6 new (n + 1) to (narrow c5 c6 (m + 1) to (n + 1) to (same_after c5 m to i) (omega (arith, l2, ga)) (omega arith))
+    (same_after c6 n to j) in
     let sa : Stands c3 a (m + 1) n = rw (sym l2) ea.stands in
     let sb : Stands c5 b (n + 1) to = rw (sym l4) eb.stands in
     let at_m : m < length c5.instrs = omega (arith, l2, l4, ga, gb) in
     let at_n : n < length c6.instrs = omega (arith, l4, l6, gb) in
     let h6 : Has c6 m i = record { is = get_set c5.instrs m i at_m } in
-    let hm : Has new m (Cond (n + 1) (length new.instrs)) = rw l7 (has_moved c6 new i m 0 n h6 (same_before c6 n j) (omega arith) (omega (arith, l2, ga))) in
+    let hm : Has new m (Cond (n + 1) (length new.instrs)) =
+    rw l7 (has_moved c6 new i m 0 n h6 (same_before c6 n j) (omega arith) (omega (arith, l2, ga))) in
     let hn : Has new n (Jump (length new.instrs)) = rw l7 (record { is = get_set c6.instrs n j at_n }) in
     let sb' : Stands new b (n + 1) (length new.instrs) = rw l7 (moved c5 new b (n + 1) to sb s5) in
-    let k5 = keeps_on old c1 c5 ec.keeps (keeps_on c1 c2 c5 (keeps_put c1 (Cond 0 0)) (keeps_on c2 c3 c5 ea.keeps (keeps_on c3 c4 c5 (keeps_put c3 (Jump 0)) eb.keeps))) in
+    let k5 =
+    keeps_on old c1 c5 ec.keeps
+    (keeps_on c1 c2 c5 (keeps_put c1 (Cond 0 0)) (keeps_on c2 c3 c5 ea.keeps (keeps_on c3 c4 c5 (keeps_put c3 (Jump 0)) eb.keeps))) in
     (record { m = m; n = n; condition = moved c1 new c _ _ ec.stands (narrow c1 new 0 m _ _ s1 (omega arith) (omega arith)); test = hm; yes = moved c3 new a (m + 1) n sa s3; jump = hn; no_branch = sb' }, keeps_patched old c6 n j (omega (arith, ec.keeps.grows, l2, ga)) (keeps_patched old c5 m i ec.keeps.grows k5))
 
-pub emits_conditional : (old c1 c2 c3 c4 c4' c5 c6 new : Code) (e c a b : TypedTree) (m n to : ℕ) → (out-TypedTree e).form ≡ form.Conditional c a b → Emits old c1 c → m ≡ length c1.instrs → c2 ≡ with_instr c1 (Cond 0 0) → Emits c2 c3 a → n ≡ length c3.instrs → c4 ≡ with_instr c3 (Jump 0) → c4' ≡ c4 → Emits c4' c5 b → to ≡ length c5.instrs → c6 ≡ patched c5 m (Cond (n + 1) to) → new ≡ patched c6 n (Jump to) → Emits old new e
+pub emits_conditional : (old c1 c2 c3 c4 c4' c5 c6 new : Code) (e c a b : TypedTree) (m n to : ℕ)
+    → (out-TypedTree e).form ≡ form.Conditional c a b → Emits old c1 c → m ≡ length c1.instrs → c2 ≡ with_instr c1 (Cond 0 0)
+    → Emits c2 c3 a → n ≡ length c3.instrs → c4 ≡ with_instr c3 (Jump 0) → c4' ≡ c4 → Emits c4' c5 b
+    → to ≡ length c5.instrs → c6 ≡ patched c5 m (Cond (n + 1) to) → new ≡ patched c6 n (Jump to) → Emits old new e
 emits_conditional old c1 c2 c3 c4 c4' c5 c6 new e c a b m n to is ec em e2 ea en e4 e4' eb et e6 e7 =
     let ea : Emits (with_instr c1 (Cond 0 0)) c3 a = rw (sym e2) ea in
     let eb : Emits (with_instr c3 (Jump 0)) c5 b = rw (sym e4, sym e4') eb in
     let r = three_parts old c1 c3 c5 c a b ec ea eb in
     let s = r.0 in
-    rw (e7, e6, em, en, et) (record { stands = conditional c a b s.m s.n (record { is = is }) s.condition s.test s.yes s.jump s.no_branch; keeps = r.1 })
+    rw (e7, e6, em, en, et)
+    (record { stands = conditional c a b s.m s.n (record { is = is }) s.condition s.test s.yes s.jump s.no_branch; keeps = r.1 })
 
 -- an expression's instructions stand behind nothing, and END behind them
 pub record Whole (all : Code) (e : TypedTree) (count : ℕ) : Type 0 where
@@ -253,7 +312,9 @@ pub record Whole (all : Code) (e : TypedTree) (count : ℕ) : Type 0 where
   pub ends : Has all count End
   pub whole : length all.instrs ≡ count + 1
 
-pub placed : (empty new all : Code) (e : TypedTree) (count : ℕ) → empty.instrs ≡ [] → Emits empty new e → all ≡ with_instr new End → length new.instrs ≡ count → Whole all e count
+pub placed : (empty new all : Code) (e : TypedTree) (count : ℕ) → empty.instrs ≡ [] → Emits empty new e
+    → all ≡ with_instr new End → length new.instrs ≡ count → Whole all e count
 placed empty new all e count e0 em e1 size =
     let s : Stands new e 0 (length new.instrs) = subst (λ is. Stands new e (length is) (length new.instrs)) e0 em.stands in
-    rw (e1, sym size) (record { stands = moved new (with_instr new End) e 0 (length new.instrs) s (same_put new End); ends = has_put new End; whole = length_put new End })
+    rw (e1, sym size)
+    (record { stands = moved new (with_instr new End) e 0 (length new.instrs) s (same_put new End); ends = has_put new End; whole = length_put new End })

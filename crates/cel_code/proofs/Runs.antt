@@ -1,5 +1,5 @@
 -- The machine does what the expression says.
-use Rattle.std.proofs.Common.{◌≡◌, ℕ, ◌+◌, true, false, List, [], ◌∷◌, Option, Some, None, refl, sym, ap, ◌∙◌, subst, arith}
+use Rattle.std.proofs.Common.{◌≡◌, ℕ, ◌+◌, Bool, true, false, List, [], ◌∷◌, Option, Some, None, refl, sym, ap, ◌∙◌, subst, arith}
 use Rattle.std.specs.Prelude.{Result, Ok, Err}
 use Rattle.cel_value.specs.declared.value.Value.{Value}
 use Rattle.cel_check.specs.declared.operator.Operator.{Operator}
@@ -95,33 +95,34 @@ module _ (image : Image) (slots : List Outcome) where
     right_runs f x sx (Some y) from m n stack c d la lb st =
         join_runs f sx (side_of (Some y)) from n stack (y ∷ x ∷ stack) (c + d) (leads_on _ _ _ c d la (lb (x ∷ stack))) (st y)
 
-    -- the side that an outcome is, and the state with it
-    leads_as : (x : Outcome) (s : Side) (from m : ℕ) (stack : List Outcome) (c : ℕ) → side_of (Some x) ≡ Some s → Leads (on from stack frames) (on m (x ∷ stack) frames) c → Leads (on from stack frames) (on m (outcome_of s ∷ stack) frames) c
-    leads_as x s from m stack c e l = subst (λ y. Leads (on from stack frames) (on m (y ∷ stack) frames) c) (side_is x s e) l
+    -- the truth value that an outcome is, and the state with it
+    leads_as : (x : Outcome) (b : Bool) (from m : ℕ) (stack : List Outcome) (c : ℕ) → side_of (Some x) ≡ Some (Ok b) → Leads (on from stack frames) (on m (x ∷ stack) frames) c → Leads (on from stack frames) (on m (outcome_of (Ok b) ∷ stack) frames) c
+    leads_as x b from m stack c e l = subst (λ y. Leads (on from stack frames) (on m (y ∷ stack) frames) c) (side_is x b e) l
 
-    tests : (s : Side) (m n : ℕ) (stack : List Outcome) → Has code m (AndTest n) → step image slots (on m (outcome_of s ∷ stack) frames) ≡ and_test (Some s) n m (outcome_of s ∷ stack) frames
-    tests s m n stack h = at_instr m _ _ h ∙ ap (λ o. and_test o n m (outcome_of s ∷ stack) frames) (side_of_outcome s)
+    -- the instructions that look at a side
+    tests : (x : Outcome) (s : Side) (m n : ℕ) (stack : List Outcome) → side_of (Some x) ≡ Some s → Has code m (AndTest n) → step image slots (on m (x ∷ stack) frames) ≡ and_test (Some s) n m (x ∷ stack) frames
+    tests x s m n stack e h = at_instr m _ _ h ∙ ap (λ o. and_test o n m (x ∷ stack) frames) e
 
-    tests_or : (s : Side) (m n : ℕ) (stack : List Outcome) → Has code m (OrTest n) → step image slots (on m (outcome_of s ∷ stack) frames) ≡ or_test (Some s) n m (outcome_of s ∷ stack) frames
-    tests_or s m n stack h = at_instr m _ _ h ∙ ap (λ o. or_test o n m (outcome_of s ∷ stack) frames) (side_of_outcome s)
+    tests_or : (x : Outcome) (s : Side) (m n : ℕ) (stack : List Outcome) → side_of (Some x) ≡ Some s → Has code m (OrTest n) → step image slots (on m (x ∷ stack) frames) ≡ or_test (Some s) n m (x ∷ stack) frames
+    tests_or x s m n stack e h = at_instr m _ _ h ∙ ap (λ o. or_test o n m (x ∷ stack) frames) e
 
-    branches : (s : Side) (m n to : ℕ) (stack : List Outcome) → Has code m (Cond n to) → step image slots (on m (outcome_of s ∷ stack) frames) ≡ branch (Some s) n to m stack frames
-    branches s m n to stack h = at_instr m _ _ h ∙ ap (λ o. branch o n to m stack frames) (side_of_outcome s)
+    branches : (x : Outcome) (s : Side) (m n to : ℕ) (stack : List Outcome) → side_of (Some x) ≡ Some s → Has code m (Cond n to) → step image slots (on m (x ∷ stack) frames) ≡ branch (Some s) n to m stack frames
+    branches x s m n to stack e h = at_instr m _ _ h ∙ ap (λ o. branch o n to m stack frames) e
 
-    joins_and : (s : Side) (n : ℕ) (stack : List Outcome) → Has code n And → (y : Outcome) → step image slots (on n (y ∷ outcome_of s ∷ stack) frames) ≡ joined (join and_of (Some s) (side_of (Some y))) n stack frames
-    joins_and s n stack h y = at_instr n _ _ h ∙ ap (λ o. joined (join and_of o (side_of (Some y))) n stack frames) (side_of_outcome s)
+    joins_and : (x : Outcome) (s : Side) (n : ℕ) (stack : List Outcome) → side_of (Some x) ≡ Some s → Has code n And → (y : Outcome) → step image slots (on n (y ∷ x ∷ stack) frames) ≡ joined (join and_of (Some s) (side_of (Some y))) n stack frames
+    joins_and x s n stack e h y = at_instr n _ _ h ∙ ap (λ o. joined (join and_of o (side_of (Some y))) n stack frames) e
 
-    joins_or : (s : Side) (n : ℕ) (stack : List Outcome) → Has code n Or → (y : Outcome) → step image slots (on n (y ∷ outcome_of s ∷ stack) frames) ≡ joined (join or_of (Some s) (side_of (Some y))) n stack frames
-    joins_or s n stack h y = at_instr n _ _ h ∙ ap (λ o. joined (join or_of o (side_of (Some y))) n stack frames) (side_of_outcome s)
+    joins_or : (x : Outcome) (s : Side) (n : ℕ) (stack : List Outcome) → side_of (Some x) ≡ Some s → Has code n Or → (y : Outcome) → step image slots (on n (y ∷ x ∷ stack) frames) ≡ joined (join or_of (Some s) (side_of (Some y))) n stack frames
+    joins_or x s n stack e h y = at_instr n _ _ h ∙ ap (λ o. joined (join or_of o (side_of (Some y))) n stack frames) e
 
     and_by : (x : Outcome) (o : Option Side) (ob : Option Outcome) (from m n : ℕ) (stack : List Outcome) (c d : ℕ) → side_of (Some x) ≡ o → Has code m (AndTest (n + 1)) → Has code n And → Leads (on from stack frames) (on m (x ∷ stack) frames) c → ((s : List Outcome) → Gives (m + 1) s n ob d) → Gives from stack (n + 1) (and_value o (side_of ob)) (c + 1 + unless_false o d)
     and_by x None ob from m n stack c d e hm hn la lb = tt
     and_by x (Some (Ok false)) ob from m n stack c d e hm hn la lb =
-        costs _ _ (c + 1) _ (omega arith) (leads_on _ _ _ c 1 (leads_as x (Ok false) from m stack c e la) (one_step _ _ 1 (tests (Ok false) m (n + 1) stack hm)))
+        costs _ _ (c + 1) _ (omega arith) (leads_on _ _ _ c 1 (leads_as x false from m stack c e la) (one_step _ _ 1 (tests (outcome_of (Ok false)) (Ok false) m (n + 1) stack (side_of_outcome (Ok false)) hm)))
     and_by x (Some (Ok true)) ob from m n stack c d e hm hn la lb =
-        right_runs and_of (outcome_of (Ok true)) (Ok true) ob from (m + 1) n stack (c + 1) d (leads_on _ _ _ c 1 (leads_as x (Ok true) from m stack c e la) (one_step _ _ 1 (tests (Ok true) m (n + 1) stack hm))) lb (joins_and (Ok true) n stack hn)
+        right_runs and_of x (Ok true) ob from (m + 1) n stack (c + 1) d (leads_on _ _ _ c 1 la (one_step _ _ 1 (tests x (Ok true) m (n + 1) stack e hm))) lb (joins_and x (Ok true) n stack e hn)
     and_by x (Some (Err f)) ob from m n stack c d e hm hn la lb =
-        right_runs and_of (outcome_of (Err f)) (Err f) ob from (m + 1) n stack (c + 1) d (leads_on _ _ _ c 1 (leads_as x (Err f) from m stack c e la) (one_step _ _ 1 (tests (Err f) m (n + 1) stack hm))) lb (joins_and (Err f) n stack hn)
+        right_runs and_of x (Err f) ob from (m + 1) n stack (c + 1) d (leads_on _ _ _ c 1 la (one_step _ _ 1 (tests x (Err f) m (n + 1) stack e hm))) lb (joins_and x (Err f) n stack e hn)
 
     and_runs : (oa ob : Option Outcome) (from m n : ℕ) (stack : List Outcome) (c d : ℕ) → Has code m (AndTest (n + 1)) → Has code n And → Gives from stack m oa c → ((s : List Outcome) → Gives (m + 1) s n ob d) → Gives from stack (n + 1) (and_value (side_of oa) (side_of ob)) (c + 1 + unless_false (side_of oa) d)
     and_runs None ob from m n stack c d hm hn la lb = tt
@@ -130,11 +131,11 @@ module _ (image : Image) (slots : List Outcome) where
     or_by : (x : Outcome) (o : Option Side) (ob : Option Outcome) (from m n : ℕ) (stack : List Outcome) (c d : ℕ) → side_of (Some x) ≡ o → Has code m (OrTest (n + 1)) → Has code n Or → Leads (on from stack frames) (on m (x ∷ stack) frames) c → ((s : List Outcome) → Gives (m + 1) s n ob d) → Gives from stack (n + 1) (or_value o (side_of ob)) (c + 1 + unless_true o d)
     or_by x None ob from m n stack c d e hm hn la lb = tt
     or_by x (Some (Ok true)) ob from m n stack c d e hm hn la lb =
-        costs _ _ (c + 1) _ (omega arith) (leads_on _ _ _ c 1 (leads_as x (Ok true) from m stack c e la) (one_step _ _ 1 (tests_or (Ok true) m (n + 1) stack hm)))
+        costs _ _ (c + 1) _ (omega arith) (leads_on _ _ _ c 1 (leads_as x true from m stack c e la) (one_step _ _ 1 (tests_or (outcome_of (Ok true)) (Ok true) m (n + 1) stack (side_of_outcome (Ok true)) hm)))
     or_by x (Some (Ok false)) ob from m n stack c d e hm hn la lb =
-        right_runs or_of (outcome_of (Ok false)) (Ok false) ob from (m + 1) n stack (c + 1) d (leads_on _ _ _ c 1 (leads_as x (Ok false) from m stack c e la) (one_step _ _ 1 (tests_or (Ok false) m (n + 1) stack hm))) lb (joins_or (Ok false) n stack hn)
+        right_runs or_of x (Ok false) ob from (m + 1) n stack (c + 1) d (leads_on _ _ _ c 1 la (one_step _ _ 1 (tests_or x (Ok false) m (n + 1) stack e hm))) lb (joins_or x (Ok false) n stack e hn)
     or_by x (Some (Err f)) ob from m n stack c d e hm hn la lb =
-        right_runs or_of (outcome_of (Err f)) (Err f) ob from (m + 1) n stack (c + 1) d (leads_on _ _ _ c 1 (leads_as x (Err f) from m stack c e la) (one_step _ _ 1 (tests_or (Err f) m (n + 1) stack hm))) lb (joins_or (Err f) n stack hn)
+        right_runs or_of x (Err f) ob from (m + 1) n stack (c + 1) d (leads_on _ _ _ c 1 la (one_step _ _ 1 (tests_or x (Err f) m (n + 1) stack e hm))) lb (joins_or x (Err f) n stack e hn)
 
     or_runs : (oa ob : Option Outcome) (from m n : ℕ) (stack : List Outcome) (c d : ℕ) → Has code m (OrTest (n + 1)) → Has code n Or → Gives from stack m oa c → ((s : List Outcome) → Gives (m + 1) s n ob d) → Gives from stack (n + 1) (or_value (side_of oa) (side_of ob)) (c + 1 + unless_true (side_of oa) d)
     or_runs None ob from m n stack c d hm hn la lb = tt
@@ -153,11 +154,11 @@ module _ (image : Image) (slots : List Outcome) where
     conditional_by : (x : Outcome) (o : Option Side) (oa ob : Option Outcome) (from m n to : ℕ) (stack : List Outcome) (c d e : ℕ) → side_of (Some x) ≡ o → Has code m (Cond (n + 1) to) → Has code n (Jump to) → Leads (on from stack frames) (on m (x ∷ stack) frames) c → Gives (m + 1) stack n oa d → Gives (n + 1) stack to ob e → Gives from stack to (conditional_value o oa ob) (c + 1 + of_branch o d e)
     conditional_by x None oa ob from m n to stack c d e q hm hn lc la lb = tt
     conditional_by x (Some (Err f)) oa ob from m n to stack c d e q hm hn lc la lb =
-        costs _ _ (c + 1) _ (omega arith) (leads_on _ _ _ c 1 (leads_as x (Err f) from m stack c q lc) (one_step _ _ 1 (branches (Err f) m (n + 1) to stack hm)))
+        costs _ _ (c + 1) _ (omega arith) (leads_on _ _ _ c 1 lc (one_step _ _ 1 (branches x (Err f) m (n + 1) to stack q hm)))
     conditional_by x (Some (Ok true)) oa ob from m n to stack c d e q hm hn lc la lb =
-        branch_runs oa from (m + 1) to stack (c + 1) d (leads_on _ _ _ c 1 (leads_as x (Ok true) from m stack c q lc) (one_step _ _ 1 (branches (Ok true) m (n + 1) to stack hm))) (jump_runs oa (m + 1) n to stack d hn la)
+        branch_runs oa from (m + 1) to stack (c + 1) d (leads_on _ _ _ c 1 lc (one_step _ _ 1 (branches x (Ok true) m (n + 1) to stack q hm))) (jump_runs oa (m + 1) n to stack d hn la)
     conditional_by x (Some (Ok false)) oa ob from m n to stack c d e q hm hn lc la lb =
-        branch_runs ob from (n + 1) to stack (c + 1) e (leads_on _ _ _ c 1 (leads_as x (Ok false) from m stack c q lc) (one_step _ _ 1 (branches (Ok false) m (n + 1) to stack hm))) lb
+        branch_runs ob from (n + 1) to stack (c + 1) e (leads_on _ _ _ c 1 lc (one_step _ _ 1 (branches x (Ok false) m (n + 1) to stack q hm))) lb
 
     conditional_runs : (oc oa ob : Option Outcome) (from m n to : ℕ) (stack : List Outcome) (c d e : ℕ) → Has code m (Cond (n + 1) to) → Has code n (Jump to) → Gives from stack m oc c → Gives (m + 1) stack n oa d → Gives (n + 1) stack to ob e → Gives from stack to (conditional_value (side_of oc) oa ob) (c + 1 + of_branch (side_of oc) d e)
     conditional_runs None oa ob from m n to stack c d e hm hn lc la lb = tt

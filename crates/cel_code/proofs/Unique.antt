@@ -1,5 +1,6 @@
 -- An expression compiles to one image.
-use Rattle.std.proofs.Common.{◌≡◌, ℕ, zero, suc, ◌+◌, ◌<◌, ◌≤◌, List, [], ◌∷◌, ◌++◌, length, Some, ◌⊎◌, refl, sym, ap, ◌∙◌, subst, inl, inr, arith}
+use Rattle.std.proofs.Common.{◌≡◌, ℕ, zero, suc, ◌+◌, ◌<◌, ◌≤◌, List, [], ◌∷◌, ◌++◌}
+use Rattle.std.proofs.Common.{length, Some, ◌⊎◌, refl, sym, ap, ◌∙◌, subst, inl, inr, arith}
 use Rattle.std.specs.Prelude.{slice_get}
 use Rattle.std.proofs.lemmas.Bool.{cases_lt}
 use Rattle.cel_value.specs.declared.cel_type.CelType.{CelType}
@@ -34,7 +35,8 @@ one_last : {X : Type 0} (xs ys : List X) (x y : X) → xs ++ x ∷ [] ≡ ys ++ 
 one_last xs ys x y e =
     let same = one_front xs ys x y e in
     let at_end : slice_get (ys ++ y ∷ []) (length xs) ≡ Some x = ap (λ l. slice_get l (length xs)) (sym e) ∙ get_last xs x in
-    let there : slice_get (ys ++ y ∷ []) (length xs) ≡ Some y = ap (λ l. slice_get (ys ++ y ∷ []) (length l)) same ∙ get_last ys y in
+    let there : slice_get (ys ++ y ∷ []) (length xs) ≡ Some y =
+    ap (λ l. slice_get (ys ++ y ∷ []) (length l)) same ∙ get_last ys y in
     cc
 
 no_end : {X : Type 0} (xs : List X) (x : X) → xs ++ x ∷ [] ≡ [] → ⊥
@@ -67,7 +69,8 @@ one_list vs us ws (again vs' v once there e) (first vs2 us2 v2 once2 fresh2 e2 f
 one_list vs us ws (again vs' v once there e) (again vs2 v2 once2 there2 e2) =
     one_list vs' us ws once (rw (one_front vs' vs2 v v2 (sym e ∙ e2)) once2)
 
-last_cases : (us : List Value) (w v : Value) (m : ℕ) → slice_get (us ++ w ∷ []) m ≡ Some v → (slice_get us m ≡ Some v) ⊎ ((m ≡ length us) × (w ≡ v))
+last_cases : (us : List Value) (w v : Value) (m : ℕ) → slice_get (us ++ w ∷ []) m ≡ Some v
+    → (slice_get us m ≡ Some v) ⊎ ((m ≡ length us) × (w ≡ v))
 last_cases [] w v zero h = inr (refl, cc)
 last_cases [] w v (suc m) h = cc
 last_cases (u ∷ us) w v zero h = inl h
@@ -77,7 +80,8 @@ last_cases (u ∷ us) w v (suc m) h = elim (last_cases us w v m h) [
 ]
 
 -- each constant stands at one place
-one_place : (vs us : List Value) → EachOnce vs us → (v : Value) (m n : ℕ) → slice_get us m ≡ Some v → slice_get us n ≡ Some v → m ≡ n
+one_place : (vs us : List Value) → EachOnce vs us → (v : Value) (m n : ℕ) → slice_get us m ≡ Some v → slice_get us n ≡ Some v
+    → m ≡ n
 one_place vs us (nothing e f) v m n h k = let none = ap (λ l. slice_get l m) f in cc
 one_place vs us (again vs' w once there e) v m n h k = one_place vs' us once v m n h k
 one_place vs us (first vs' us' w once fresh e f) v m n h k =
@@ -97,12 +101,18 @@ one_place vs us (first vs' us' w once fresh e f) v m n h k =
 abbrev Parts : Code → Form TypedTree → ℕ → ℕ → Type 0
 Parts code (form.Literal v) from to = Pushes code from to v
 Parts code (form.Unary op a) from to = (m : ℕ) × Stands code a from m × Has code m (Op (code_of op)) × (to ≡ m + 1)
-Parts code (form.Binary op a b) from to = (m n : ℕ) × Stands code a from m × Stands code b m n × Has code n (Op (code_of op)) × (to ≡ n + 1)
-Parts code (form.And a b) from to = (m n : ℕ) × Stands code a from m × Has code m (AndTest to) × Stands code b (m + 1) n × Has code n And × (to ≡ n + 1)
-Parts code (form.Or a b) from to = (m n : ℕ) × Stands code a from m × Has code m (OrTest to) × Stands code b (m + 1) n × Has code n Or × (to ≡ n + 1)
-Parts code (form.Conditional c a b) from to = (m n : ℕ) × Stands code c from m × Has code m (Cond (n + 1) to) × Stands code a (m + 1) n × Has code n (Jump to) × Stands code b (n + 1) to
+Parts code (form.Binary op a b) from to =
+    (m n : ℕ) × Stands code a from m × Stands code b m n × Has code n (Op (code_of op)) × (to ≡ n + 1)
+Parts code (form.And a b) from to =
+    (m n : ℕ) × Stands code a from m × Has code m (AndTest to) × Stands code b (m + 1) n × Has code n And × (to ≡ n + 1)
+Parts code (form.Or a b) from to =
+    (m n : ℕ) × Stands code a from m × Has code m (OrTest to) × Stands code b (m + 1) n × Has code n Or × (to ≡ n + 1)
+Parts code (form.Conditional c a b) from to =
+    (m n : ℕ) × Stands code c from m × Has code m (Cond (n + 1) to) × Stands code a (m + 1) n × Has code n (Jump to)
+    × Stands code b (n + 1) to
 
-parts : (code : Code) (e : TypedTree) (f : Form TypedTree) (from to : ℕ) → (out-TypedTree e).form ≡ f → Stands code e from to → Parts code f from to
+parts : (code : Code) (e : TypedTree) (f : Form TypedTree) (from to : ℕ) → (out-TypedTree e).form ≡ f → Stands code e from to
+    → Parts code f from to
 parts code e f from to is (literal v g h) = subst (λ x. Parts code x from to) (sym g.is ∙ is) h
 parts code e f from to is (unary op a m g h i n) = subst (λ x. Parts code x from to) (sym g.is ∙ is) (m, h, i, n)
 parts code e f from to is (binary op a b m n g h k i l) = subst (λ x. Parts code x from to) (sym g.is ∙ is) (m, n, h, k, i, l)
@@ -116,7 +126,10 @@ module _ (c d : Code) where
     each : (k : ℕ) → from ≤ k → k < to → slice_get c.instrs k ≡ slice_get d.instrs k
 
   one : (at : ℕ) (i j : Instr) → Has c at i → Has d at j → i ≡ j → Alike at (at + 1)
-  one at i j p q same = record { each = λ k le lt. let here : at ≡ k = omega arith in subst (λ n. slice_get c.instrs n ≡ slice_get d.instrs n) here (p.is ∙ (ap Some same ∙ sym q.is)) }
+  one at i j p q same =
+      record {
+        each = λ k le lt. let here : at ≡ k = omega arith in subst (λ n. slice_get c.instrs n ≡ slice_get d.instrs n) here (p.is ∙ (ap Some same ∙ sym q.is));
+      }
 
   on : (from m to : ℕ) → Alike from m → Alike m to → Alike from to
   on from m to a b = record { each = λ k le lt. elim (cases_lt k m) [ inl less ↦ a.each k le less | inr more ↦ b.each k more lt ] }
@@ -126,7 +139,8 @@ module _ (c d : Code) where
     ends : to' ≡ to
     alike : Alike from to
 
-  module _ (same : c.constants ≡ d.constants) (once : (v : Value) (m n : ℕ) → slice_get d.constants m ≡ Some v → slice_get d.constants n ≡ Some v → m ≡ n) where
+  module _ (same : c.constants ≡ d.constants)
+      (once : (v : Value) (m n : ℕ) → slice_get d.constants m ≡ Some v → slice_get d.constants n ≡ Some v → m ≡ n) where
     twins : (e : TypedTree) (from to to' : ℕ) → Stands c e from to → Stands d e from to' → Twins from to to'
     twins e from to to' (literal v f h) s =
         let p = parts d e (form.Literal v) from to' f.is s in
@@ -160,11 +174,14 @@ module _ (c d : Code) where
         let t = twins a from m p.0 h p.2 in
         let u = twins b (m + 1) n p.1 k (rw t.ends at p.4) in
         let w = twins c' (n + 1) to to' l (rw u.ends at p.6) in
-        let test = on from m (m + 1) t.alike (one m _ _ i (rw t.ends at p.3) (ap (λ x. Cond (x + 1) to) (sym u.ends) ∙ ap (λ x. Cond (p.1 + 1) x) (sym w.ends))) in
+        let test =
+        on from m (m + 1) t.alike
+        (one m _ _ i (rw t.ends at p.3) (ap (λ x. Cond (x + 1) to) (sym u.ends) ∙ ap (λ x. Cond (p.1 + 1) x) (sym w.ends))) in
         let jump = on from n (n + 1) (on from (m + 1) n test u.alike) (one n _ _ j (rw u.ends at p.5) (ap Jump (sym w.ends))) in
         record { ends = w.ends; alike = on from (n + 1) to jump w.alike }
 
-same_list : {X : Type 0} (xs ys : List X) → length xs ≡ length ys → ((k : ℕ) → k < length xs → slice_get xs k ≡ slice_get ys k) → xs ≡ ys
+same_list : {X : Type 0} (xs ys : List X) → length xs ≡ length ys
+    → ((k : ℕ) → k < length xs → slice_get xs k ≡ slice_get ys k) → xs ≡ ys
 same_list [] [] e h = refl
 same_list [] (y ∷ ys) e h = absurd (omega (arith, e))
 same_list (x ∷ xs) [] e h = absurd (omega (arith, e))
@@ -174,14 +191,17 @@ same_list (x ∷ xs) (y ∷ ys) e h =
     cc
 
 -- the image that an expression compiles to is one
-pub one_image : (image other : Image) (tree : TypedTree) (types : List CelType) → IsCompiled image tree types → IsCompiled other tree types → image ≡ other
+pub one_image : (image other : Image) (tree : TypedTree) (types : List CelType) → IsCompiled image tree types
+    → IsCompiled other tree types → image ≡ other
 one_image image other tree types p q =
     let size = (layout_of tree).size in
     let constants = one_list _ _ _ p.constants q.constants in
     let t = twins (code_in image) (code_in other) constants (one_place _ _ q.constants) tree 0 size size p.stands q.stands in
     let each : (k : ℕ) → k < length image.code → slice_get image.code k ≡ slice_get other.code k = λ k lt. elim (cases_lt k size) [
       | inl less ↦ t.alike.each k (omega arith) less
-      | inr more ↦ let here : size ≡ k = omega (arith, p.whole) in subst (λ n. slice_get image.code n ≡ slice_get other.code n) here (p.ends.is ∙ sym q.ends.is)
+      | inr more ↦
+          let here : size ≡ k = omega (arith, p.whole) in
+          subst (λ n. slice_get image.code n ≡ slice_get other.code n) here (p.ends.is ∙ sym q.ends.is)
     ] in
     let code = same_list image.code other.code (p.whole ∙ sym q.whole) each in
     let slots = p.slots ∙ sym q.slots in

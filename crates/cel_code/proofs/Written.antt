@@ -1,5 +1,6 @@
 -- What is written for an expression is as the expression is laid out.
-use Rattle.std.proofs.Common.{◌≡◌, ℕ, ◌+◌, Some, List, [], ◌∷◌, ◌++◌, length, refl, sym, ap, ◌∙◌, subst, arith, append_assoc}
+use Rattle.std.proofs.Common.{◌≡◌, ℕ, ◌+◌, Some, List, [], ◌∷◌, ◌++◌}
+use Rattle.std.proofs.Common.{length, refl, sym, ap, ◌∙◌, subst, arith, append_assoc}
 use Rattle.std.specs.Prelude.{slice_get, Contains}
 use Rattle.std.proofs.lemmas.List.{append-nil}
 use Rattle.std.proofs.Math.Seq.{append_snoc}
@@ -21,15 +22,19 @@ use Rattle.cel_code.specs.Placed.{code_in, with_instr, Emits}
 use Rattle.cel_code.proofs.Place.{contains_at, placed}
 
 -- the layout of one level
-pub laid : (e : TypedTree) (f : Form TypedTree) → (out-TypedTree e).form ≡ f → layout_of e ≡ layout_step (map-TypedTree _ _ layout_of (record { cel_type = type_of e; form = f }))
-laid e f h = fold_out-TypedTree Layout layout_step e ∙ ap (λ g. layout_step (map-TypedTree _ _ layout_of (record { cel_type = type_of e; form = g }))) h
+pub laid : (e : TypedTree) (f : Form TypedTree) → (out-TypedTree e).form ≡ f
+    → layout_of e ≡ layout_step (map-TypedTree _ _ layout_of (record { cel_type = type_of e; form = f }))
+laid e f h =
+    fold_out-TypedTree Layout layout_step e
+    ∙ ap (λ g. layout_step (map-TypedTree _ _ layout_of (record { cel_type = type_of e; form = g }))) h
 
 type_laid : (e : TypedTree) → (layout_of e).type ≡ type_of e
 type_laid e = ap (λ l. l.type) (fold_out-TypedTree Layout layout_step e)
 
 module _ (a b c : Draft) where
   -- one stretch behind another
-  grows_on : (m n : ℕ) (vs ws : List Value) (ts us : List Target) → Grows a b m vs ts → Grows b c n ws us → Grows a c (m + n) (vs ++ ws) (ts ++ us)
+  grows_on : (m n : ℕ) (vs ws : List Value) (ts us : List Target) → Grows a b m vs ts → Grows b c n ws us
+      → Grows a c (m + n) (vs ++ ws) (ts ++ us)
   grows_on m n vs ws ts us g h = record {
     size = omega (arith, g.size, h.size);
     constants = λ before once. subst (λ l. EachOnce l c.constants) (append_assoc before vs ws) (h.constants (before ++ vs) (g.constants before once));
@@ -43,11 +48,14 @@ module _ (a b c : Draft) where
       rw (sym (append-nil vs), sym (append-nil ts)) (grows_on m n vs [] ts [] g h)
 
   -- an operand after another
-  grows_by : (m : ℕ) (vs : List Value) (ts : List Target) (e : TypedTree) (from : ℕ) (below under : List CelType) → Grows a b m vs ts → Writes b c e under → length b.code ≡ from → under ≡ below → Grows a c (m + (layout_of e).size) (vs ++ (layout_of e).literals) (ts ++ targets_from (layout_of e) from below)
+  grows_by : (m : ℕ) (vs : List Value) (ts : List Target) (e : TypedTree) (from : ℕ) (below under : List CelType) → Grows a b m vs ts
+      → Writes b c e under → length b.code ≡ from → under ≡ below
+      → Grows a c (m + (layout_of e).size) (vs ++ (layout_of e).literals) (ts ++ targets_from (layout_of e) from below)
   grows_by m vs ts e from below under g w here same =
       rw (sym here, sym same) (grows_on m _ vs _ ts _ g w.grows)
 
-grows_as : (a b : Draft) (m n : ℕ) (vs ws : List Value) (ts us : List Target) → n ≡ m → ws ≡ vs → us ≡ ts → Grows a b m vs ts → Grows a b n ws us
+grows_as : (a b : Draft) (m n : ℕ) (vs ws : List Value) (ts us : List Target) → n ≡ m → ws ≡ vs → us ≡ ts
+    → Grows a b m vs ts → Grows a b n ws us
 grows_as a b m n vs ws ts us e f g h = rw (e, f, g) h
 
 -- a literal that is there
@@ -60,7 +68,8 @@ grows_found draft v k h = record {
 }
 
 -- a literal that is new
-pub grows_new : (old new : Draft) (v w : Value) → w ≡ v → ¬ Contains old.constants v → new.constants ≡ old.constants ++ w ∷ [] → new.code ≡ old.code → new.targets ≡ old.targets → new.below ≡ old.below → Grows old new 0 (v ∷ []) []
+pub grows_new : (old new : Draft) (v w : Value) → w ≡ v → ¬ Contains old.constants v → new.constants ≡ old.constants ++ w ∷ []
+    → new.code ≡ old.code → new.targets ≡ old.targets → new.below ≡ old.below → Grows old new 0 (v ∷ []) []
 grows_new old new v w same fresh added code targets below = record {
   size = omega (arith, ap length code);
   constants = λ before once. first before old.constants v once fresh refl (added ∙ ap (λ x. old.constants ++ x ∷ []) same);
@@ -68,7 +77,9 @@ grows_new old new v w same fresh added code targets below = record {
   below = below;
 }
 
-pub writes_binary : (old d1 d2 new : Draft) (e : TypedTree) (op : Operator) (a b a' b' l : TypedTree) → (out-TypedTree e).form ≡ form.Binary op a b → a' ≡ a → b' ≡ b → l ≡ a → Writes old d1 a' old.below → Writes d1 d2 b' (d1.below ++ type_of l ∷ []) → Grows d2 new 1 [] [] → WritesWithin old new e old.below
+pub writes_binary : (old d1 d2 new : Draft) (e : TypedTree) (op : Operator) (a b a' b' l : TypedTree)
+    → (out-TypedTree e).form ≡ form.Binary op a b → a' ≡ a → b' ≡ b → l ≡ a → Writes old d1 a' old.below
+    → Writes d1 d2 b' (d1.below ++ type_of l ∷ []) → Grows d2 new 1 [] [] → WritesWithin old new e old.below
 writes_binary old d1 d2 new e op a b a' b' l is sa sb sl wa wb g =
     let wa : Writes old d1 a old.below = rw (sym sa) wa in
     let wb : Writes d1 d2 b (d1.below ++ type_of a ∷ []) = rw (sym sb, sym sl) wb in
@@ -77,7 +88,11 @@ writes_binary old d1 d2 new e op a b a' b' l is sa sb sl wa wb g =
     record { grows = rw (laid e _ is) (grows_code old d2 new _ _ _ _ both g) }
 
 -- both sides of `&&` or `||`
-two_sides : (old d1 d2 d3 d4 new : Draft) (a b a' b' l : TypedTree) → a' ≡ a → b' ≡ b → l ≡ a → Writes old d1 a' old.below → Grows d1 d2 1 [] [] → Writes d2 d3 b' (d2.below ++ type_of l ∷ []) → Grows d3 d4 1 [] [] → Grows d4 new 0 [] [] → Grows old new ((layout_of a).size + 1 + (layout_of b).size + 1) ((layout_of a).literals ++ (layout_of b).literals) (targets_from (layout_of a) (length old.code) old.below ++ targets_from (layout_of b) (length old.code + (layout_of a).size + 1) (old.below ++ (layout_of a).type ∷ []))
+two_sides : (old d1 d2 d3 d4 new : Draft) (a b a' b' l : TypedTree) → a' ≡ a → b' ≡ b → l ≡ a → Writes old d1 a' old.below
+    → Grows d1 d2 1 [] [] → Writes d2 d3 b' (d2.below ++ type_of l ∷ []) → Grows d3 d4 1 [] [] → Grows d4 new 0 [] []
+    → Grows old new ((layout_of a).size + 1 + (layout_of b).size + 1) ((layout_of a).literals ++ (layout_of b).literals)
+    (targets_from (layout_of a) (length old.code) old.below ++ targets_from (layout_of b) (length old.code + (layout_of a).size + 1)
+    (old.below ++ (layout_of a).type ∷ []))
 two_sides old d1 d2 d3 d4 new a b a' b' l sa sb sl wa ga wb gb gc =
     let wa : Writes old d1 a old.below = rw (sym sa) wa in
     let wb : Writes d2 d3 b (d2.below ++ type_of a ∷ []) = rw (sym sb, sym sl) wb in
@@ -87,39 +102,54 @@ two_sides old d1 d2 d3 d4 new a b a' b' l sa sb sl wa ga wb gb gc =
     let both = grows_by old d2 d3 _ _ _ b _ _ _ left wb here under in
     grows_as _ _ _ _ _ _ _ _ (omega arith) refl refl (grows_code old d4 new _ _ _ _ (grows_code old d3 d4 _ _ _ _ both gb) gc)
 
-pub writes_both : (old d1 d2 d3 d4 new : Draft) (e a b a' b' l : TypedTree) → (out-TypedTree e).form ≡ form.And a b → a' ≡ a → b' ≡ b → l ≡ a → Writes old d1 a' old.below → Grows d1 d2 1 [] [] → Writes d2 d3 b' (d2.below ++ type_of l ∷ []) → Grows d3 d4 1 [] [] → Grows d4 new 0 [] [] → WritesWithin old new e old.below
+pub writes_both : (old d1 d2 d3 d4 new : Draft) (e a b a' b' l : TypedTree) → (out-TypedTree e).form ≡ form.And a b → a' ≡ a
+    → b' ≡ b → l ≡ a → Writes old d1 a' old.below → Grows d1 d2 1 [] [] → Writes d2 d3 b' (d2.below ++ type_of l ∷ [])
+    → Grows d3 d4 1 [] [] → Grows d4 new 0 [] [] → WritesWithin old new e old.below
 writes_both old d1 d2 d3 d4 new e a b a' b' l is sa sb sl wa ga wb gb gc =
     record { grows = rw (laid e _ is) (two_sides old d1 d2 d3 d4 new a b a' b' l sa sb sl wa ga wb gb gc) }
 
-pub writes_either : (old d1 d2 d3 d4 new : Draft) (e a b a' b' l : TypedTree) → (out-TypedTree e).form ≡ form.Or a b → a' ≡ a → b' ≡ b → l ≡ a → Writes old d1 a' old.below → Grows d1 d2 1 [] [] → Writes d2 d3 b' (d2.below ++ type_of l ∷ []) → Grows d3 d4 1 [] [] → Grows d4 new 0 [] [] → WritesWithin old new e old.below
+pub writes_either : (old d1 d2 d3 d4 new : Draft) (e a b a' b' l : TypedTree) → (out-TypedTree e).form ≡ form.Or a b → a' ≡ a
+    → b' ≡ b → l ≡ a → Writes old d1 a' old.below → Grows d1 d2 1 [] [] → Writes d2 d3 b' (d2.below ++ type_of l ∷ [])
+    → Grows d3 d4 1 [] [] → Grows d4 new 0 [] [] → WritesWithin old new e old.below
 writes_either old d1 d2 d3 d4 new e a b a' b' l is sa sb sl wa ga wb gb gc =
     record { grows = rw (laid e _ is) (two_sides old d1 d2 d3 d4 new a b a' b' l sa sb sl wa ga wb gb gc) }
 
-pub writes_conditional : (old d1 d2 d3 d4 d5 d6 d7 new : Draft) (e c a b : TypedTree) → (out-TypedTree e).form ≡ form.Conditional c a b → Writes old d1 c old.below → Grows d1 d2 1 [] [] → Writes d2 d3 a d2.below → Grows d3 d4 1 [] [] → Grows d4 d5 0 [] (target (length d4.code) d4.below ∷ []) → WritesWithin d5 d6 b d5.below → Grows d6 d7 0 [] [] → Grows d7 new 0 [] [] → WritesWithin old new e old.below
+pub writes_conditional : (old d1 d2 d3 d4 d5 d6 d7 new : Draft) (e c a b : TypedTree) → (out-TypedTree e).form ≡ form.Conditional c a b
+    → Writes old d1 c old.below → Grows d1 d2 1 [] [] → Writes d2 d3 a d2.below → Grows d3 d4 1 [] []
+    → Grows d4 d5 0 [] (target (length d4.code) d4.below ∷ []) → WritesWithin d5 d6 b d5.below → Grows d6 d7 0 [] []
+    → Grows d7 new 0 [] [] → WritesWithin old new e old.below
 writes_conditional old d1 d2 d3 d4 d5 d6 d7 new e c a b is wc gc wa ga gt wb gp gq =
     let test = grows_code old d1 d2 _ _ _ _ wc.grows gc in
     let here : length d2.code ≡ length old.code + (layout_of c).size + 1 = omega (arith, test.size) in
     let yes = grows_by old d2 d3 _ _ _ a _ _ _ test wa here test.below in
     let jump = grows_code old d3 d4 _ _ _ _ yes ga in
     let there : length d4.code ≡ length old.code + (layout_of c).size + 1 + (layout_of a).size + 1 = omega (arith, jump.size) in
-    let begins : Grows d4 d5 0 [] (target (length old.code + (layout_of c).size + 1 + (layout_of a).size + 1) old.below ∷ []) = rw (sym there, sym jump.below) gt in
+    let begins : Grows d4 d5 0 [] (target (length old.code + (layout_of c).size + 1 + (layout_of a).size + 1) old.below ∷ []) =
+    rw (sym there, sym jump.below) gt in
     let no_from : length d5.code ≡ length old.code + (layout_of c).size + 1 + (layout_of a).size + 1 = omega (arith, begins.size) in
     let no_below : d5.below ≡ old.below = begins.below ∙ jump.below in
-    let no_branch : Grows d5 d6 (layout_of b).size (layout_of b).literals ((layout_of b).within (length old.code + (layout_of c).size + 1 + (layout_of a).size + 1) old.below) = rw (sym no_from, sym no_below) wb.grows in
+    let no_branch : Grows d5 d6 (layout_of b).size (layout_of b).literals ((layout_of b).within (length old.code + (layout_of c).size + 1 + (layout_of a).size + 1) old.below) =
+    rw (sym no_from, sym no_below) wb.grows in
     let all = grows_on old d5 d6 _ _ _ _ _ _ (grows_on old d4 d5 _ _ _ _ _ _ jump begins) no_branch in
     let patched = grows_code old d7 new _ _ _ _ (grows_code old d6 d7 _ _ _ _ all gp) gq in
     record { grows = rw (laid e _ is) (grows_as _ _ _ _ _ _ _ _ (omega arith) (rw (append-nil ((layout_of c).literals ++ (layout_of a).literals)) refl) (sym (append_snoc _ _ _)) patched) }
 
 -- what was written from nothing on, and END
-pub compiled : (start draft all : Draft) (image : Image) (e tree : TypedTree) (types : List CelType) → e ≡ tree → drafted start ≡ record { constants = []; instrs = [] } → start.targets ≡ [] → start.below ≡ [] → Emits (drafted start) (drafted draft) e → Writes start draft e start.below → drafted all ≡ with_instr (drafted draft) End → Grows draft all 1 [] [] → code_in image ≡ drafted all → image.targets ≡ all.targets → image.slots ≡ types → image.result ≡ type_of tree → IsCompiled image tree types
+pub compiled : (start draft all : Draft) (image : Image) (e tree : TypedTree) (types : List CelType) → e ≡ tree
+    → drafted start ≡ record { constants = []; instrs = [] } → start.targets ≡ [] → start.below ≡ []
+    → Emits (drafted start) (drafted draft) e → Writes start draft e start.below → drafted all ≡ with_instr (drafted draft) End
+    → Grows draft all 1 [] [] → code_in image ≡ drafted all → image.targets ≡ all.targets → image.slots ≡ types
+    → image.result ≡ type_of tree → IsCompiled image tree types
 compiled start draft all image e tree types same empty no_targets no_below emits writes put end code targets slots result =
     let emits : Emits (drafted start) (drafted draft) tree = rw (sym same) emits in
     let writes : Writes start draft tree [] = rw (sym same, sym no_below) writes in
     let none : length start.code ≡ 0 = ap (λ c. length c.instrs) empty in
-    let g : Grows start draft (layout_of tree).size (layout_of tree).literals (targets_from (layout_of tree) 0 []) = rw (sym none) writes.grows in
+    let g : Grows start draft (layout_of tree).size (layout_of tree).literals (targets_from (layout_of tree) 0 []) =
+    rw (sym none) writes.grows in
     let all_grown = grows_code start draft all _ _ _ _ g end in
     let size : length draft.code ≡ (layout_of tree).size = omega (arith, g.size, none) in
-    let placed = placed (drafted start) (drafted draft) (drafted all) tree (layout_of tree).size (ap (λ c. c.instrs) empty) emits put size in
+    let placed =
+    placed (drafted start) (drafted draft) (drafted all) tree (layout_of tree).size (ap (λ c. c.instrs) empty) emits put size in
     record {
       stands = rw code placed.stands;
       ends = rw code placed.ends;

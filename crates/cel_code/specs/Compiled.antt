@@ -1,5 +1,6 @@
 -- The image that an expression compiles to.
-use Rattle.std.specs.Prelude.{◌≡◌, ℕ, ◌+◌, Bool, true, false, List, [], ◌∷◌, ◌++◌, length, Contains, if◌then◌else◌}
+use Rattle.std.specs.Prelude.{◌≡◌, ℕ, ◌+◌, Bool, true, false, List}
+use Rattle.std.specs.Prelude.{[], ◌∷◌, ◌++◌, length, Contains, if◌then◌else◌}
 use Rattle.cel_value.specs.declared.cel_type.CelType.{CelType}
 use Rattle.cel_value.specs.declared.value.Value.{Value}
 use Rattle.cel_check.specs.declared.tree.TypedTree.{TypedTree, fold-TypedTree}

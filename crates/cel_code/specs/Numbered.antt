@@ -6,6 +6,7 @@ use Rattle.std.specs.BTreeMap.{BTreeMap, get}
 use Rattle.cel_value.specs.declared.value.Value.{Value, out-Value}
 use Rattle.cel_value.specs.declared.value.Value.TheOpen.{Value-F}
 
+-- constants, each at its number
 abbrev pub Values : Type 0
 Values = List Value
 
@@ -20,6 +21,7 @@ key_at (Value-F.Int (negsuc n)) = Some (3, suc n)
 key_at (Value-F.Uint n) = Some (4, n)
 key_at _ = None
 
+-- likewise of a whole value, by its outermost level
 abbrev pub key_of : Value → Option (ℕ × ℕ)
 key_of v = key_at (out-Value v)
 

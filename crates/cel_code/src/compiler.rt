@@ -1,12 +1,11 @@
-ghost use Rattle.std.specs.Prelude.{◌≡◌, ◌+◌, ◌<◌, ℕ, [], ◌∷◌, ◌++◌, length, slice_get, Contains, IfOk, OnOk, IsTrue, List, Some, MatchOption};
+ghost use Rattle.std.specs.Prelude.{◌≡◌, ◌+◌, ◌<◌, [], ◌∷◌, ◌++◌, length, IfOk, OnOk, Some};
 ghost use Rattle.cel_code.specs.declared.image.Image.{Image};
-ghost use Rattle.cel_check.specs.Outcomes.{Outcome, slots_fit, outcome_fits, outside};
-ghost use Rattle.cel_check.specs.Meaning.{IsForm, value_of, type_of};
+ghost use Rattle.cel_check.specs.Meaning.{IsForm, type_of};
 ghost use Rattle.cel_code.specs.Placed.{with_instr, patched, Interns, Emits};
 ghost use Rattle.cel_check.specs.declared.tree.Form.TheVariants as form;
 ghost use Rattle.cel_code.specs.Compiled.{IsCompiled, joins_at, target};
 ghost use Rattle.cel_code.specs.Drafts.{drafted, Grows, Writes, WritesWithin};
-ghost use Rattle.cel_code.specs.Correct.{Computes};
+ghost use Rattle.cel_code.specs.Correct.{Computes, Preserves};
 ghost use Rattle.cel_code.specs.Jumps.{TargetsAreJumps};
 
 use crate::constants::Constants;
@@ -28,7 +27,7 @@ pub fn compile(alloc: Global, typed: &Typed) -> Result<Image, AllocError>
     ensures slots { IfOk result (λ image. image.slots ≡ typed.now.slots) }
     ensures outcome { IfOk result (λ image. image.result ≡ type_of typed.now.tree) }
     // In every fitting environment the expression has an error or a value of its type.
-    ensures preserves { (slots : List Outcome) → IsTrue (slots_fit typed.now.slots slots) → IsTrue (outcome_fits (type_of typed.now.tree) (value_of typed.now.tree (outside slots))) }
+    ensures preserves { Preserves typed.now.slots typed.now.tree }
 {
     let slots = Items::from_vec(copy_types(alloc, typed.slots.as_slice())?);
     let mut draft = Draft::new(alloc);
@@ -122,7 +121,8 @@ impl Draft {
     /// Jumps arrive at the next instruction, over nothing more on the stack.
     fn arrive(&mut self) -> Result<(), AllocError>
         ensures code { OnOk result (drafted self.new ≡ drafted self.old) }
-        ensures grows { OnOk result (Grows self.old self.new 0 [] (target (length self.old.code) self.old.below ∷ [])) }
+        ensures grows { OnOk result
+            (Grows self.old self.new 0 [] (target (length self.old.code) self.old.below ∷ [])) }
     {
         let types = Items::from_vec(copy_types(self.alloc, self.below.as_slice())?);
         let at = self.len();
@@ -132,7 +132,8 @@ impl Draft {
     /// Jumps arrive at the next instruction, with a value of this type on the stack.
     fn arrive_with(&mut self, top: &CelType) -> Result<(), AllocError>
         ensures code { OnOk result (drafted self.new ≡ drafted self.old) }
-        ensures grows { OnOk result (Grows self.old self.new 0 [] (target (length self.old.code) (self.old.below ++ top.now ∷ []) ∷ [])) }
+        ensures grows { OnOk result
+            (Grows self.old self.new 0 [] (target (length self.old.code) (self.old.below ++ top.now ∷ []) ∷ [])) }
     {
         let mut types = Items::from_vec(copy_types(self.alloc, self.below.as_slice())?);
         types.push(top.copy()?)?;

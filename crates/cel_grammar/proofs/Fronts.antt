@@ -1,5 +1,6 @@
 -- What stands first among tokens, as a reader that goes from left to right asks for it.
-use Rattle.std.proofs.Common.{◌≡◌, ℕ, ◌<◌, Bool, true, false, List, [], ◌∷◌, Option, Some, None, refl, ap, ◌∙◌, inl, inr, arith}
+use Rattle.std.proofs.Common.{◌≡◌, ℕ, ◌<◌, Bool, true, false, List, [], ◌∷◌}
+use Rattle.std.proofs.Common.{Option, Some, None, refl, ap, ◌∙◌, inl, inr, arith}
 use Rattle.std.specs.Prelude.{nat_lt, max, ◌⊎◌}
 use Rattle.std.proofs.lemmas.Bool.{eq-eqb}
 use Rattle.std.proofs.lemmas.Bool.Decides.{eqb_tells}
@@ -12,8 +13,13 @@ use Rattle.cel_grammar.specs.declared.heads.Closer.TheVariants as closer
 use Rattle.cel_grammar.specs.declared.tree.Joint.{Joint}
 use Rattle.cel_grammar.specs.declared.tree.Joint.TheVariants as joint
 use Rattle.cel_grammar.specs.declared.tree.Tree.{Tree}
-use Rattle.cel_grammar.specs.Grammar.{Part, looseness, joint_kind, closes, takes_comma, Ends, end, comma_end, Joins, Derives, whole, chosen, or_one, or_more, and_one, and_more, relation_one, relation_more, sum_one, sum_more, product_one, product_more, bare, nots, minuses, not_one, not_more, negative, minus_one, minus_more, alone, selected, method_called, indexed, none, yes, no, int, uint, string, named, called, within, listed, mapped}
-use Rattle.cel_grammar.specs.Descent.{kept, head_if, is_open, is_comma, is_question, suffix_of, suffix_at, chosen_operator, joint_of, operator_at, if_at, comma_if, spare_comma_at, end_at}
+use Rattle.cel_grammar.specs.Grammar.{Part, looseness, joint_kind, closes, takes_comma, Ends, end, comma_end, Joins}
+use Rattle.cel_grammar.specs.Grammar.{Derives, whole, chosen, or_one, or_more, and_one, and_more, relation_one, relation_more}
+use Rattle.cel_grammar.specs.Grammar.{sum_one, sum_more, product_one, product_more, bare, nots, minuses, not_one, not_more}
+use Rattle.cel_grammar.specs.Grammar.{negative, minus_one, minus_more, alone, selected, method_called, indexed, none, yes}
+use Rattle.cel_grammar.specs.Grammar.{no, int, uint, string, named, called, within, listed, mapped}
+use Rattle.cel_grammar.specs.Descent.{kept, head_if, is_open, is_comma, is_question, suffix_of, suffix_at}
+use Rattle.cel_grammar.specs.Descent.{chosen_operator, joint_of, operator_at, if_at, comma_if, spare_comma_at, end_at}
 
 -- whether a kind of token stands first
 pub head_kept : (t : Token) (p : TokenKind → Bool) (ts : List Token) → p t.kind ≡ true → head_if p (t ∷ ts) ≡ Some (t.start, ts)
@@ -40,7 +46,8 @@ pub joint_front : (o : Joint) → front_of (joint_kind o) ≡ looseness o
 joint_front (joint.Infix o) = refl
 joint_front joint.In = refl
 
-no_operator : (n : ℕ) (o : Joint) (place : ℕ) (ts : List Token) → n < looseness o → chosen_operator (Rattle.std.specs.Prelude.nat_eq (looseness o) n) o place ts ≡ None
+no_operator : (n : ℕ) (o : Joint) (place : ℕ) (ts : List Token) → n < looseness o
+    → chosen_operator (Rattle.std.specs.Prelude.nat_eq (looseness o) n) o place ts ≡ None
 no_operator n o place ts lt =
     elim (eqb_tells (looseness o) n) [
       | inl h ↦ let e = h.1 in absurd (omega arith)
@@ -84,11 +91,13 @@ pub no_suffix : (ts : List Token) → 0 < front ts → suffix_at ts ≡ None
 no_suffix [] lt = refl
 no_suffix (t ∷ ts) lt = no_suffix_of t.kind t.start ts lt
 
-joint_kept : (o : Joint) (n place : ℕ) (mid : List Token) → looseness o ≡ n → chosen_at n (joint_of (joint_kind o) place mid) ≡ Some (o, place, mid)
+joint_kept : (o : Joint) (n place : ℕ) (mid : List Token) → looseness o ≡ n
+    → chosen_at n (joint_of (joint_kind o) place mid) ≡ Some (o, place, mid)
 joint_kept (joint.Infix o) n place mid h = ap (λ b. chosen_operator b (joint.Infix o) place mid) (eq-eqb (looseness (joint.Infix o)) n h)
 joint_kept joint.In n place mid h = ap (λ b. chosen_operator b joint.In place mid) (eq-eqb 3 n h)
 
-pub operator_kept : {t : Token} {o : Joint} (n : ℕ) (mid : List Token) → Joins t o n → operator_at n (t ∷ mid) ≡ Some (o, t.start, mid)
+pub operator_kept : {t : Token} {o : Joint} (n : ℕ) (mid : List Token) → Joins t o n
+    → operator_at n (t ∷ mid) ≡ Some (o, t.start, mid)
 operator_kept {t} {o} n mid j = ap (λ k. chosen_at n (joint_of k t.start mid)) j.kind ∙ joint_kept o n t.start mid j.loose
 
 -- a token with which an expression begins
@@ -174,7 +183,8 @@ begins_spare false ts h = refl
 
 pub begins_end : (c : Closer) (ts : List Token) → Begins ts → end_at c ts ≡ None
 begins_end c ts h =
-    ap (λ (o : Option (ℕ × List Token)). if_at o (if_at (spare_comma_at c ts) None (λ x. head_if (closes c) x.1)) Some) (begins_shut c ts h)
+    ap (λ (o : Option (ℕ × List Token)). if_at o (if_at (spare_comma_at c ts) None (λ x. head_if (closes c) x.1)) Some)
+    (begins_shut c ts h)
     ∙ ap (λ (o : Option (ℕ × List Token)). if_at o None (λ x. head_if (closes c) x.1)) (begins_spare (takes_comma c) ts h)
 
 comma_shuts : (c : Closer) → closes c kind.Comma ≡ false
@@ -183,23 +193,34 @@ comma_shuts closer.Bracket = refl
 comma_shuts closer.Brace = refl
 
 -- behind a comma that an item follows
-spare_by : (b : Bool) (c : Closer) (m : Token) (mid : List Token) → m.kind ≡ kind.Comma → Begins mid → if_at (comma_if b (m ∷ mid)) None (λ x. head_if (closes c) x.1) ≡ None
-spare_by true c m mid q h = ap (λ (o : Option (ℕ × List Token)). if_at o None (λ x. head_if (closes c) x.1)) (head_kept m is_comma mid (ap is_comma q)) ∙ begins_shut c mid h
+spare_by : (b : Bool) (c : Closer) (m : Token) (mid : List Token) → m.kind ≡ kind.Comma → Begins mid
+    → if_at (comma_if b (m ∷ mid)) None (λ x. head_if (closes c) x.1) ≡ None
+spare_by true c m mid q h =
+    ap (λ (o : Option (ℕ × List Token)). if_at o None (λ x. head_if (closes c) x.1)) (head_kept m is_comma mid (ap is_comma q))
+    ∙ begins_shut c mid h
 spare_by false c m mid q h = refl
 
 pub comma_no_end : (c : Closer) (m : Token) (mid : List Token) → m.kind ≡ kind.Comma → Begins mid → end_at c (m ∷ mid) ≡ None
 comma_no_end c m mid q h =
-    ap (λ (o : Option (ℕ × List Token)). if_at o (if_at (spare_comma_at c (m ∷ mid)) None (λ x. head_if (closes c) x.1)) Some) (head_not m (closes c) mid (ap (closes c) q ∙ comma_shuts c))
+    ap (λ (o : Option (ℕ × List Token)). if_at o (if_at (spare_comma_at c (m ∷ mid)) None (λ x. head_if (closes c) x.1)) Some)
+    (head_not m (closes c) mid (ap (closes c) q ∙ comma_shuts c))
     ∙ spare_by (takes_comma c) c m mid q h
 
 -- what closes a list is found
 pub end_kept : {c : Closer} {ts rest : List Token} → Ends c ts rest → (place : ℕ) × (end_at c ts ≡ Some (place, rest))
-end_kept {c} (end {k = t} {rest} q) = (t.start, ap (λ (o : Option (ℕ × List Token)). if_at o (if_at (spare_comma_at c (t ∷ rest)) None (λ x. head_if (closes c) x.1)) Some) (head_kept t (closes c) rest q))
+end_kept {c} (end {k = t} {rest} q) = (
+  t.start,
+  ap
+      (λ (o : Option (ℕ × List Token)). if_at o (if_at (spare_comma_at c (t ∷ rest)) None (λ x. head_if (closes c) x.1)) Some)
+      (head_kept t (closes c) rest q),
+)
 end_kept {c} (comma_end {m} {k = t} {rest} z h q) = (
   t.start,
-  ap (λ (o : Option (ℕ × List Token)). if_at o (if_at (spare_comma_at c (m ∷ t ∷ rest)) None (λ x. head_if (closes c) x.1)) Some) (head_not m (closes c) (t ∷ rest) (ap (closes c) h ∙ comma_shuts c))
+  ap (λ (o : Option (ℕ × List Token)). if_at o (if_at (spare_comma_at c (m ∷ t ∷ rest)) None (λ x. head_if (closes c) x.1)) Some)
+      (head_not m (closes c) (t ∷ rest) (ap (closes c) h ∙ comma_shuts c))
       ∙ ap (λ (b : Bool). if_at (comma_if b (m ∷ t ∷ rest)) None (λ x. head_if (closes c) x.1)) z
-      ∙ ap (λ (o : Option (ℕ × List Token)). if_at o None (λ x. head_if (closes c) x.1)) (head_kept m is_comma (t ∷ rest) (ap is_comma h))
+      ∙ ap (λ (o : Option (ℕ × List Token)). if_at o None (λ x. head_if (closes c) x.1))
+      (head_kept m is_comma (t ∷ rest) (ap is_comma h))
       ∙ head_kept t (closes c) rest q,
 )
 

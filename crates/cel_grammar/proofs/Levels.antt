@@ -46,5 +46,6 @@ pub fold_level : (P : Tree → Type 0) (A : Type 0) (at : Tree-F A → A) (y : T
 fold_level P A at y = fold-roll-Tree A at (map-Tree (Such P) Tree (λ e. e.0) y) ∙ ap at (fused P A (fold-Tree A at) y)
 
 -- what holds of each level holds of each tree
-pub every_tree : (P : Tree → Type 0) → ((y : Tree-F (Such P)) → P (roll-Tree (map-Tree (Such P) Tree (λ e. e.0) y))) → (t : Tree) → P t
+pub every_tree : (P : Tree → Type 0) → ((y : Tree-F (Such P)) → P (roll-Tree (map-Tree (Such P) Tree (λ e. e.0) y))) → (t : Tree)
+    → P t
 every_tree P step = ind-Tree P (λ x y is. subst (λ z. P (roll-Tree z)) is (step y))

@@ -1,16 +1,27 @@
 -- A tree has no more nodes than its text has tokens.
-use Rattle.std.proofs.Common.{◌≡◌, ℕ, ◌+◌, ◌<◌, ◌≤◌, Bool, true, false, List, [], ◌∷◌, length, map, sym, ap, ◌∙◌, arith}
+use Rattle.std.proofs.Common.{◌≡◌, ℕ, ◌+◌, ◌<◌, ◌≤◌, Bool, true, false, List}
+use Rattle.std.proofs.Common.{[], ◌∷◌, length, map, sym, ap, ◌∙◌, arith}
 use Rattle.cel_lex.specs.declared.token.Token.{Token}
 use Rattle.cel_grammar.specs.declared.heads.Closer.{Closer}
 use Rattle.cel_grammar.specs.declared.tree.Entry.{Entry}
 use Rattle.cel_grammar.specs.declared.tree.UnaryOperator.{UnaryOperator}
 use Rattle.cel_grammar.specs.declared.tree.UnaryOperator.TheVariants.{Not, Negate}
 use Rattle.cel_grammar.specs.declared.tree.Joint.{Joint}
-use Rattle.cel_grammar.specs.declared.tree.Tree.{Tree, roll-Tree, fold-Tree, Null as null, Truth as truth, Number as number, Unsigned as unsigned, Text as text, Name as name, Call as call, Select as select, Method as method, Index as index, List as list, Map as map_tree, Unary as unary, Binary as binary, Conditional as conditional}
+use Rattle.cel_grammar.specs.declared.tree.Tree.{Tree, roll-Tree, fold-Tree, Null as null, Truth as truth}
+use Rattle.cel_grammar.specs.declared.tree.Tree.{Number as number, Unsigned as unsigned, Text as text, Name as name, Call as call}
+use Rattle.cel_grammar.specs.declared.tree.Tree.{Select as select, Method as method, Index as index, List as list, Map as map_tree}
+use Rattle.cel_grammar.specs.declared.tree.Tree.{Unary as unary, Binary as binary, Conditional as conditional}
 use Rattle.cel_grammar.specs.declared.tree.Tree.TheOpen.{Tree-F}
-use Rattle.cel_grammar.specs.declared.tree.Tree.TheVariants.{rolls-Null, rolls-Truth, rolls-Number, rolls-Unsigned, rolls-Text, rolls-Name, rolls-Call, rolls-Select, rolls-Method, rolls-Index, rolls-List, rolls-Map, rolls-Unary, rolls-Binary, rolls-Conditional}
+use Rattle.cel_grammar.specs.declared.tree.Tree.TheVariants.{rolls-Null, rolls-Truth, rolls-Number, rolls-Unsigned, rolls-Text}
+use Rattle.cel_grammar.specs.declared.tree.Tree.TheVariants.{rolls-Name, rolls-Call, rolls-Select, rolls-Method, rolls-Index}
+use Rattle.cel_grammar.specs.declared.tree.Tree.TheVariants.{rolls-List, rolls-Map, rolls-Unary, rolls-Binary, rolls-Conditional}
 use Rattle.cel_grammar.specs.declared.tree.Tree.TheFolds.{map-Tree, fold-roll-Tree}
-use Rattle.cel_grammar.specs.Grammar.{Part, Ends, end, comma_end, Derives, whole, chosen, or_one, or_more, and_one, and_more, relation_one, relation_more, sum_one, sum_more, product_one, product_more, bare, nots, minuses, not_one, not_more, negative, minus_one, minus_more, alone, selected, method_called, indexed, none, yes, no, int, uint, string, named, called, within, listed, mapped, Lists, no_items, items, Items, last_item, next_item, Maps, no_entries, entries, Entries, last_entry, next_entry}
+use Rattle.cel_grammar.specs.Grammar.{Part, Ends, end, comma_end, Derives, whole, chosen, or_one, or_more}
+use Rattle.cel_grammar.specs.Grammar.{and_one, and_more, relation_one, relation_more, sum_one, sum_more, product_one, product_more, bare}
+use Rattle.cel_grammar.specs.Grammar.{nots, minuses, not_one, not_more, negative, minus_one, minus_more, alone, selected}
+use Rattle.cel_grammar.specs.Grammar.{method_called, indexed, none, yes, no, int, uint, string, named}
+use Rattle.cel_grammar.specs.Grammar.{called, within, listed, mapped, Lists, no_items, items, Items, last_item}
+use Rattle.cel_grammar.specs.Grammar.{next_item, Maps, no_entries, entries, Entries, last_entry, next_entry}
 
 -- how many there are in all
 abbrev pub total : List ℕ → ℕ

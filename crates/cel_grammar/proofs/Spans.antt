@@ -1,5 +1,6 @@
 -- What stands behind a part of a text.
-use Rattle.std.proofs.Common.{◌≡◌, ℕ, ◌+◌, ◌≤◌, true, List, [], ◌∷◌, length, refl, ap, subst, ◌∙◌, arith, le_refl, le_trans}
+use Rattle.std.proofs.Common.{◌≡◌, ℕ, ◌+◌, ◌≤◌, true, List, [], ◌∷◌}
+use Rattle.std.proofs.Common.{length, refl, ap, subst, ◌∙◌, arith, le_refl, le_trans}
 use Rattle.cel_lex.specs.declared.token.TokenKind.{TokenKind}
 use Rattle.cel_lex.specs.declared.token.TokenKind.TheVariants as kind
 use Rattle.cel_lex.specs.declared.token.Token.{Token}
@@ -9,7 +10,13 @@ use Rattle.cel_grammar.specs.declared.heads.Closer.TheVariants as closer
 use Rattle.cel_grammar.specs.declared.tree.Joint.{Joint}
 use Rattle.cel_grammar.specs.declared.tree.Joint.TheVariants as joint
 use Rattle.cel_grammar.specs.declared.tree.Tree.{Tree}
-use Rattle.cel_grammar.specs.Grammar.{Part, Joins, joint_kind, is_selector, closes, Ends, end, comma_end, Derives, whole, chosen, or_one, or_more, and_one, and_more, relation_one, relation_more, sum_one, sum_more, product_one, product_more, bare, nots, minuses, not_one, not_more, negative, minus_one, minus_more, alone, selected, method_called, indexed, none, yes, no, int, uint, string, named, called, within, listed, mapped, Lists, no_items, items, Items, last_item, next_item, Maps, no_entries, entries, Entries, last_entry, next_entry}
+use Rattle.cel_grammar.specs.Grammar.{Part, Joins, joint_kind, is_selector, closes, Ends, end, comma_end}
+use Rattle.cel_grammar.specs.Grammar.{Derives, whole, chosen, or_one, or_more, and_one, and_more, relation_one}
+use Rattle.cel_grammar.specs.Grammar.{relation_more, sum_one, sum_more, product_one, product_more, bare, nots, minuses}
+use Rattle.cel_grammar.specs.Grammar.{not_one, not_more, negative, minus_one, minus_more, alone, selected, method_called}
+use Rattle.cel_grammar.specs.Grammar.{indexed, none, yes, no, int, uint, string, named}
+use Rattle.cel_grammar.specs.Grammar.{called, within, listed, mapped, Lists, no_items, items, Items}
+use Rattle.cel_grammar.specs.Grammar.{last_item, next_item, Maps, no_entries, entries, Entries, last_entry, next_entry}
 use Rattle.cel_grammar.specs.Limits.{open_after, nests, IsEnd, whole_text, behind}
 
 pub joined_ends : {us vs ts : List Token} → IsEnd us vs → IsEnd vs ts → IsEnd us ts
@@ -88,7 +95,8 @@ end_le (behind e) = let le = end_le e in omega arith
 pub nests_behind : (k : ℕ) (t : Token) (ts : List Token) → nests (open_after k t.kind) ts ≤ nests k (t ∷ ts)
 nests_behind k t ts = omega arith
 
-pub past_plain : (k : ℕ) (t : Token) (ts : List Token) {n : ℕ} → open_after k t.kind ≡ k → n ≤ nests k ts → n ≤ nests k (t ∷ ts)
+pub past_plain : (k : ℕ) (t : Token) (ts : List Token) {n : ℕ} → open_after k t.kind ≡ k → n ≤ nests k ts
+    → n ≤ nests k (t ∷ ts)
 past_plain k t ts {n} q le =
     let u : nests k ts ≤ nests k (t ∷ ts) = subst (λ m. nests m ts ≤ nests k (t ∷ ts)) q (nests_behind k t ts) in
     le_trans le u
@@ -112,12 +120,14 @@ closing_shuts _ _ k h = absurd cc
 pub past_token : (k m : ℕ) (t : Token) (ts : List Token) → open_after k t.kind ≡ m → nests m ts ≤ nests k (t ∷ ts)
 past_token k m t ts q = subst (λ n. nests n ts ≤ nests k (t ∷ ts)) q (nests_behind k t ts)
 
-pub past_operator : {t : Token} {o : Joint} {n : ℕ} {a b : ℕ} (mid : List Token) (k : ℕ) → Joins t o n → nests k (t ∷ mid) ≤ b → a ≤ nests k mid → a ≤ b
+pub past_operator : {t : Token} {o : Joint} {n : ℕ} {a b : ℕ} (mid : List Token) (k : ℕ) → Joins t o n → nests k (t ∷ mid) ≤ b
+    → a ≤ nests k mid → a ≤ b
 past_operator {t} {o} mid k j h g = le_trans (past_plain k t mid (ap (open_after k) j.kind ∙ joint_plain o k) g) h
 
 pub balanced_end : {c : Closer} {ts rest : List Token} → Ends c ts rest → (k : ℕ) → nests k rest ≤ nests (k + 1) ts
 balanced_end {c} (end {k = t} {rest} q) k = past_token (k + 1) k t rest (closing_shuts c t.kind k q)
-balanced_end {c} (comma_end {m} {k = t} {rest} z h q) k = past_plain (k + 1) m (t ∷ rest) (ap (open_after (k + 1)) h) (past_token (k + 1) k t rest (closing_shuts c t.kind k q))
+balanced_end {c} (comma_end {m} {k = t} {rest} z h q) k =
+    past_plain (k + 1) m (t ∷ rest) (ap (open_after (k + 1)) h) (past_token (k + 1) k t rest (closing_shuts c t.kind k q))
 
 -- a part closes the brackets that it opens
 mutual
@@ -145,13 +155,26 @@ mutual
   balanced (minuses d) k = balanced d k
   balanced (not_one {t} {ts} q d) k = past_plain k t ts (ap (open_after k) q) (balanced d k)
   balanced (not_more {t} {ts} q d) k = past_plain k t ts (ap (open_after k) q) (balanced d k)
-  balanced (negative {t} {n} {magnitude} {rest} q h) k = past_plain k t (n ∷ rest) (ap (open_after k) q) (past_plain k n rest (ap (open_after k) h) (le_refl (nests k rest)))
+  balanced (negative {t} {n} {magnitude} {rest} q h) k =
+      past_plain k t (n ∷ rest) (ap (open_after k) q) (past_plain k n rest (ap (open_after k) h) (le_refl (nests k rest)))
   balanced (minus_one {t} {ts} q l d) k = past_plain k t ts (ap (open_after k) q) (balanced d k)
   balanced (minus_more {t} {ts} q d) k = past_plain k t ts (ap (open_after k) q) (balanced d k)
   balanced (alone d) k = balanced d k
-  balanced (selected {rest = rest} {d = p} {f = t} d q h) k = le_trans (past_plain k p (t ∷ rest) (ap (open_after k) q) (past_plain k t rest (selector_plain t.kind k h) (le_refl (nests k rest)))) (balanced d k)
-  balanced (method_called {mid = mid} {d = p} {f = t} {o} d q h z r) k = le_trans (le_trans (balanced_list r k) (past_plain k p (t ∷ o ∷ mid) (ap (open_after k) q) (past_plain k t (o ∷ mid) (selector_plain t.kind k h) (past_token k (k + 1) o mid (ap (open_after k) z))))) (balanced d k)
-  balanced (indexed {mid = mid} {rest} {o} {k = t} d q r h) k = le_trans (le_trans (le_trans (past_token (k + 1) k t rest (closing_shuts closer.Bracket t.kind k (ap (closes closer.Bracket) h))) (balanced r (k + 1))) (past_token k (k + 1) o mid (ap (open_after k) q))) (balanced d k)
+  balanced (selected {rest = rest} {d = p} {f = t} d q h) k =
+      le_trans
+      (past_plain k p (t ∷ rest) (ap (open_after k) q) (past_plain k t rest (selector_plain t.kind k h) (le_refl (nests k rest))))
+      (balanced d k)
+  balanced (method_called {mid = mid} {d = p} {f = t} {o} d q h z r) k =
+      le_trans
+      (le_trans (balanced_list r k)
+      (past_plain k p (t ∷ o ∷ mid) (ap (open_after k) q) (past_plain k t (o ∷ mid) (selector_plain t.kind k h) (past_token k (k + 1) o mid (ap (open_after k) z)))))
+      (balanced d k)
+  balanced (indexed {mid = mid} {rest} {o} {k = t} d q r h) k =
+      le_trans
+      (le_trans
+      (le_trans (past_token (k + 1) k t rest (closing_shuts closer.Bracket t.kind k (ap (closes closer.Bracket) h))) (balanced r (k + 1)))
+      (past_token k (k + 1) o mid (ap (open_after k) q)))
+      (balanced d k)
   balanced (none {t} {rest} q) k = past_plain k t rest (ap (open_after k) q) (le_refl (nests k rest))
   balanced (yes {t} {rest} q) k = past_plain k t rest (ap (open_after k) q) (le_refl (nests k rest))
   balanced (no {t} {rest} q) k = past_plain k t rest (ap (open_after k) q) (le_refl (nests k rest))
@@ -159,26 +182,41 @@ mutual
   balanced (uint {t} {value} {rest} q) k = past_plain k t rest (ap (open_after k) q) (le_refl (nests k rest))
   balanced (string {t} {value} {rest} q) k = past_plain k t rest (ap (open_after k) q) (le_refl (nests k rest))
   balanced (named {t} {rest} q) k = past_plain k t rest (ap (open_after k) q) (le_refl (nests k rest))
-  balanced (called {t} {o} {ts} q h r) k = le_trans (balanced_list r k) (past_plain k t (o ∷ ts) (ap (open_after k) q) (past_token k (k + 1) o ts (ap (open_after k) h)))
-  balanced (within {o} {k = t} {ts} {rest} q d h) k = le_trans (le_trans (past_token (k + 1) k t rest (closing_shuts closer.Parenthesis t.kind k (ap (closes closer.Parenthesis) h))) (balanced d (k + 1))) (past_token k (k + 1) o ts (ap (open_after k) q))
+  balanced (called {t} {o} {ts} q h r) k =
+      le_trans (balanced_list r k) (past_plain k t (o ∷ ts) (ap (open_after k) q) (past_token k (k + 1) o ts (ap (open_after k) h)))
+  balanced (within {o} {k = t} {ts} {rest} q d h) k =
+      le_trans
+      (le_trans (past_token (k + 1) k t rest (closing_shuts closer.Parenthesis t.kind k (ap (closes closer.Parenthesis) h)))
+      (balanced d (k + 1)))
+      (past_token k (k + 1) o ts (ap (open_after k) q))
   balanced (listed {o} {ts} q r) k = le_trans (balanced_list r k) (past_token k (k + 1) o ts (ap (open_after k) q))
   balanced (mapped {o} {ts} q r) k = le_trans (balanced_map r k) (past_token k (k + 1) o ts (ap (open_after k) q))
 
-  pub balanced_list : {c : Closer} {ts rest : List Token} {es : List Tree} → Lists c ts rest es → (k : ℕ) → nests k rest ≤ nests (k + 1) ts
+  pub balanced_list : {c : Closer} {ts rest : List Token} {es : List Tree} → Lists c ts rest es → (k : ℕ)
+      → nests k rest ≤ nests (k + 1) ts
   balanced_list (no_items e) k = balanced_end e k
   balanced_list (items r) k = balanced_items r k
 
-  pub balanced_items : {c : Closer} {ts rest : List Token} {es : List Tree} → Items c ts rest es → (k : ℕ) → nests k rest ≤ nests (k + 1) ts
+  pub balanced_items : {c : Closer} {ts rest : List Token} {es : List Tree} → Items c ts rest es → (k : ℕ)
+      → nests k rest ≤ nests (k + 1) ts
   balanced_items (last_item d e) k = le_trans (balanced_end e k) (balanced d (k + 1))
-  balanced_items (next_item {mid = mid} {m = m} d q r) k = le_trans (past_plain (k + 1) m mid (ap (open_after (k + 1)) q) (balanced_items r k)) (balanced d (k + 1))
+  balanced_items (next_item {mid = mid} {m = m} d q r) k =
+      le_trans (past_plain (k + 1) m mid (ap (open_after (k + 1)) q) (balanced_items r k)) (balanced d (k + 1))
 
   pub balanced_map : {ts rest : List Token} {es : List (Entry Tree)} → Maps ts rest es → (k : ℕ) → nests k rest ≤ nests (k + 1) ts
   balanced_map (no_entries e) k = balanced_end e k
   balanced_map (entries r) k = balanced_entries r k
 
-  pub balanced_entries : {ts rest : List Token} {es : List (Entry Tree)} → Entries ts rest es → (k : ℕ) → nests k rest ≤ nests (k + 1) ts
-  balanced_entries (last_entry {last = last} {k = t} d q b e) k = le_trans (past_plain (k + 1) t last (ap (open_after (k + 1)) q) (le_trans (balanced_end e k) (balanced b (k + 1)))) (balanced d (k + 1))
-  balanced_entries (next_entry {last = last} {mid} {k = t} {m} d q b h r) k = le_trans (past_plain (k + 1) t last (ap (open_after (k + 1)) q) (le_trans (past_plain (k + 1) m mid (ap (open_after (k + 1)) h) (balanced_entries r k)) (balanced b (k + 1)))) (balanced d (k + 1))
+  pub balanced_entries : {ts rest : List Token} {es : List (Entry Tree)} → Entries ts rest es → (k : ℕ)
+      → nests k rest ≤ nests (k + 1) ts
+  balanced_entries (last_entry {last = last} {k = t} d q b e) k =
+      le_trans (past_plain (k + 1) t last (ap (open_after (k + 1)) q) (le_trans (balanced_end e k) (balanced b (k + 1))))
+      (balanced d (k + 1))
+  balanced_entries (next_entry {last = last} {mid} {k = t} {m} d q b h r) k =
+      le_trans
+      (past_plain (k + 1) t last (ap (open_after (k + 1)) q)
+      (le_trans (past_plain (k + 1) m mid (ap (open_after (k + 1)) h) (balanced_entries r k)) (balanced b (k + 1))))
+      (balanced d (k + 1))
 
 pub nests_ge : (k : ℕ) (ts : List Token) → k ≤ nests k ts
 nests_ge k [] = le_refl k

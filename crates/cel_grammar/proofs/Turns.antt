@@ -1,5 +1,6 @@
 -- One turn of the loops over operators and over what goes on a member, and what stands behind a sign.
-use Rattle.std.proofs.Common.{◌≡◌, ℕ, suc, ◌+◌, ◌-◌, ◌<◌, ◌≤◌, List, Option, Some, None, Result, Ok, Err, sym, ap, subst, ◌∙◌, arith}
+use Rattle.std.proofs.Common.{◌≡◌, ℕ, suc, ◌+◌, ◌-◌, ◌<◌, ◌≤◌, List, Option, Some}
+use Rattle.std.proofs.Common.{None, Result, Ok, Err, sym, ap, subst, ◌∙◌, arith}
 use Rattle.cel_lex.specs.declared.token.Token.{Token}
 use Rattle.cel_grammar.specs.declared.fault.ParseFault.TheVariants.{TooDeep}
 use Rattle.cel_grammar.specs.declared.fault.ParseError.{ParseError}
@@ -8,7 +9,8 @@ use Rattle.cel_grammar.specs.declared.tree.Tree.{Tree}
 use Rattle.cel_grammar.specs.declared.tree.UnaryOperator.TheVariants.{Not}
 use Rattle.cel_grammar.specs.declared.nodes.Taken.{Taken}
 use Rattle.cel_grammar.specs.Views.{seen, Fails, Gives}
-use Rattle.cel_grammar.specs.Descent.{◌>>=◌, Found, Read, Reader, head_if, is_bang, is_minus, if_at, more, member, wrapped, nots_at, minuses_at, unary_at}
+use Rattle.cel_grammar.specs.Descent.{◌>>=◌, Found, Read, Reader, head_if, is_bang, is_minus}
+use Rattle.cel_grammar.specs.Descent.{if_at, more, member, wrapped, nots_at, minuses_at, unary_at}
 
 module _ {A : Type 0} (ask : List Token → Option A) (act : A → Found Tree → Read) (t : ℕ) (left : Found Tree) (total : Read) (lt : t < 100) (kept : more ask act (100 - t) left ≡ total) where
   next : Option A → Read
@@ -40,14 +42,19 @@ module _ {A : Type 0} (ask : List Token → Option A) (act : A → Found Tree �
     loop_goes_on both q = sym (after_act (Ok both) q)
 
 -- no turn is left
-pub out_of_turns : {A : Type 0} (ask : List Token → Option A) (act : A → Found Tree → Read) (t : ℕ) (left : Found Tree) (total : Read) → 100 ≤ t → more ask act (100 - t) left ≡ total → total ≡ Err TooDeep
+pub out_of_turns : {A : Type 0} (ask : List Token → Option A) (act : A → Found Tree → Read) (t : ℕ) (left : Found Tree)
+    (total : Read) → 100 ≤ t → more ask act (100 - t) left ≡ total → total ≡ Err TooDeep
 unfolding more
 out_of_turns ask act t left total le kept =
     let e : 100 - t ≡ 0 = omega arith in
     sym kept ∙ ap (λ k. more ask act k left) e
 
 -- a sign "!" stands first
-pub nots_give : (inner : Reader) (source : List ℕ) (brackets : ℕ) (ts : List Token) (x : ℕ × List Token) (r : Result (Taken Tree) ParseError) → Some x ≡ head_if is_bang ts → Gives seen r (nots_at inner source brackets 100 x.1 >>= wrapped x.0 Not) → Gives seen r (unary_at inner source brackets ts)
+pub nots_give : (inner : Reader) (source : List ℕ) (brackets : ℕ) (ts : List Token) (x : ℕ × List Token)
+    (r : Result (Taken Tree) ParseError) → Some x ≡ head_if is_bang ts
+    → Gives seen r (nots_at inner source brackets 100 x.1 >>= wrapped x.0 Not) → Gives seen r (unary_at inner source brackets ts)
 unfolding unary_at
 nots_give inner source brackets ts x r h g =
-    subst (λ (o : Option (ℕ × List Token)). Gives seen r (if_at o (if_at (head_if is_minus ts) (member inner source brackets ts) (λ x. minuses_at inner source brackets 100 x.0 x.1)) (λ x. nots_at inner source brackets 100 x.1 >>= wrapped x.0 Not))) h g
+    subst
+    (λ (o : Option (ℕ × List Token)). Gives seen r (if_at o (if_at (head_if is_minus ts) (member inner source brackets ts) (λ x. minuses_at inner source brackets 100 x.0 x.1)) (λ x. nots_at inner source brackets 100 x.1 >>= wrapped x.0 Not)))
+    h g

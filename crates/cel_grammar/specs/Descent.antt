@@ -1,5 +1,6 @@
 -- Reading tokens from left to right, without left recursion, with the first fault that is met.
-use Rattle.std.specs.Prelude.{ℕ, zero, suc, ◌+◌, max, Bool, true, false, List, [], ◌∷◌, length, Option, Some, None, Result, Ok, Err, nat_lt, nat_eq, if◌then◌else◌}
+use Rattle.std.specs.Prelude.{ℕ, zero, suc, ◌+◌, max, Bool, true, false, List, [], ◌∷◌}
+use Rattle.std.specs.Prelude.{length, Option, Some, None, Result, Ok, Err, nat_lt, nat_eq, if◌then◌else◌}
 use Rattle.cel_lex.specs.declared.token.Infix.{Infix}
 use Rattle.cel_lex.specs.declared.token.Infix.TheVariants as op
 use Rattle.cel_lex.specs.declared.token.TokenKind.{TokenKind}
@@ -16,7 +17,10 @@ use Rattle.cel_grammar.specs.declared.heads.Suffix.{Suffix}
 use Rattle.cel_grammar.specs.declared.heads.Suffix.TheVariants as suffix
 use Rattle.cel_grammar.specs.declared.tree.Joint.{Joint}
 use Rattle.cel_grammar.specs.declared.tree.Joint.TheVariants as joint
-use Rattle.cel_grammar.specs.declared.tree.Tree.{Tree, Null as null, Truth as truth, Number as number, Unsigned as unsigned, Text as text, Name as name, Call as call, Select as select, Method as method_call, Index as index, List as list, Map as map, Unary as unary, Binary as binary, Conditional as conditional}
+use Rattle.cel_grammar.specs.declared.tree.Tree.{Tree, Null as null, Truth as truth, Number as number}
+use Rattle.cel_grammar.specs.declared.tree.Tree.{Unsigned as unsigned, Text as text, Name as name, Call as call}
+use Rattle.cel_grammar.specs.declared.tree.Tree.{Select as select, Method as method_call, Index as index, List as list}
+use Rattle.cel_grammar.specs.declared.tree.Tree.{Map as map, Unary as unary, Binary as binary, Conditional as conditional}
 use Rattle.cel_grammar.specs.Grammar.{looseness, closes, takes_comma, is_selector, place_at}
 use Rattle.cel_grammar.specs.Limits.{is_test}
 

@@ -12,7 +12,10 @@ use Rattle.cel_grammar.specs.declared.heads.Closer.{Closer}
 use Rattle.cel_grammar.specs.declared.heads.Closer.TheVariants as closer
 use Rattle.cel_grammar.specs.declared.tree.Joint.{Joint}
 use Rattle.cel_grammar.specs.declared.tree.Joint.TheVariants as joint
-use Rattle.cel_grammar.specs.declared.tree.Tree.{Tree, Null as null, Truth as truth, Number as number, Unsigned as unsigned, Text as text, Name as name, Call as call, Select as select, Method as method, Index as index, List as list, Map as map, Unary as unary, Binary as binary, Conditional as conditional}
+use Rattle.cel_grammar.specs.declared.tree.Tree.{Tree, Null as null, Truth as truth, Number as number}
+use Rattle.cel_grammar.specs.declared.tree.Tree.{Unsigned as unsigned, Text as text, Name as name, Call as call}
+use Rattle.cel_grammar.specs.declared.tree.Tree.{Select as select, Method as method, Index as index, List as list}
+use Rattle.cel_grammar.specs.declared.tree.Tree.{Map as map, Unary as unary, Binary as binary, Conditional as conditional}
 
 -- the parts of the grammar, where Nots and Minuses are one sign or more and their operand
 pub data Part : Type 0 where

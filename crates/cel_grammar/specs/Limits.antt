@@ -1,5 +1,6 @@
 -- How deep a tree and its text may be.
-use Rattle.std.specs.Prelude.{◌≡◌, ℕ, suc, ◌+◌, ◌-◌, ◌<◌, ◌≤◌, max, Bool, true, false, ◌&&◌, List, [], ◌∷◌, map}
+use Rattle.std.specs.Prelude.{◌≡◌, ℕ, suc, ◌+◌, ◌-◌, ◌<◌, ◌≤◌, max}
+use Rattle.std.specs.Prelude.{Bool, true, false, ◌&&◌, List, [], ◌∷◌, map}
 use Rattle.cel_lex.specs.declared.token.Infix.TheVariants.{Subtract}
 use Rattle.cel_lex.specs.declared.token.TokenKind.{TokenKind}
 use Rattle.cel_lex.specs.declared.token.TokenKind.TheVariants as kind

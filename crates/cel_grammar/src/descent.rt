@@ -5,7 +5,8 @@ ghost use Rattle.cel_grammar.specs.declared.fault.ParseFault.{ParseFault};
 ghost use Rattle.cel_grammar.specs.declared.fault.ParseError.TheVariants as errors;
 ghost use Rattle.cel_grammar.specs.Trees.{IsTree, HasNoTree};
 ghost use Rattle.cel_grammar.specs.Views.{seen, same, Gives};
-ghost use Rattle.cel_grammar.specs.Descent.{primary, suffixed, member, nots_at, minuses_at, unary_at, operators, conditional_at, expression, items, entry, entries, all_of};
+ghost use Rattle.cel_grammar.specs.Descent.{primary, suffixed, member, nots_at, minuses_at, unary_at, operators};
+ghost use Rattle.cel_grammar.specs.Descent.{conditional_at, expression, items, entry, entries, all_of};
 
 use crate::fault::{ParseError, ParseFault};
 use crate::heads::{

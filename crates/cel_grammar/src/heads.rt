@@ -5,7 +5,8 @@ ghost use Rattle.cel_grammar.specs.declared.fault.ParseError.TheVariants as erro
 ghost use Rattle.cel_grammar.specs.declared.fault.ParseFault.TheVariants.{Unexpected};
 ghost use Rattle.cel_grammar.specs.Grammar.{looseness, closes, takes_comma, is_selector, place_at};
 ghost use Rattle.cel_grammar.specs.Views.{same, seen_head, seen_operator, seen_step, Gives};
-ghost use Rattle.cel_grammar.specs.Descent.{head_if, is_bang, is_open, is_comma, is_question, is_colon, is_minus, number_at, lone_at, joint_at, operator_at, suffix_at, end_at, spare_comma_at, step_at};
+ghost use Rattle.cel_grammar.specs.Descent.{head_if, is_bang, is_open, is_comma, is_question, is_colon, is_minus};
+ghost use Rattle.cel_grammar.specs.Descent.{number_at, lone_at, joint_at, operator_at, suffix_at, end_at, spare_comma_at, step_at};
 
 use crate::fault::{ParseError, ParseFault};
 use crate::tree::Joint;

@@ -5,7 +5,8 @@ ghost use Rattle.cel_grammar.specs.declared.tree.Tree.TheVariants.{Number};
 ghost use Rattle.cel_grammar.specs.declared.heads.Closer.TheVariants.{Parenthesis};
 ghost use Rattle.cel_grammar.specs.Limits.{measure, is_test};
 ghost use Rattle.cel_grammar.specs.Views.{seen, seen_head, Gives, Carries};
-ghost use Rattle.cel_grammar.specs.Descent.{node, leaf, literal_of, closed, wrapped, joined, picked, listed, mapped, called, selected, method, indexed_behind, entered_behind, opened};
+ghost use Rattle.cel_grammar.specs.Descent.{node, leaf, literal_of, closed, wrapped, joined, picked, listed, mapped};
+ghost use Rattle.cel_grammar.specs.Descent.{called, selected, method, indexed_behind, entered_behind, opened};
 
 use crate::fault::{ParseError, ParseFault};
 use crate::heads::{Closer, closing_at, end_at, spare_comma_at, unexpected_at};

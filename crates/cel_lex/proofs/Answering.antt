@@ -1,5 +1,6 @@
 -- The answer for a text is its cut, or its fault.
-use Rattle.std.proofs.Common.{◌≡◌, ℕ, zero, suc, ◌+◌, ◌<◌, ◌≤◌, Bool, true, false, cond, List, [], ◌∷◌, length, drop, Option, Some, None, Ok, Err, refl, ap, subst, arith, length-drop}
+use Rattle.std.proofs.Common.{◌≡◌, ℕ, zero, suc, ◌+◌, ◌<◌, ◌≤◌, Bool, true, false, cond, List, []}
+use Rattle.std.proofs.Common.{◌∷◌, length, drop, Option, Some, None, Ok, Err, refl, ap, subst, arith, length-drop}
 use Rattle.std.specs.Prelude.{nat_lt}
 use Rattle.std.proofs.lemmas.Bool.Decides.{nat_tests}
 use Rattle.cel_lex.specs.declared.token.Token.{Token}
@@ -8,7 +9,8 @@ use Rattle.cel_lex.specs.declared.piece.Piece.{Piece}
 use Rattle.cel_lex.specs.declared.piece.Piece.TheVariants as piece
 use Rattle.cel_lex.specs.declared.fault.LexFault.{LexFault}
 use Rattle.cel_lex.specs.declared.fault.LexFaultKind.TheVariants as fault
-use Rattle.cel_lex.specs.Lexis.{piece_of, IsNext, Cuts, Fails, IsCut, Refuses, too_long, first, end, blank, token, faulty, bad, after_blank, after_token}
+use Rattle.cel_lex.specs.Lexis.{piece_of, IsNext, Cuts, Fails, IsCut, Refuses, too_long, first}
+use Rattle.cel_lex.specs.Lexis.{end, blank, token, faulty, bad, after_blank, after_token}
 use Rattle.cel_lex.specs.Scan.{next_of, Reads}
 use Rattle.cel_lex.specs.Answer.{Answer, in_front, with_piece, with_next, answer_from, answer_of}
 use Rattle.cel_lex.proofs.PieceNext.{next_reads}
@@ -19,7 +21,8 @@ data IsRight (place : ℕ) (bytes : List ℕ) : Answer → Type 0 where
   cuts : {ts : List Token} → Cuts place bytes ts → IsRight place bytes (Ok ts)
   fails : {f : LexFault} → Fails place bytes f → IsRight place bytes (Err f)
 
-behind_blank : {place : ℕ} {bytes : List ℕ} {n : ℕ} {r : Answer} → IsNext bytes n piece.Blank → IsRight (place + n) (drop n bytes) r
+behind_blank : {place : ℕ} {bytes : List ℕ} {n : ℕ} {r : Answer} → IsNext bytes n piece.Blank
+    → IsRight (place + n) (drop n bytes) r
     → IsRight place bytes r
 behind_blank h (cuts c) = cuts (blank h c)
 behind_blank h (fails x) = fails (after_blank h x)
@@ -29,7 +32,8 @@ behind_token : {place : ℕ} {bytes : List ℕ} {n : ℕ} {r : Answer} (k : Toke
 behind_token k h (cuts c) = cuts (token h c)
 behind_token k h (fails x) = fails (after_token h x)
 
-by_piece : (place n b : ℕ) (bs : List ℕ) (w : Piece) (r : Answer) → IsNext (b ∷ bs) n w → IsRight (place + n) (drop n (b ∷ bs)) r
+by_piece : (place n b : ℕ) (bs : List ℕ) (w : Piece) (r : Answer) → IsNext (b ∷ bs) n w
+    → IsRight (place + n) (drop n (b ∷ bs)) r
     → IsRight place (b ∷ bs) (with_piece place n w r)
 by_piece place n b bs piece.Blank r h rest = behind_blank h rest
 by_piece place n b bs (piece.Faulty f) r h rest = fails (faulty h)

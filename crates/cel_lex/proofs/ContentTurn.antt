@@ -1,5 +1,7 @@
 -- One turn of the loop over what a text means.
-use Rattle.std.proofs.Common.{◌≡◌, ℕ, ◌+◌, ◌-◌, ◌<◌, ◌≤◌, Bool, true, false, List, [], ◌∷◌, ◌++◌, length, take, drop, get_or, Some, None, Result, Ok, Err, refl, sym, ap, subst, ◌∙◌, inl, inr, arith, rules, eq-eqb, length-drop, append-nil}
+use Rattle.std.proofs.Common.{◌≡◌, ℕ, ◌+◌, ◌-◌, ◌<◌, ◌≤◌, Bool, true, false, List, [], ◌∷◌}
+use Rattle.std.proofs.Common.{◌++◌, length, take, drop, get_or, Some, None, Result, Ok, Err, refl, sym}
+use Rattle.std.proofs.Common.{ap, subst, ◌∙◌, inl, inr, arith, rules, eq-eqb, length-drop, append-nil}
 use Rattle.std.specs.Prelude.{nat_eq, not}
 use Rattle.std.specs.Char.{encode_utf8}
 use Rattle.std.specs.List.{prefix_len}
@@ -53,7 +55,8 @@ module _ (bytes : List ℕ) (place : ℕ) (lt : place < length bytes) where
         let last : place + 1 + (n - 1) ≡ place + n = omega arith in
         let byte : get_or bytes (place + n) 0 < 128 = omega (arith, ap (λ x. get_or bytes x 0) last) in
         let within = escape_within in
-        subst (λ x. IsCharBoundary bytes x) (let same : place + n + 1 ≡ place + (1 + n) = omega arith in same) (IsCharBoundary-after_ascii bytes (place + n) utf8 (omega arith) byte)
+        subst (λ x. IsCharBoundary bytes x) (let same : place + n + 1 ≡ place + (1 + n) = omega arith in same)
+        (IsCharBoundary-after_ascii bytes (place + n) utf8 (omega arith) byte)
 
   module _ (n : ℕ) (is : n ≡ prefix_len is_plain rest) where
     pub plain_within : place + (1 + n) ≤ length bytes
@@ -74,10 +77,14 @@ module _ (bytes : List ℕ) (place : ℕ) (lt : place < length bytes) where
     pub bad_turn : get_or bytes place 0 ≡ 92 → None ≡ escape_of rest → Err place ≡ total
     bad_turn e none =
         ap (λ (x : ℕ). Err x) (omega arith)
-        ∙ sym (ap (after out place) (ap (meaning_of 0) from_here ∙ bad_escape (get_or bytes place 0) rest (eq-eqb (get_or bytes place 0) 92 e) (sym none)))
+        ∙ sym
+        (ap (after out place)
+        (ap (meaning_of 0) from_here ∙ bad_escape (get_or bytes place 0) rest (eq-eqb (get_or bytes place 0) 92 e) (sym none)))
         ∙ kept
 
-    turned : (value : List ℕ) (n : ℕ) → meaning_of 0 (get_or bytes place 0 ∷ rest) ≡ after value n (meaning_of 0 (drop n (get_or bytes place 0 ∷ rest))) → after (out ++ value) (place + n) (meaning_of 0 (drop (place + n) bytes)) ≡ total
+    turned : (value : List ℕ) (n : ℕ)
+        → meaning_of 0 (get_or bytes place 0 ∷ rest) ≡ after value n (meaning_of 0 (drop n (get_or bytes place 0 ∷ rest)))
+        → after (out ++ value) (place + n) (meaning_of 0 (drop (place + n) bytes)) ≡ total
     turned value n means =
         sym (after_after out value place n (meaning_of 0 (drop (place + n) bytes)))
         ∙ ap (λ (x : List ℕ). after out place (after value n (meaning_of 0 x))) (sym (further n))
@@ -85,20 +92,27 @@ module _ (bytes : List ℕ) (place : ℕ) (lt : place < length bytes) where
         ∙ ap (λ (x : List ℕ). after out place (meaning_of 0 x)) (sym from_here)
         ∙ kept
 
-    pub escape_turn : (n v : ℕ) → get_or bytes place 0 ≡ 92 → escape_of rest ≡ Some (v, n) → after (out ++ encode_utf8 v) (place + (1 + n)) (meaning_of 0 (drop (place + (1 + n)) bytes)) ≡ total
-    escape_turn n v e is = turned (encode_utf8 v) (1 + n) (escape_first (get_or bytes place 0) rest v n (eq-eqb (get_or bytes place 0) 92 e) is)
+    pub escape_turn : (n v : ℕ) → get_or bytes place 0 ≡ 92 → escape_of rest ≡ Some (v, n)
+        → after (out ++ encode_utf8 v) (place + (1 + n)) (meaning_of 0 (drop (place + (1 + n)) bytes)) ≡ total
+    escape_turn n v e is =
+        turned (encode_utf8 v) (1 + n) (escape_first (get_or bytes place 0) rest v n (eq-eqb (get_or bytes place 0) 92 e) is)
 
-    pub plain_turn : (n : ℕ) → (get_or bytes place 0 ≡ 92 → ⊥) → n ≡ prefix_len is_plain rest → after (out ++ take (1 + n) (drop place bytes)) (place + (1 + n)) (meaning_of 0 (drop (place + (1 + n)) bytes)) ≡ total
+    pub plain_turn : (n : ℕ) → (get_or bytes place 0 ≡ 92 → ⊥) → n ≡ prefix_len is_plain rest
+        → after (out ++ take (1 + n) (drop place bytes)) (place + (1 + n)) (meaning_of 0 (drop (place + (1 + n)) bytes)) ≡ total
     plain_turn n e is =
         ap (λ (x : List ℕ). after (out ++ take (1 + n) x) (place + (1 + n)) (meaning_of 0 (drop (place + (1 + n)) bytes))) from_here
-        ∙ turned (take (1 + n) (get_or bytes place 0 ∷ rest)) (1 + n) (run_first (get_or bytes place 0) rest n (not_backslash (get_or bytes place 0) e) is)
+        ∙ turned (take (1 + n) (get_or bytes place 0 ∷ rest)) (1 + n)
+        (run_first (get_or bytes place 0) rest n (not_backslash (get_or bytes place 0) e) is)
 
 meaning_nil : meaning_of 0 [] ≡ Ok []
 unfolding meaning_of
 meaning_nil = refl
 
 -- the whole text has been read
-pub all_read : (bytes out : List ℕ) (place : ℕ) (total : Result (List ℕ) ℕ) → length bytes ≤ place → after out place (meaning_of 0 (drop place bytes)) ≡ total → Ok out ≡ total
+pub all_read : (bytes out : List ℕ) (place : ℕ) (total : Result (List ℕ) ℕ) → length bytes ≤ place
+    → after out place (meaning_of 0 (drop place bytes)) ≡ total → Ok out ≡ total
 all_read bytes out place total le kept =
-    sym (ap (λ (x : List ℕ). after out place (meaning_of 0 x)) (drop_all place bytes le) ∙ ap (after out place) meaning_nil ∙ ap (λ (x : List ℕ). Ok x) (append-nil out))
+    sym
+    (ap (λ (x : List ℕ). after out place (meaning_of 0 x)) (drop_all place bytes le) ∙ ap (after out place) meaning_nil ∙ ap
+    (λ (x : List ℕ). Ok x) (append-nil out))
     ∙ kept

@@ -1,5 +1,6 @@
 -- Numbers from digits.
-use Rattle.std.proofs.Common.{◌≡◌, ℕ, ◌+◌, ◌*◌, ◌<◌, ◌≤◌, Bool, true, false, cond, List, [], ◌∷◌, Some, None, length, drop, get_or, refl, arith, rules}
+use Rattle.std.proofs.Common.{◌≡◌, ℕ, ◌+◌, ◌*◌, ◌<◌, ◌≤◌, Bool, true, false, cond, List}
+use Rattle.std.proofs.Common.{[], ◌∷◌, Some, None, length, drop, get_or, refl, arith, rules}
 use Rattle.std.specs.Prelude.{nat_le}
 use Rattle.std.specs.Char.{digit_value}
 use Rattle.std.proofs.lemmas.List.{at_drop_more}
@@ -21,7 +22,9 @@ is_past : (most v : ℕ) → most < v → None ≡ at_most most v
 is_past most v lt = none_by (nat_le v most) v (search (rules))
 
 -- the digits so far are past the most
-pub past_now : (most base : ℕ) (ds : List ℕ) (i v : ℕ) → 1 ≤ base → i < length ds → most < v * base + digit_value (get_or ds i 0) → value_of base v (drop i ds) ≡ value_of base 0 ds → None ≡ at_most most (value_of base 0 ds)
+pub past_now : (most base : ℕ) (ds : List ℕ) (i v : ℕ) → 1 ≤ base → i < length ds
+    → most < v * base + digit_value (get_or ds i 0) → value_of base v (drop i ds) ≡ value_of base 0 ds
+    → None ≡ at_most most (value_of base 0 ds)
 past_now most base ds i v some lt over kept =
     let step = at_drop_more (value_of base v) ds i 0 lt in
     let grows = value_grows base (v * base + digit_value (get_or ds i 0)) (drop (i + 1) ds) some in

@@ -1,5 +1,7 @@
 -- The closing quotes that are found are the first that no backslash escapes.
-use Rattle.std.proofs.Common.{◌≡◌, ℕ, zero, suc, ◌+◌, ◌≤◌, Bool, true, false, cond, List, [], ◌∷◌, ◌++◌, length, drop, length-drop, Option, Some, None, option_map, refl, sym, ap, ◌∙◌, inl, inr, arith, rules, true≢false}
+use Rattle.std.proofs.Common.{◌≡◌, ℕ, zero, suc, ◌+◌, ◌≤◌, Bool, true, false, cond}
+use Rattle.std.proofs.Common.{List, [], ◌∷◌, ◌++◌, length, drop, length-drop, Option, Some, None}
+use Rattle.std.proofs.Common.{option_map, refl, sym, ap, ◌∙◌, inl, inr, arith, rules, true≢false}
 use Rattle.std.specs.Prelude.{not, ◌&&◌, ◌||◌, nat_eq}
 use Rattle.std.proofs.lemmas.Bool.{and_parts, cases_Bool}
 use Rattle.cel_lex.specs.declared.literal.Style.{Style}
@@ -46,7 +48,8 @@ closing_first : (s : Style) (rest : List ℕ) → closes s (closing_quotes s ++ 
 closing_first s rest = close_by s.is_triple s rest refl
 
 -- the search at closing quotes
-found_here : (three : Bool) (s : Style) (rest : List ℕ) → s.is_triple ≡ three → closed_at s false (quotes_of three s.quote ++ rest) ≡ Some 0
+found_here : (three : Bool) (s : Style) (rest : List ℕ) → s.is_triple ≡ three
+    → closed_at s false (quotes_of three s.quote ++ rest) ≡ Some 0
 found_here true s rest is =
     closed_is s false s.quote (s.quote ∷ s.quote ∷ rest)
     ∙ ap (λ b. closed_by b (breaks s s.quote) (closed_at s (escapes s s.quote) (s.quote ∷ s.quote ∷ rest))) (close_by true s rest is)
@@ -71,7 +74,8 @@ no_quote q c quote slash = by_quote (nat_eq q 39) (nat_eq q 34) refl refl quote
     by_quote false false e k h = absurd (true≢false (sym h))
 
 -- a backslash closes no text
-escape_closes_none : (s : Style) (c : ℕ) (rest : List ℕ) → is_quote s.quote ≡ true → escapes s c ≡ true → closes s (c ∷ rest) ≡ false
+escape_closes_none : (s : Style) (c : ℕ) (rest : List ℕ) → is_quote s.quote ≡ true → escapes s c ≡ true
+    → closes s (c ∷ rest) ≡ false
 escape_closes_none s c rest quote e =
     ap (λ b. b && (not s.is_triple || begins_with_two s.quote rest))
     (no_quote s.quote c quote (and_parts (not s.is_raw) (is_backslash c) e).1)
@@ -110,7 +114,8 @@ past_escape s c d rest quote e b =
 one_more : (n : ℕ) → 1 + n ≡ suc n
 one_more n = omega arith
 
-content_found : (s : Style) (rest : List ℕ) {body : List ℕ} → is_quote s.quote ≡ true → IsContent s (closing_quotes s ++ rest) body
+content_found : (s : Style) (rest : List ℕ) {body : List ℕ} → is_quote s.quote ≡ true
+    → IsContent s (closing_quotes s ++ rest) body
     → closed_at s false (body ++ (closing_quotes s ++ rest)) ≡ Some (length body)
 content_found s rest quote nothing = found_here s.is_triple s rest refl
 content_found s rest quote (byte {c} {body} e b none parts) =
@@ -139,7 +144,8 @@ quotes_first s bytes n is e =
 none_begins : (s : Style) (bytes : List ℕ) → closes s bytes ≡ false → BeginWith (closing_quotes s) bytes → ⊥
 none_begins s bytes other begins = true≢false (sym (ap (λ (x : List ℕ). closes s x) begins.1 ∙ closing_first s begins.0) ∙ other)
 
-with_byte : (s : Style) (c : ℕ) (rest : List ℕ) (n m : ℕ) → closes s (c ∷ rest) ≡ false → escapes s c ≡ false → breaks s c ≡ false
+with_byte : (s : Style) (c : ℕ) (rest : List ℕ) (n m : ℕ) → closes s (c ∷ rest) ≡ false → escapes s c ≡ false
+    → breaks s c ≡ false
     → 1 + m ≡ n → ClosesAt s rest m → ClosesAt s (c ∷ rest) n
 with_byte s c rest n m other e b is h =
     let whole : c ∷ rest ≡ c ∷ (h.body ++ (closing_quotes s ++ h.rest)) = ap (λ (x : List ℕ). c ∷ x) h.whole in
@@ -167,7 +173,8 @@ some_more None n h = absurd cc
 some_more (Some m) n h = (m, refl, cc)
 
 -- what is found at the first bytes, given what is found behind the first and behind the second
-module _ (s : Style) (quote : is_quote s.quote ≡ true) (c : ℕ) (rest : List ℕ) (n : ℕ) (is : closed_at s false (c ∷ rest) ≡ Some n) where
+module _ (s : Style) (quote : is_quote s.quote ≡ true) (c : ℕ) (rest : List ℕ) (n : ℕ)
+    (is : closed_at s false (c ∷ rest) ≡ Some n) where
   abbrev Found : List ℕ → Type 0
   Found bytes = (m : ℕ) → closed_at s false bytes ≡ Some m → ClosesAt s bytes m
 
@@ -184,13 +191,15 @@ module _ (s : Style) (quote : is_quote s.quote ≡ true) (c : ℕ) (rest : List 
       in
       cc
 
-  found_behind_byte : closes s (c ∷ rest) ≡ false → breaks s c ≡ false → escapes s c ≡ false → Found rest → ClosesAt s (c ∷ rest) n
+  found_behind_byte : closes s (c ∷ rest) ≡ false → breaks s c ≡ false → escapes s c ≡ false → Found rest
+      → ClosesAt s (c ∷ rest) n
   found_behind_byte x b e more =
       let p = some_more (closed_at s (escapes s c) rest) n (sym (past_byte s c rest x b) ∙ is) in
       with_byte s c rest n p.0 x e b p.2 (more p.0 (ap (λ y. closed_at s y rest) (sym e) ∙ p.1))
 
 -- likewise behind a backslash
-found_escaped : (s : Style) (c : ℕ) (rest : List ℕ) (n m : ℕ) → escapes s c ≡ true → 1 + m ≡ n → closed_at s true rest ≡ Some m
+found_escaped : (s : Style) (c : ℕ) (rest : List ℕ) (n m : ℕ) → escapes s c ≡ true → 1 + m ≡ n
+    → closed_at s true rest ≡ Some m
     → ((k : ℕ) → closed_at s false (drop 1 rest) ≡ Some k → ClosesAt s (drop 1 rest) k) → ClosesAt s (c ∷ rest) n
 found_escaped s c [] n m e more is found = absurd (let h = closed_nil s true in cc)
 found_escaped s c (d ∷ rest) n m e more is found = by_break (breaks s d) refl
@@ -201,7 +210,8 @@ found_escaped s c (d ∷ rest) n m e more is found = by_break (breaks s d) refl
         let p = some_more (closed_at s false rest) m (sym (past_escaped s d rest b) ∙ is) in
         with_escape s c d rest n p.0 e b (ap (λ k. 1 + k) p.2 ∙ more) (found p.0 p.1)
 
-found_first : (s : Style) (c : ℕ) (rest : List ℕ) (n : ℕ) (x b e : Bool) → is_quote s.quote ≡ true → closed_at s false (c ∷ rest) ≡ Some n
+found_first : (s : Style) (c : ℕ) (rest : List ℕ) (n : ℕ) (x b e : Bool) → is_quote s.quote ≡ true
+    → closed_at s false (c ∷ rest) ≡ Some n
     → closes s (c ∷ rest) ≡ x → breaks s c ≡ b → escapes s c ≡ e
     → ((m : ℕ) → closed_at s false rest ≡ Some m → ClosesAt s rest m)
     → ((m : ℕ) → closed_at s false (drop 1 rest) ≡ Some m → ClosesAt s (drop 1 rest) m) → ClosesAt s (c ∷ rest) n
@@ -222,7 +232,8 @@ found_by (suc most) s (c ∷ rest) n quote le is =
     (λ m h. found_by most s rest m quote (omega arith) h)
     (λ m h. found_by most s (drop 1 rest) m quote (omega (arith, length-drop 1 rest)) h)
 
-pub closing_is : (s : Style) (inside : List ℕ) (n : ℕ) → is_quote s.quote ≡ true → closed_at s false inside ≡ Some n → ClosesAt s inside n
+pub closing_is : (s : Style) (inside : List ℕ) (n : ℕ) → is_quote s.quote ≡ true → closed_at s false inside ≡ Some n
+    → ClosesAt s inside n
 closing_is s inside n quote is = found_by (length inside) s inside n quote (omega arith) is
 
 -- what is closed nowhere is not found

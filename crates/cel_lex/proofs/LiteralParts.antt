@@ -1,5 +1,6 @@
 -- Where a text may be cut: at its opening, at its closing quotes and behind a word.
-use Rattle.std.proofs.Common.{◌≡◌, ℕ, ◌+◌, ◌-◌, ◌<◌, ◌≤◌, Bool, true, false, cond, List, ◌∷◌, length, take, drop, get_or, Some, sym, ap, subst, ◌∙◌, arith, length-drop}
+use Rattle.std.proofs.Common.{◌≡◌, ℕ, ◌+◌, ◌-◌, ◌<◌, ◌≤◌, Bool, true, false, cond, List, ◌∷◌}
+use Rattle.std.proofs.Common.{length, take, drop, get_or, Some, sym, ap, subst, ◌∙◌, arith, length-drop}
 use Rattle.std.specs.Str.{IsUtf8, IsCharBoundary}
 use Rattle.std.proofs.lemmas.List.{drop_more, take_rest, get_or-drop}
 use Rattle.std.proofs.lemmas.Str.{IsCharBoundary-after_ascii, IsCharBoundary-before_ascii}
@@ -16,7 +17,8 @@ some_quote s = by_test s.is_triple
     by_test true = omega arith
     by_test false = omega arith
 
-module _ (s : Style) (bytes text : List ℕ) (place count : ℕ) (same : bytes ≡ text) (is : Some count ≡ closed_at s false (take (length bytes - place) (drop place bytes))) where
+module _ (s : Style) (bytes text : List ℕ) (place count : ℕ) (same : bytes ≡ text)
+    (is : Some count ≡ closed_at s false (take (length bytes - place) (drop place bytes))) where
   is_here : closed_at s false (drop place text) ≡ Some count
   is_here = ap (λ (x : List ℕ). closed_at s false x) (sym (take_rest bytes place ∙ ap (drop place) same)) ∙ sym is
 
@@ -31,7 +33,8 @@ module _ (s : Style) (bytes text : List ℕ) (place count : ℕ) (same : bytes �
       let quote = closing_quote s false (drop place text) count is_here in
       IsCharBoundary-before_ascii text (place + count) closing_within (omega (arith, get_or-drop place text count 0))
 
-module _ (bytes text : List ℕ) (place : ℕ) (o : ℕ × Style) (same : bytes ≡ text) (lt : place < length text) (is : Some o ≡ opening (take (length bytes - place) (drop place bytes))) where
+module _ (bytes text : List ℕ) (place : ℕ) (o : ℕ × Style) (same : bytes ≡ text) (lt : place < length text)
+    (is : Some o ≡ opening (take (length bytes - place) (drop place bytes))) where
   pub opening_here : opening (drop place text) ≡ Some o
   opening_here = ap (λ (x : List ℕ). opening x) (sym (take_rest bytes place ∙ ap (drop place) same)) ∙ sym is
 
@@ -44,7 +47,8 @@ module _ (bytes text : List ℕ) (place : ℕ) (o : ℕ × Style) (same : bytes 
       let some = x.some in
       let within = x.within in
       let last = x.last in
-      let byte : get_or text (place + (o.0 - 1)) 0 < 128 = omega (arith, get_or-drop place text (o.0 - 1) 0, ap (λ (y : List ℕ). get_or y (o.0 - 1) 0) first) in
+      let byte : get_or text (place + (o.0 - 1)) 0 < 128 =
+      omega (arith, get_or-drop place text (o.0 - 1) 0, ap (λ (y : List ℕ). get_or y (o.0 - 1) 0) first) in
       let len = length-drop (place + 1) text in
       subst (λ y. IsCharBoundary text y) (let e : place + (o.0 - 1) + 1 ≡ place + o.0 = omega arith in e)
       (IsCharBoundary-after_ascii text (place + (o.0 - 1)) utf8 (omega arith) byte)

@@ -1,5 +1,6 @@
 -- What a text means, part by part.
-use Rattle.std.proofs.Common.{◌≡◌, ℕ, zero, suc, ◌+◌, Bool, true, false, cond, List, [], ◌∷◌, ◌++◌, take, drop, Option, Some, None, Result, Ok, Err, refl, sym, ap, ◌∙◌, arith, append_assoc, append-nil}
+use Rattle.std.proofs.Common.{◌≡◌, ℕ, zero, suc, ◌+◌, Bool, true, false, cond, List, [], ◌∷◌, ◌++◌, take}
+use Rattle.std.proofs.Common.{drop, Option, Some, None, Result, Ok, Err, refl, sym, ap, ◌∙◌, arith, append_assoc, append-nil}
 use Rattle.std.specs.Prelude.{not, ◌&&◌}
 use Rattle.std.specs.Char.{encode_utf8}
 use Rattle.std.specs.List.{list_all, prefix_len}
@@ -32,7 +33,8 @@ passed zero rest = sym (after_nothing (meaning_of 0 rest))
 passed (suc n) [] = refl
 passed (suc n) (c ∷ rest) = ap (behind []) (passed n rest) ∙ behind_after [] [] n (meaning_of 0 (drop n rest))
 
-pub escape_by : (c : ℕ) (rest : List ℕ) (v n : ℕ) → is_backslash c ≡ true → escape_of rest ≡ Some (v, n) → meaning_of 0 (c ∷ rest) ≡ behind (encode_utf8 v) (meaning_of n rest)
+pub escape_by : (c : ℕ) (rest : List ℕ) (v n : ℕ) → is_backslash c ≡ true → escape_of rest ≡ Some (v, n)
+    → meaning_of 0 (c ∷ rest) ≡ behind (encode_utf8 v) (meaning_of n rest)
 unfolding meaning_of
 escape_by c rest v n e is =
     ap (λ b. cond b (escaped (escape_of rest) (λ k. meaning_of k rest)) (behind (c ∷ []) (meaning_of 0 rest))) e
@@ -48,7 +50,8 @@ append_nil : (v : List ℕ) → v ++ [] ≡ v
 append_nil v = append-nil v
 
 -- an escape first
-pub escape_first : (c : ℕ) (rest : List ℕ) (v n : ℕ) → is_backslash c ≡ true → escape_of rest ≡ Some (v, n) → meaning_of 0 (c ∷ rest) ≡ after (encode_utf8 v) (1 + n) (meaning_of 0 (drop (1 + n) (c ∷ rest)))
+pub escape_first : (c : ℕ) (rest : List ℕ) (v n : ℕ) → is_backslash c ≡ true → escape_of rest ≡ Some (v, n)
+    → meaning_of 0 (c ∷ rest) ≡ after (encode_utf8 v) (1 + n) (meaning_of 0 (drop (1 + n) (c ∷ rest)))
 escape_first c rest v n e is =
     escape_by c rest v n e is
     ∙ ap (behind (encode_utf8 v)) (passed n rest)
@@ -56,7 +59,8 @@ escape_first c rest v n e is =
     ∙ ap (λ (x : List ℕ). after x (suc n) (meaning_of 0 (drop n rest))) (append_nil (encode_utf8 v))
     ∙ ap (λ (x : ℕ). after (encode_utf8 v) x (meaning_of 0 (drop x (c ∷ rest)))) (sym (one-add n))
 
-pub plain_by : (c : ℕ) (rest : List ℕ) → is_backslash c ≡ false → meaning_of 0 (c ∷ rest) ≡ behind (c ∷ []) (meaning_of 0 rest)
+pub plain_by : (c : ℕ) (rest : List ℕ) → is_backslash c ≡ false
+    → meaning_of 0 (c ∷ rest) ≡ behind (c ∷ []) (meaning_of 0 rest)
 unfolding meaning_of
 plain_by c rest e = ap (λ b. cond b (escaped (escape_of rest) (λ k. meaning_of k rest)) (behind (c ∷ []) (meaning_of 0 rest))) e
 
@@ -70,7 +74,8 @@ first_passes true false e = absurd cc
 first_passes false c e = absurd cc
 
 -- bytes that begin no escape first
-plain_first : (n : ℕ) (bytes : List ℕ) → list_all is_plain (take n bytes) ≡ true → meaning_of 0 bytes ≡ after (take n bytes) n (meaning_of 0 (drop n bytes))
+plain_first : (n : ℕ) (bytes : List ℕ) → list_all is_plain (take n bytes) ≡ true
+    → meaning_of 0 bytes ≡ after (take n bytes) n (meaning_of 0 (drop n bytes))
 unfolding meaning_of
 plain_first zero bytes e = sym (after_nothing (meaning_of 0 bytes))
 plain_first (suc n) [] e = refl
@@ -80,8 +85,10 @@ plain_first (suc n) (c ∷ rest) e =
     ∙ ap (behind (c ∷ [])) (plain_first n rest h.1)
     ∙ behind_after (c ∷ []) (take n rest) n (meaning_of 0 (drop n rest))
 
-run_by : (c : ℕ) (rest : List ℕ) (n : ℕ) → is_backslash c ≡ false → n ≡ prefix_len is_plain rest → list_all is_plain (take (1 + n) (c ∷ rest)) ≡ true
+run_by : (c : ℕ) (rest : List ℕ) (n : ℕ) → is_backslash c ≡ false → n ≡ prefix_len is_plain rest
+    → list_all is_plain (take (1 + n) (c ∷ rest)) ≡ true
 run_by c rest n e k = rw one-add (rw e (ap (λ x. list_all is_plain (take x rest)) k ∙ front_passes is_plain rest))
 
-pub run_first : (c : ℕ) (rest : List ℕ) (n : ℕ) → is_backslash c ≡ false → n ≡ prefix_len is_plain rest → meaning_of 0 (c ∷ rest) ≡ after (take (1 + n) (c ∷ rest)) (1 + n) (meaning_of 0 (drop (1 + n) (c ∷ rest)))
+pub run_first : (c : ℕ) (rest : List ℕ) (n : ℕ) → is_backslash c ≡ false → n ≡ prefix_len is_plain rest
+    → meaning_of 0 (c ∷ rest) ≡ after (take (1 + n) (c ∷ rest)) (1 + n) (meaning_of 0 (drop (1 + n) (c ∷ rest)))
 run_first c rest n e k = plain_first (1 + n) (c ∷ rest) (run_by c rest n e k)

@@ -1,5 +1,6 @@
 -- The number that is read next is the longest piece.
-use Rattle.std.proofs.Common.{◌≡◌, ℕ, zero, suc, ◌+◌, ◌-◌, ◌<◌, ◌≤◌, Bool, true, false, cond, List, [], ◌∷◌, length, take, drop, Option, Some, None, refl, ap, ◌∙◌, arith, length-drop}
+use Rattle.std.proofs.Common.{◌≡◌, ℕ, zero, suc, ◌+◌, ◌-◌, ◌<◌, ◌≤◌, Bool, true, false, cond, List}
+use Rattle.std.proofs.Common.{[], ◌∷◌, length, take, drop, Option, Some, None, refl, ap, ◌∙◌, arith, length-drop}
 use Rattle.std.proofs.lemmas.List.{take-take, drop-take}
 use Rattle.std.specs.Prelude.{◌&&◌, nat_eq}
 use Rattle.std.specs.Char.{is_digit as is_digit_of}
@@ -23,7 +24,8 @@ no_suffix value c [] (suc j) e = ap (λ b. cond b (Some (unsigned value)) None) 
 no_suffix value c (d ∷ rest) (suc j) e = refl
 
 -- two bytes behind digits are no suffix
-two_behind : (value c : ℕ) (rest : List ℕ) (j : ℕ) → suc (suc j) ≤ length (c ∷ rest) → suffixed value (take (suc (suc j)) (c ∷ rest)) ≡ None
+two_behind : (value c : ℕ) (rest : List ℕ) (j : ℕ) → suc (suc j) ≤ length (c ∷ rest)
+    → suffixed value (take (suc (suc j)) (c ∷ rest)) ≡ None
 two_behind value c [] j le = absurd (omega arith)
 two_behind value c (d ∷ rest) j le = refl
 
@@ -32,37 +34,43 @@ record HasTail (reads : List ℕ → Option Piece) (bytes : List ℕ) (k value :
   within : k + length tail ≡ length bytes
   front : (m j : ℕ) → m ≡ k + j → reads (take m bytes) ≡ suffixed value (take j tail)
 
-no_tail : (reads : List ℕ → Option Piece) (bytes : List ℕ) (k value : ℕ) → HasTail reads bytes k value [] → IsFront reads bytes (k, signed value)
+no_tail : (reads : List ℕ → Option Piece) (bytes : List ℕ) (k value : ℕ) → HasTail reads bytes k value []
+    → IsFront reads bytes (k, signed value)
 no_tail reads bytes k value t = let w = t.within in record {
   here = omega arith;
   is = t.front k 0 (omega arith);
   longest = λ m lt le. absurd (omega arith);
 }
 
-suffix_tail : (reads : List ℕ → Option Piece) (bytes : List ℕ) (k value c : ℕ) (rest : List ℕ) → is_suffix c ≡ true → HasTail reads bytes k value (c ∷ rest) → IsFront reads bytes (k + 1, unsigned value)
+suffix_tail : (reads : List ℕ → Option Piece) (bytes : List ℕ) (k value c : ℕ) (rest : List ℕ) → is_suffix c ≡ true
+    → HasTail reads bytes k value (c ∷ rest) → IsFront reads bytes (k + 1, unsigned value)
 suffix_tail reads bytes k value c rest e t = let w = t.within in record {
   here = omega arith;
   is = t.front (k + 1) 1 refl ∙ ap (λ b. cond b (Some (unsigned value)) None) e;
   longest = λ m lt le. t.front m (suc (suc (m - (k + 2)))) (omega arith) ∙ two_behind value c rest (m - (k + 2)) (omega arith);
 }
 
-other_tail : (reads : List ℕ → Option Piece) (bytes : List ℕ) (k value c : ℕ) (rest : List ℕ) → is_suffix c ≡ false → HasTail reads bytes k value (c ∷ rest) → IsFront reads bytes (k, signed value)
+other_tail : (reads : List ℕ → Option Piece) (bytes : List ℕ) (k value c : ℕ) (rest : List ℕ) → is_suffix c ≡ false
+    → HasTail reads bytes k value (c ∷ rest) → IsFront reads bytes (k, signed value)
 other_tail reads bytes k value c rest e t = let w = t.within in record {
   here = omega arith;
   is = t.front k 0 (omega arith);
   longest = λ m lt le. t.front m (suc (m - (k + 1))) (omega arith) ∙ no_suffix value c rest (m - (k + 1)) e;
 }
 
-tail_by : (reads : List ℕ → Option Piece) (bytes : List ℕ) (k value c : ℕ) (rest : List ℕ) (b : Bool) → is_suffix c ≡ b → HasTail reads bytes k value (c ∷ rest) → IsFront reads bytes (cond b (k + 1, unsigned value) (k, signed value))
+tail_by : (reads : List ℕ → Option Piece) (bytes : List ℕ) (k value c : ℕ) (rest : List ℕ) (b : Bool) → is_suffix c ≡ b
+    → HasTail reads bytes k value (c ∷ rest) → IsFront reads bytes (cond b (k + 1, unsigned value) (k, signed value))
 tail_by reads bytes k value c rest true e t = suffix_tail reads bytes k value c rest e t
 tail_by reads bytes k value c rest false e t = other_tail reads bytes k value c rest e t
 
-tail_next : (reads : List ℕ → Option Piece) (bytes : List ℕ) (k value : ℕ) (tail : List ℕ) → HasTail reads bytes k value tail → IsFront reads bytes (ends_at k value tail)
+tail_next : (reads : List ℕ → Option Piece) (bytes : List ℕ) (k value : ℕ) (tail : List ℕ) → HasTail reads bytes k value tail
+    → IsFront reads bytes (ends_at k value tail)
 tail_next reads bytes k value [] t = no_tail reads bytes k value t
 tail_next reads bytes k value (c ∷ rest) t = tail_by reads bytes k value c rest (is_suffix c) refl t
 
 -- what a front is that has all of the digits
-digits_front : (base : ℕ) (bytes : List ℕ) (m j : ℕ) → m ≡ digits_in base bytes + j → digits_of base (take m bytes) ≡ suffixed (value_of base 0 (take (digits_in base bytes) bytes)) (take j (drop (digits_in base bytes) bytes))
+digits_front : (base : ℕ) (bytes : List ℕ) (m j : ℕ) → m ≡ digits_in base bytes + j → digits_of base (take m bytes)
+    ≡ suffixed (value_of base 0 (take (digits_in base bytes) bytes)) (take j (drop (digits_in base bytes) bytes))
 digits_front base bytes m j e =
     let k = digits_in base bytes in
     let len : digits_in base (take m bytes) ≡ k = front_len (λ c. is_digit_of c base) bytes m (omega arith) in
@@ -76,7 +84,8 @@ digits_next : (base : ℕ) (bytes : List ℕ) → IsFront (digits_of base) bytes
 digits_next base bytes =
     let le = prefix_len-le-length (λ c. is_digit_of c base) bytes in
     let len = length-drop (digits_in base bytes) bytes in
-    tail_next (digits_of base) bytes (digits_in base bytes) (value_of base 0 (take (digits_in base bytes) bytes)) (drop (digits_in base bytes) bytes)
+    tail_next (digits_of base) bytes (digits_in base bytes) (value_of base 0 (take (digits_in base bytes) bytes))
+    (drop (digits_in base bytes) bytes)
     (record { within = omega arith; front = digits_front base bytes })
 
 -- where 0x and a digit stand first, they do in a front that has them, and else in none
@@ -118,12 +127,15 @@ ends_behind k value (c ∷ rest) = by_test (is_suffix c)
 
 -- digits are read where one stands first
 pub reads_some : (base : ℕ) (bytes : List ℕ) → digits_in base bytes ≤ (digits_at base bytes).0
-reads_some base bytes = ends_behind (digits_in base bytes) (value_of base 0 (take (digits_in base bytes) bytes)) (drop (digits_in base bytes) bytes)
+reads_some base bytes =
+    ends_behind (digits_in base bytes) (value_of base 0 (take (digits_in base bytes) bytes)) (drop (digits_in base bytes) bytes)
 
-hexadecimal_next : (c d f : ℕ) (rest : List ℕ) → is_hexadecimal (c ∷ d ∷ f ∷ rest) ≡ true → is_digit_of f 16 ≡ true → IsFront number_of (c ∷ d ∷ f ∷ rest) (further 2 (digits_at 16 (f ∷ rest)))
+hexadecimal_next : (c d f : ℕ) (rest : List ℕ) → is_hexadecimal (c ∷ d ∷ f ∷ rest) ≡ true → is_digit_of f 16 ≡ true
+    → IsFront number_of (c ∷ d ∷ f ∷ rest) (further 2 (digits_at 16 (f ∷ rest)))
 hexadecimal_next c d f rest e digit =
     let x = digits_next 16 (f ∷ rest) in
-    let some : 1 ≤ (digits_at 16 (f ∷ rest)).0 = let a = first_digit f rest digit in let b = reads_some 16 (f ∷ rest) in omega arith in
+    let some : 1 ≤ (digits_at 16 (f ∷ rest)).0 =
+    let a = first_digit f rest digit in let b = reads_some 16 (f ∷ rest) in omega arith in
     let here = x.here in
     record {
       here = omega arith;
@@ -134,7 +146,8 @@ hexadecimal_next c d f rest e digit =
     same_by : (n : ℕ) → number_of (take (suc (suc (suc n))) (c ∷ d ∷ f ∷ rest)) ≡ digits_of 16 (take (suc n) (f ∷ rest))
     same_by n = ap (λ b. cond b (digits_of 16 (f ∷ take n rest)) (digits_of 10 (c ∷ d ∷ f ∷ take n rest))) e
 
-    same : (m n : ℕ) → m ≡ suc (suc n) → 1 ≤ n → number_of (take m (c ∷ d ∷ f ∷ rest)) ≡ digits_of 16 (take n (f ∷ rest))
+    same : (m n : ℕ) → m ≡ suc (suc n) → 1 ≤ n
+        → number_of (take m (c ∷ d ∷ f ∷ rest)) ≡ digits_of 16 (take n (f ∷ rest))
     same m zero e' some = absurd (omega arith)
     same m (suc n) e' some = ap (λ x. number_of (take x (c ∷ d ∷ f ∷ rest))) e' ∙ same_by n
 
@@ -144,7 +157,8 @@ third_of true true false e = absurd cc
 third_of true false c e = absurd cc
 third_of false b c e = absurd cc
 
-number_by : (bytes : List ℕ) (b : Bool) → is_hexadecimal bytes ≡ b → IsFront number_of bytes (cond b (further 2 (digits_at 16 (drop 2 bytes))) (digits_at 10 bytes))
+number_by : (bytes : List ℕ) (b : Bool) → is_hexadecimal bytes ≡ b
+    → IsFront number_of bytes (cond b (further 2 (digits_at 16 (drop 2 bytes))) (digits_at 10 bytes))
 number_by bytes false e = plain_next bytes e
 number_by [] true e = absurd cc
 number_by (c ∷ []) true e = absurd cc
@@ -158,7 +172,8 @@ number_front bytes = number_by bytes (is_hexadecimal bytes) refl
 number_some : (c : ℕ) (rest : List ℕ) → is_digit_of c 10 ≡ true → 1 ≤ (number_at (c ∷ rest)).0
 number_some c rest e = by_test (is_hexadecimal (c ∷ rest))
   where
-    by_test : (b : Bool) → 1 ≤ (cond {A = ℕ × Piece} b (further 2 (digits_at 16 (drop 2 (c ∷ rest)))) (digits_at 10 (c ∷ rest))).0
+    by_test : (b : Bool)
+        → 1 ≤ (cond {A = ℕ × Piece} b (further 2 (digits_at 16 (drop 2 (c ∷ rest)))) (digits_at 10 (c ∷ rest))).0
     by_test true = omega arith
     by_test false = let a = reads_some 10 (c ∷ rest) in let f : 1 ≤ digits_in 10 (c ∷ rest) = rw e (omega arith) in omega arith
 
@@ -167,7 +182,8 @@ pub record IsNumeric (c : ℕ) (rest : List ℕ) : Type 0 where
   pub digit : is_digit_of c 10 ≡ true
   pub reads : (m : ℕ) → piece_of (c ∷ take m rest) ≡ number_of (c ∷ take m rest)
 
-pub number_next : (c : ℕ) (rest : List ℕ) → IsNumeric c rest → IsNext (c ∷ rest) (number_at (c ∷ rest)).0 (number_at (c ∷ rest)).1
+pub number_next : (c : ℕ) (rest : List ℕ) → IsNumeric c rest
+    → IsNext (c ∷ rest) (number_at (c ∷ rest)).0 (number_at (c ∷ rest)).1
 number_next c rest s =
     let x = number_front (c ∷ rest) in
     let some = number_some c rest s.digit in

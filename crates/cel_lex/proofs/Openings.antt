@@ -1,11 +1,13 @@
 -- How texts begin.
-use Rattle.std.proofs.Common.{◌≡◌, ℕ, zero, suc, ◌+◌, ◌-◌, ◌<◌, ◌≤◌, Bool, true, false, cond, List, [], ◌∷◌, length, take, get_or, Option, Some, None, refl, sym, ap, ◌∙◌, arith, rules}
+use Rattle.std.proofs.Common.{◌≡◌, ℕ, zero, suc, ◌+◌, ◌-◌, ◌<◌, ◌≤◌, Bool, true, false, cond, List, []}
+use Rattle.std.proofs.Common.{◌∷◌, length, take, get_or, Option, Some, None, refl, sym, ap, ◌∙◌, arith, rules}
 use Rattle.std.specs.Prelude.{◌&&◌, nat_eq}
 use Rattle.cel_lex.specs.declared.literal.Style.{Style}
 use Rattle.cel_lex.specs.Bytes.{is_quote}
 use Rattle.cel_lex.specs.Texts.{quotes, begins_with_two, style_of, is_raw_mark, raw_opening, opening}
 
-pub not_two : (quote : ℕ) (bytes : List ℕ) (m : ℕ) → begins_with_two quote bytes ≡ false → begins_with_two quote (take m bytes) ≡ false
+pub not_two : (quote : ℕ) (bytes : List ℕ) (m : ℕ) → begins_with_two quote bytes ≡ false
+    → begins_with_two quote (take m bytes) ≡ false
 not_two quote [] zero e = refl
 not_two quote [] (suc m) e = refl
 not_two quote (c ∷ rest) zero e = refl
@@ -14,7 +16,8 @@ not_two quote (c ∷ []) (suc (suc m)) e = refl
 not_two quote (c ∷ d ∷ rest) (suc zero) e = refl
 not_two quote (c ∷ d ∷ rest) (suc (suc m)) e = e
 
-pub are_two : (quote : ℕ) (bytes : List ℕ) (m : ℕ) → begins_with_two quote bytes ≡ true → 2 ≤ m → begins_with_two quote (take m bytes) ≡ true
+pub are_two : (quote : ℕ) (bytes : List ℕ) (m : ℕ) → begins_with_two quote bytes ≡ true → 2 ≤ m
+    → begins_with_two quote (take m bytes) ≡ true
 are_two quote [] m e le = absurd cc
 are_two quote (c ∷ []) m e le = absurd cc
 are_two quote (c ∷ d ∷ rest) zero e le = absurd (omega arith)
@@ -27,11 +30,16 @@ two_long quote (c ∷ []) e = absurd cc
 two_long quote (c ∷ d ∷ rest) e = omega arith
 
 -- a style is the same at a front that has all of the opening quotes
-style_by : (is_raw : Bool) (quote : ℕ) (rest : List ℕ) (m : ℕ) (b : Bool) → begins_with_two quote rest ≡ b → cond b 3 1 ≤ suc m → style_of is_raw quote (take m rest) ≡ style_of is_raw quote rest
-style_by is_raw quote rest m true e le = let same = are_two quote rest m e (omega arith) ∙ sym e in ap (λ (b : Bool). record { quote = quote; is_triple = b; is_raw = is_raw }) same
-style_by is_raw quote rest m false e le = let same = not_two quote rest m e ∙ sym e in ap (λ (b : Bool). record { quote = quote; is_triple = b; is_raw = is_raw }) same
+style_by : (is_raw : Bool) (quote : ℕ) (rest : List ℕ) (m : ℕ) (b : Bool) → begins_with_two quote rest ≡ b
+    → cond b 3 1 ≤ suc m → style_of is_raw quote (take m rest) ≡ style_of is_raw quote rest
+style_by is_raw quote rest m true e le =
+    let same = are_two quote rest m e (omega arith) ∙ sym e in
+    ap (λ (b : Bool). record { quote = quote; is_triple = b; is_raw = is_raw }) same
+style_by is_raw quote rest m false e le =
+    let same = not_two quote rest m e ∙ sym e in ap (λ (b : Bool). record { quote = quote; is_triple = b; is_raw = is_raw }) same
 
-style_front : (is_raw : Bool) (quote : ℕ) (rest : List ℕ) (m : ℕ) → quotes (style_of is_raw quote rest) ≤ suc m → style_of is_raw quote (take m rest) ≡ style_of is_raw quote rest
+style_front : (is_raw : Bool) (quote : ℕ) (rest : List ℕ) (m : ℕ) → quotes (style_of is_raw quote rest) ≤ suc m
+    → style_of is_raw quote (take m rest) ≡ style_of is_raw quote rest
 style_front is_raw quote rest m le = style_by is_raw quote rest m (begins_with_two quote rest) refl le
 
 -- the opening of a text that begins with these bytes
@@ -43,7 +51,8 @@ record IsQuoted (mark quote : ℕ) (is_raw : Bool) (rest : List ℕ) (o : ℕ ×
   is : (mark + quotes (style_of is_raw quote rest), style_of is_raw quote rest) ≡ o
   begins : is_quote quote ≡ true
 
-front_quoted : (mark quote : ℕ) (is_raw : Bool) (rest : List ℕ) (m : ℕ) (o : ℕ × Style) → IsQuoted mark quote is_raw rest o → o.0 ≤ mark + suc m → quoted mark (style_of is_raw quote (take m rest)) ≡ o
+front_quoted : (mark quote : ℕ) (is_raw : Bool) (rest : List ℕ) (m : ℕ) (o : ℕ × Style) → IsQuoted mark quote is_raw rest o
+    → o.0 ≤ mark + suc m → quoted mark (style_of is_raw quote (take m rest)) ≡ o
 front_quoted mark quote is_raw rest m o q le =
     let first : mark + quotes (style_of is_raw quote rest) ≡ o.0 = ap (λ x. x.0) q.is in
     ap (λ (s : Style). quoted mark s) (style_front is_raw quote rest m (omega arith)) ∙ q.is
@@ -51,13 +60,16 @@ front_quoted mark quote is_raw rest m o q le =
 -- a text that begins with a quote, or with a mark and a quote
 data Opens : ℕ → List ℕ → ℕ × Style → Type 0 where
   plain : {c : ℕ} {rest : List ℕ} {o : ℕ × Style} → IsQuoted 0 c false rest o → Opens c rest o
-  raw : {c q : ℕ} {rest : List ℕ} {o : ℕ × Style} → is_quote c ≡ false → is_raw_mark c ≡ true → IsQuoted 1 q true rest o → Opens c (q ∷ rest) o
+  raw : {c q : ℕ} {rest : List ℕ} {o : ℕ × Style} → is_quote c ≡ false → is_raw_mark c ≡ true → IsQuoted 1 q true rest o
+      → Opens c (q ∷ rest) o
 
-raw_by : (c q : ℕ) (rest : List ℕ) (o : ℕ × Style) (b : Bool) → is_quote q ≡ b → is_quote c ≡ false → is_raw_mark c ≡ true → cond b (Some (quoted 1 (style_of true q rest))) None ≡ Some o → Opens c (q ∷ rest) o
+raw_by : (c q : ℕ) (rest : List ℕ) (o : ℕ × Style) (b : Bool) → is_quote q ≡ b → is_quote c ≡ false
+    → is_raw_mark c ≡ true → cond b (Some (quoted 1 (style_of true q rest))) None ≡ Some o → Opens c (q ∷ rest) o
 raw_by c q rest o true e k r is = raw k r (record { is = cc; begins = e })
 raw_by c q rest o false e k r is = absurd cc
 
-marked_by : (c : ℕ) (rest : List ℕ) (o : ℕ × Style) (b : Bool) → is_raw_mark c ≡ b → is_quote c ≡ false → cond b (raw_opening rest) None ≡ Some o → Opens c rest o
+marked_by : (c : ℕ) (rest : List ℕ) (o : ℕ × Style) (b : Bool) → is_raw_mark c ≡ b → is_quote c ≡ false
+    → cond b (raw_opening rest) None ≡ Some o → Opens c rest o
 marked_by c rest o false r k is = absurd cc
 marked_by c [] o true r k is = absurd cc
 marked_by c (q ∷ rest) o true r k is = raw_by c q rest o (is_quote q) refl k r is
@@ -65,10 +77,13 @@ marked_by c (q ∷ rest) o true r k is = raw_by c q rest o (is_quote q) refl k r
 quote_is : (n : ℕ) → 0 + n ≡ n
 quote_is n = omega arith
 
-opens_by : (c : ℕ) (rest : List ℕ) (o : ℕ × Style) (b : Bool) → is_quote c ≡ b → cond b (Some (quotes (style_of false c rest), style_of false c rest)) (cond (is_raw_mark c) (raw_opening rest) None) ≡ Some o → Opens c rest o
+opens_by : (c : ℕ) (rest : List ℕ) (o : ℕ × Style) (b : Bool) → is_quote c ≡ b
+    → cond b (Some (quotes (style_of false c rest), style_of false c rest)) (cond (is_raw_mark c) (raw_opening rest) None) ≡ Some o
+    → Opens c rest o
 opens_by c rest o true e is =
     let there : (quotes (style_of false c rest), style_of false c rest) ≡ o = cc in
-    let more : (0 + quotes (style_of false c rest), style_of false c rest) ≡ (quotes (style_of false c rest), style_of false c rest) = ap (λ (n : ℕ). (n, style_of false c rest)) (quote_is (quotes (style_of false c rest))) in
+    let more : (0 + quotes (style_of false c rest), style_of false c rest) ≡ (quotes (style_of false c rest), style_of false c rest) =
+    ap (λ (n : ℕ). (n, style_of false c rest)) (quote_is (quotes (style_of false c rest))) in
     plain (record { is = more ∙ there; begins = e })
 opens_by c rest o false e is = marked_by c rest o (is_raw_mark c) refl e is
 
@@ -76,7 +91,8 @@ opens : (c : ℕ) (rest : List ℕ) (o : ℕ × Style) → opening (c ∷ rest) 
 opens c rest o is = opens_by c rest o (is_quote c) refl is
 
 -- an opening is the same at a front that has all of it
-some_by : (c : ℕ) (rest : List ℕ) (m : ℕ) (o : ℕ × Style) → Opens c rest o → o.0 ≤ suc m → opening (c ∷ take m rest) ≡ Some o
+some_by : (c : ℕ) (rest : List ℕ) (m : ℕ) (o : ℕ × Style) → Opens c rest o → o.0 ≤ suc m
+    → opening (c ∷ take m rest) ≡ Some o
 some_by c rest m o (plain q) le =
     let front = front_quoted 0 c false rest m o q (omega arith) in
     let quote : is_quote c ≡ true = q.begins in
@@ -92,12 +108,15 @@ some_by c (x ∷ rest) zero o (raw k r q) le = absurd (none_there (style_of true
 some_by c (x ∷ rest) (suc m) o (raw k r q) le =
     let front = front_quoted 1 x true rest m o q (omega arith) in
     let s = style_of true x (take m rest) in
-    ap (λ b. cond b (Some (quotes (style_of false c (x ∷ take m rest)), style_of false c (x ∷ take m rest))) (cond (is_raw_mark c) (raw_opening (x ∷ take m rest)) None)) k
+    ap
+    (λ b. cond b (Some (quotes (style_of false c (x ∷ take m rest)), style_of false c (x ∷ take m rest))) (cond (is_raw_mark c) (raw_opening (x ∷ take m rest)) None))
+    k
     ∙ ap (λ b. cond b (raw_opening (x ∷ take m rest)) None) r
     ∙ ap (λ b. cond b (Some (1 + quotes s, s)) None) q.begins
     ∙ ap (λ (y : ℕ × Style). Some y) front
 
-pub opening_some : (c : ℕ) (rest : List ℕ) (m : ℕ) (o : ℕ × Style) → opening (c ∷ rest) ≡ Some o → o.0 ≤ suc m → opening (c ∷ take m rest) ≡ Some o
+pub opening_some : (c : ℕ) (rest : List ℕ) (m : ℕ) (o : ℕ × Style) → opening (c ∷ rest) ≡ Some o → o.0 ≤ suc m
+    → opening (c ∷ take m rest) ≡ Some o
 opening_some c rest m o is le = some_by c rest m o (opens c rest o is) le
 
 -- where there is no opening, no front has one
@@ -114,7 +133,9 @@ none_by false false c rest m e = refl
 none_by false true c [] zero e = refl
 none_by false true c [] (suc m) e = refl
 none_by false true c (x ∷ rest) zero e = refl
-none_by false true c (x ∷ rest) (suc m) e = no_raw (is_quote x) (1 + quotes (style_of true x rest), style_of true x rest) (1 + quotes (style_of true x (take m rest)), style_of true x (take m rest)) e
+none_by false true c (x ∷ rest) (suc m) e =
+    no_raw (is_quote x) (1 + quotes (style_of true x rest), style_of true x rest)
+    (1 + quotes (style_of true x (take m rest)), style_of true x (take m rest)) e
 
 pub opening_none : (c : ℕ) (rest : List ℕ) (m : ℕ) → opening (c ∷ rest) ≡ None → opening (c ∷ take m rest) ≡ None
 opening_none c rest m e = none_by (is_quote c) (is_raw_mark c) c rest m e

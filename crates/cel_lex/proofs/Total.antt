@@ -1,5 +1,6 @@
 -- A text is cut, or has a fault.
-use Rattle.std.proofs.Common.{ℕ, zero, suc, ◌+◌, ◌<◌, ◌≤◌, List, [], ◌∷◌, length, drop, Option, Some, None, inl, inr, arith, length-drop}
+use Rattle.std.proofs.Common.{ℕ, zero, suc, ◌+◌, ◌<◌, ◌≤◌, List, [], ◌∷◌}
+use Rattle.std.proofs.Common.{length, drop, Option, Some, None, inl, inr, arith, length-drop}
 use Rattle.std.proofs.lemmas.Bool.{cases_lt}
 use Rattle.cel_lex.specs.declared.token.Token.{Token}
 use Rattle.cel_lex.specs.declared.token.TokenKind.{TokenKind}
@@ -16,7 +17,8 @@ data Found (place : ℕ) (bytes : List ℕ) : Type 0 where
   cuts : {ts : List Token} → Cuts place bytes ts → Found place bytes
   fails : {f : LexFault} → Fails place bytes f → Found place bytes
 
-behind_blank : {place : ℕ} {bytes : List ℕ} {n : ℕ} → IsNext bytes n piece.Blank → Found (place + n) (drop n bytes) → Found place bytes
+behind_blank : {place : ℕ} {bytes : List ℕ} {n : ℕ} → IsNext bytes n piece.Blank → Found (place + n) (drop n bytes)
+    → Found place bytes
 behind_blank h (cuts c) = cuts (blank h c)
 behind_blank h (fails x) = fails (after_blank h x)
 
@@ -25,7 +27,8 @@ behind_token : {place : ℕ} {bytes : List ℕ} {n : ℕ} (k : TokenKind) → Is
 behind_token k h (cuts c) = cuts (token h c)
 behind_token k h (fails x) = fails (after_token h x)
 
-by_piece : (place n b : ℕ) (bs : List ℕ) (w : Piece) → IsNext (b ∷ bs) n w → Found (place + n) (drop n (b ∷ bs)) → Found place (b ∷ bs)
+by_piece : (place n b : ℕ) (bs : List ℕ) (w : Piece) → IsNext (b ∷ bs) n w → Found (place + n) (drop n (b ∷ bs))
+    → Found place (b ∷ bs)
 by_piece place n b bs piece.Blank h rest = behind_blank h rest
 by_piece place n b bs (piece.Faulty f) h rest = fails (faulty h)
 by_piece place n b bs (piece.Token k) h rest = behind_token k h rest

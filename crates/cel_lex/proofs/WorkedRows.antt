@@ -56,7 +56,8 @@ unfolding piece_of
 comment_is_blank = refl
 
 -- '\u00e4' with a quote on each side
-pub escape_is_one_character : piece_of (39 ∷ 92 ∷ 117 ∷ 48 ∷ 48 ∷ 101 ∷ 52 ∷ 39 ∷ []) ≡ Some (piece.Token (kind.Text (195 ∷ 164 ∷ [])))
+pub escape_is_one_character : piece_of (39 ∷ 92 ∷ 117 ∷ 48 ∷ 48 ∷ 101 ∷ 52 ∷ 39 ∷ [])
+    ≡ Some (piece.Token (kind.Text (195 ∷ 164 ∷ [])))
 unfolding piece_of closed_at meaning_of Rattle.std.specs.Char.encode_utf8
 escape_is_one_character = refl
 
@@ -78,7 +79,8 @@ unfolding piece_of closed_at
 more_than_a_text_is_no_piece = refl
 
 -- r'\n'
-pub backslash_is_itself_in_a_raw_text : piece_of (114 ∷ 39 ∷ 92 ∷ 110 ∷ 39 ∷ []) ≡ Some (piece.Token (kind.Text (92 ∷ 110 ∷ [])))
+pub backslash_is_itself_in_a_raw_text : piece_of (114 ∷ 39 ∷ 92 ∷ 110 ∷ 39 ∷ [])
+    ≡ Some (piece.Token (kind.Text (92 ∷ 110 ∷ [])))
 unfolding piece_of closed_at
 backslash_is_itself_in_a_raw_text = refl
 
@@ -86,7 +88,8 @@ abbrev token_at : TokenKind → ℕ → ℕ → Token
 token_at kind start finish = record { kind = kind; start = start; end = finish }
 
 -- "1 <=2"
-pub blanks_are_left_out : Cuts 0 (codes "1 <=2") (token_at (kind.Int 1) 0 1 ∷ token_at (kind.Operator op.AtMost) 2 4 ∷ token_at (kind.Int 2) 4 5 ∷ [])
+pub blanks_are_left_out : Cuts 0 (codes "1 <=2")
+    (token_at (kind.Int 1) 0 1 ∷ token_at (kind.Operator op.AtMost) 2 4 ∷ token_at (kind.Int 2) 4 5 ∷ [])
 unfolding next_of
 blanks_are_left_out =
     token {n = 1} (next_reads (codes "1 <=2"))

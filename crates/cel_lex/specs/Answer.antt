@@ -1,5 +1,6 @@
 -- The answer for a text as a function: its cut, or its fault.
-use Rattle.std.specs.Prelude.{ℕ, zero, suc, ◌+◌, List, [], ◌∷◌, length, drop, Option, Some, None, Result, Ok, Err, nat_lt, if◌then◌else◌}
+use Rattle.std.specs.Prelude.{ℕ, zero, suc, ◌+◌, List, [], ◌∷◌, length, drop}
+use Rattle.std.specs.Prelude.{Option, Some, None, Result, Ok, Err, nat_lt, if◌then◌else◌}
 use Rattle.cel_lex.specs.declared.token.Token.{Token}
 use Rattle.cel_lex.specs.declared.piece.Piece.{Piece}
 use Rattle.cel_lex.specs.declared.piece.Piece.TheVariants as piece

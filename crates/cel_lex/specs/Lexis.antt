@@ -1,5 +1,6 @@
 -- The cut of a text into tokens, by longest match.
-use Rattle.std.specs.Prelude.{◌≡◌, ℕ, ◌+◌, ◌<◌, ◌≤◌, List, [], ◌∷◌, length, take, drop, Option, Some, None, if◌then◌else◌}
+use Rattle.std.specs.Prelude.{◌≡◌, ℕ, ◌+◌, ◌<◌, ◌≤◌, List, [], ◌∷◌}
+use Rattle.std.specs.Prelude.{length, take, drop, Option, Some, None, if◌then◌else◌}
 use Rattle.std.specs.Char.{is_digit as is_digit_of}
 use Rattle.cel_lex.specs.declared.token.TokenKind.{TokenKind}
 use Rattle.cel_lex.specs.declared.token.Token.{Token}

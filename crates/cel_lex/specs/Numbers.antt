@@ -1,5 +1,6 @@
 -- Numbers.
-use Rattle.std.specs.Prelude.{ℕ, ◌+◌, ◌*◌, ◌^◌, ◌-◌, Bool, false, ◌&&◌, ◌||◌, List, [], ◌∷◌, take, drop, Option, Some, None, nat_le, nat_eq, if◌then◌else◌}
+use Rattle.std.specs.Prelude.{ℕ, ◌+◌, ◌*◌, ◌^◌, ◌-◌, Bool, false, ◌&&◌, ◌||◌, List}
+use Rattle.std.specs.Prelude.{[], ◌∷◌, take, drop, Option, Some, None, nat_le, nat_eq, if◌then◌else◌}
 use Rattle.std.specs.Char.{digit_value, is_digit as is_digit_of}
 use Rattle.std.specs.List.{prefix_len}
 use Rattle.cel_lex.specs.declared.token.TokenKind.TheVariants as kind

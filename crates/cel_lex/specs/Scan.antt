@@ -1,5 +1,6 @@
 -- Reading the next piece from left to right.
-use Rattle.std.specs.Prelude.{◌≡◌, ℕ, ◌≤◌, length, ◌+◌, false, List, [], ◌∷◌, take, drop, Option, Some, None, if◌then◌else◌}
+use Rattle.std.specs.Prelude.{◌≡◌, ℕ, ◌≤◌, length, ◌+◌, false, List, []}
+use Rattle.std.specs.Prelude.{◌∷◌, take, drop, Option, Some, None, if◌then◌else◌}
 use Rattle.std.specs.Char.{is_digit as is_digit_of}
 use Rattle.std.specs.List.{prefix_len}
 use Rattle.cel_lex.specs.declared.token.TokenKind.{TokenKind}

@@ -1,6 +1,7 @@
 //! Literal texts.
 
-ghost use Rattle.std.specs.Prelude.{false, not, ◌&&◌, ◌≡◌, ◌↔◌, ◌+◌, ◌<◌, ◌≤◌, ℕ, List, Some, None, IsTrue, length, drop, IfOk, IfSome, slice_index};
+ghost use Rattle.std.specs.Prelude.{false, not, ◌&&◌, ◌≡◌, ◌↔◌, ◌+◌, ◌<◌, ◌≤◌, ℕ, IsTrue, IfOk, IfSome};
+ghost use Rattle.std.specs.Prelude.{List, Some, None, length, drop, slice_index};
 ghost use Rattle.std.specs.Str.{IsCharBoundary};
 ghost use Rattle.cel_lex.specs.declared.literal.Style.{Style};
 ghost use Rattle.cel_lex.specs.Closing.{ClosesAt};

@@ -1,5 +1,6 @@
 -- The run of an accepted image.
-use Rattle.std.proofs.Common.{◌≡◌, ℕ, ◌+◌, ◌-◌, ◌^◌, ◌<◌, ◌≤◌, min, List, [], length, Some, refl, sym, ap, ◌∙◌, subst, arith}
+use Rattle.std.proofs.Common.{◌≡◌, ℕ, ◌+◌, ◌-◌, ◌^◌, ◌<◌, ◌≤◌, min, List}
+use Rattle.std.proofs.Common.{[], length, Some, refl, sym, ap, ◌∙◌, subst, arith}
 use Rattle.std.specs.Prelude.{slice_get}
 use Rattle.cel_code.specs.declared.instr.Instr.{Instr}
 use Rattle.cel_code.specs.declared.image.Image.{Image}
@@ -18,7 +19,9 @@ use Rattle.cel_verify.proofs.Steps.{begins, gets_typed, one_left, runs_within, s
 use Rattle.cel_verify.proofs.Turns.{one_more}
 
 -- what an instruction does, as a step
-stepped : (image : Image) (slots : List Outcome) (at : ℕ) (i : Instr) (stack stack' : List Outcome) (m : Move) → slice_get image.code at ≡ Some i → metered (act (inputs_of image slots) i at stack []) ≡ next_of m stack' [] → metered (step image slots (on at stack [])) ≡ next_of m stack' []
+stepped : (image : Image) (slots : List Outcome) (at : ℕ) (i : Instr) (stack stack' : List Outcome) (m : Move)
+    → slice_get image.code at ≡ Some i → metered (act (inputs_of image slots) i at stack []) ≡ next_of m stack' []
+    → metered (step image slots (on at stack [])) ≡ next_of m stack' []
 stepped image slots at i stack stack' m h e = ap (λ o. metered (act_at (inputs_of image slots) o at stack [])) h ∙ e
 
 -- where the run is
@@ -56,7 +59,8 @@ module _ (p image : Image) (slots : List Outcome) (accepted : IsAccepted p) (is 
   metered_next s (Ends x) le h = refl
   metered_next s Stuck le h = refl
 
-  metered_at : (s : State) (charged steps : ℕ) → Gets p slots (on 0 [] []) s charged steps → metered (step p slots s) ≡ step p slots s
+  metered_at : (s : State) (charged steps : ℕ) → Gets p slots (on 0 [] []) s charged steps
+      → metered (step p slots s) ≡ step p slots s
   metered_at s charged steps g =
       let r = gets_typed p slots accepted.sound (on 0 [] []) s charged steps g (begins p slots accepted.sound) in
       let a = r.1 in
@@ -71,18 +75,26 @@ module _ (p image : Image) (slots : List Outcome) (accepted : IsAccepted p) (is 
 
     -- a step charges no more than the budget, so that its charge is counted whole
     metered_is : metered (step image slots (on at stack [])) ≡ step image slots (on at stack [])
-    metered_is = subst (λ j. metered (step j slots (on at stack [])) ≡ step j slots (on at stack [])) (sym is) (metered_at (on at stack []) charged steps gets)
+    metered_is =
+        let s = on at stack [] in
+        subst (λ j. metered (step j slots s) ≡ step j slots s) (sym is) (metered_at s charged steps gets)
 
     -- no more operands than at any instruction
     pub deep : length stack ≤ greatest_depth image
     deep = subst (λ i. length stack ≤ greatest_depth i) (sym is) (never_more p slots accepted.sound (on at stack []) charged steps gets)
 
-    module _ (i : Instr) (m : Move) (stack' : List Outcome) (hi : slice_get image.code at ≡ Some i) (e : metered (act (inputs_of image slots) i at stack []) ≡ next_of m stack' []) where
+    module _ (i : Instr) (m : Move) (stack' : List Outcome) (hi : slice_get image.code at ≡ Some i)
+        (e : metered (act (inputs_of image slots) i at stack []) ≡ next_of m stack' []) where
       steps_to : step image slots (on at stack []) ≡ next_of m stack' []
       steps_to = sym metered_is ∙ stepped image slots at i stack stack' m hi e
 
-      pub goes : (charge to : ℕ) → m ≡ GoesTo charge to → Gets image slots (on 0 [] []) (on to stack' []) (charged + charge) (steps + 1)
-      goes charge to q = one_more image slots (on at stack []) (on to stack' []) charge charged steps (steps_to ∙ ap (λ n. next_of n stack' []) q) g
+      -- the step, where the move is known
+      moved : (n : Move) → m ≡ n → step image slots (on at stack []) ≡ next_of n stack' []
+      moved n q = steps_to ∙ ap (λ k. next_of k stack' []) q
+
+      pub goes : (charge to : ℕ) → m ≡ GoesTo charge to
+          → Gets image slots (on 0 [] []) (on to stack' []) (charged + charge) (steps + 1)
+      goes charge to q = one_more image slots (on at stack []) (on to stack' []) charge charged steps (moved (GoesTo charge to) q) g
 
       pub there : (charge to : ℕ) → m ≡ GoesTo charge to → IsAt image to (charged + charge) (steps + 1)
       there charge to q =
@@ -91,14 +103,16 @@ module _ (p image : Image) (slots : List Outcome) (accepted : IsAccepted p) (is 
 
       pub finishes : (x : Outcome) → m ≡ EndsWith x → Run p slots x charged (steps + 1)
       finishes x q =
-          subst (λ i. Run i slots x charged (steps + 1)) is (record { last = on at stack []; before = steps; gets = g; ends = steps_to ∙ ap (λ n. next_of n stack' []) q; count = refl })
+          let run : Run image slots x charged (steps + 1) =
+          record { last = on at stack []; before = steps; gets = g; ends = moved (EndsWith x) q; count = refl } in
+          subst (λ i. Run i slots x charged (steps + 1)) is run
 
       pub outcome_fits : (x : Outcome) → m ≡ EndsWith x → Fits x p.result
       outcome_fits x q =
           let w = runs_within p slots accepted.sound in
-          w.outcome (on at stack []) charged steps x gets (subst (λ i. step i slots (on at stack []) ≡ Ends x) is (steps_to ∙ ap (λ n. next_of n stack' []) q))
+          w.outcome (on at stack []) charged steps x gets (subst (λ i. step i slots (on at stack []) ≡ Ends x) is (moved (EndsWith x) q))
 
       pub not_stuck : m ≡ IsStuckHere → ⊥
       not_stuck q =
           let w = runs_within p slots accepted.sound in
-          w.never (on at stack []) charged steps gets (subst (λ i. step i slots (on at stack []) ≡ Stuck) is (steps_to ∙ ap (λ n. next_of n stack' []) q))
+          w.never (on at stack []) charged steps gets (subst (λ i. step i slots (on at stack []) ≡ Stuck) is (moved IsStuckHere q))

@@ -1,8 +1,10 @@
 ghost use Rattle.std.specs.Prelude.{◌≡◌, ◌+◌, ◌-◌, ◌^◌, min, Some, Ok, neg_ℤ, ◌+ℤ◌, ◌-ℤ◌, ◌*ℤ◌, int_div, int_rem};
 ghost use Rattle.cel_value.specs.declared.value.Value as value;
+ghost use Rattle.cel_value.specs.declared.value.Value.{out-Value};
+ghost use Rattle.cel_value.specs.Fits.{is_null};
 ghost use Rattle.cel_check.specs.Operators.{row, operands_of, at_one, at_two, int_or_overflow, uint_or_overflow, divided, less as order_of, lesser_weight as weight_of_lesser, makes};
 ghost use Rattle.cel_check.specs.Meaning.{is_there};
-ghost use Rattle.cel_check.specs.declared.operands.Want.TheVariants.{Ordered};
+ghost use Rattle.cel_check.specs.declared.operands.Want.TheVariants.{Whole, Natural, Ordered};
 ghost use Rattle.cel_check.specs.Wants.{taken};
 ghost use Rattle.cel_machine.specs.Families.{IsOnAny, IsOnInts, IsOnNaturals, IsOnOrdered, truth_where};
 ghost use Rattle.cel_machine.specs.Follow.{counted};
@@ -30,6 +32,7 @@ fn of_one(op: Operator, v: &Value) -> Option<Made>
     match (op, v) {
         (Operator::Not, Value::Bool(b)) => made(Ok(Value::Bool(!*b)), 1),
         (Operator::Negate, Value::Int(n)) => made(negated(*n), 1),
+        (Operator::Not | Operator::Negate, Value::Null) => made(Err(CelError::NullOperand), 1),
         _ => None,
     }
 }
@@ -57,6 +60,30 @@ fn made(outcome: Result<Value, CelError>, charge: u64) -> Option<Made>
     Some(Made { outcome, charge })
 }
 
+/// The integer or error that an operand is, if it is one. Null is an error.
+fn whole(x: Result<&Value, CelError>) -> Option<Result<i64, CelError>>
+    ensures { result ≡ taken Whole (Some (lent x.entry)) }
+{
+    match x {
+        Ok(Value::Int(n)) => Some(Ok(*n)),
+        Ok(Value::Null) => Some(Err(CelError::NullOperand)),
+        Err(e) => Some(Err(e)),
+        _ => None,
+    }
+}
+
+/// The unsigned integer or error that an operand is, if it is one. Null is an error.
+fn natural(x: Result<&Value, CelError>) -> Option<Result<u64, CelError>>
+    ensures { result ≡ taken Natural (Some (lent x.entry)) }
+{
+    match x {
+        Ok(Value::Uint(n)) => Some(Ok(*n)),
+        Ok(Value::Null) => Some(Err(CelError::NullOperand)),
+        Err(e) => Some(Err(e)),
+        _ => None,
+    }
+}
+
 fn arithmetic(
     op: Operator,
     x: Result<&Value, CelError>,
@@ -65,11 +92,10 @@ fn arithmetic(
     requires { IsOnInts (operands_of (row op)) }
     ensures { result ≡ counted (at_two (row op) (Some (lent x.entry)) (Some (lent y.entry))) }
 {
-    match (x, y) {
-        (Ok(Value::Int(m)), Ok(Value::Int(n))) => made(computed(op, *m, *n), 1),
-        (Ok(Value::Int(_)), Err(e)) => made(Err(e), 1),
-        (Err(e), Ok(Value::Int(_)) | Err(_)) => made(Err(e), 1),
-        _ => None,
+    match (whole(x)?, whole(y)?) {
+        (Ok(m), Ok(n)) => made(computed(op, m, n), 1),
+        (Ok(_), Err(e)) => made(Err(e), 1),
+        (Err(e), _) => made(Err(e), 1),
     }
 }
 
@@ -95,11 +121,10 @@ fn natural_arithmetic(
     requires { IsOnNaturals (operands_of (row op)) }
     ensures { result ≡ counted (at_two (row op) (Some (lent x.entry)) (Some (lent y.entry))) }
 {
-    match (x, y) {
-        (Ok(Value::Uint(m)), Ok(Value::Uint(n))) => made(naturals_computed(op, *m, *n), 1),
-        (Ok(Value::Uint(_)), Err(e)) => made(Err(e), 1),
-        (Err(e), Ok(Value::Uint(_)) | Err(_)) => made(Err(e), 1),
-        _ => None,
+    match (natural(x)?, natural(y)?) {
+        (Ok(m), Ok(n)) => made(naturals_computed(op, m, n), 1),
+        (Ok(_), Err(e)) => made(Err(e), 1),
+        (Err(e), _) => made(Err(e), 1),
     }
 }
 
@@ -203,11 +228,17 @@ fn lesser_weight(v: &Value, w: &Value) -> u64
     weight(v).min(weight(w))
 }
 
-/// Whether an outcome may be an operand of a comparison by order.
+fn is_null(v: &Value) -> bool
+    ensures { result ≡ is_null (out-Value v.now) }
+{
+    matches!(v, Value::Null)
+}
+
+/// Whether an outcome may be an operand of a comparison by order. Null may, and is an error.
 fn has_order(x: Result<&Value, CelError>) -> bool
     ensures { result ≡ is_there (taken Ordered (Some (lent x.entry))) }
 {
-    matches!(x, Ok(Value::Bool(_) | Value::Int(_)) | Err(_))
+    matches!(x, Ok(Value::Null | Value::Bool(_) | Value::Int(_)) | Err(_))
 }
 
 fn order(op: Operator, x: Result<&Value, CelError>, y: Result<&Value, CelError>) -> Option<Made>
@@ -219,7 +250,9 @@ fn order(op: Operator, x: Result<&Value, CelError>, y: Result<&Value, CelError>)
     }
     match (x, y) {
         (Err(e), _) => made(Err(e), 1),
+        (Ok(v), _) if is_null(v) => made(Err(CelError::NullOperand), 1),
         (Ok(_), Err(e)) => made(Err(e), 1),
+        (Ok(_), Ok(w)) if is_null(w) => made(Err(CelError::NullOperand), 1),
         (Ok(v), Ok(w)) => match op {
             Operator::Less => truth(less(v, w), true, lesser_weight(v, w)),
             Operator::AtMost => truth(less(w, v), false, lesser_weight(v, w)),

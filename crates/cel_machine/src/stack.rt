@@ -54,7 +54,8 @@ impl<'a> Stack<'a> {
     }
 
     pub fn pop(&mut self) -> Option<Result<Operand<'a>, CelError>>
-        ensures items { MatchOption result ((self.old.items ≡ []) × (self.new.items ≡ [])) (λ x. self.old.items ≡ x ∷ self.new.items) }
+        ensures items { MatchOption result ((self.old.items ≡ []) × (self.new.items ≡ []))
+            (λ x. self.old.items ≡ x ∷ self.new.items) }
         ensures room { self.new.room ≡ self.old.room }
     {
         self.items.pop()

@@ -1,10 +1,11 @@
 ghost use Rattle.std.specs.Prelude.{◌≡◌, ◌+◌, ◌<◌, ◌^◌, List, IfOk, Some, slice_get};
 ghost use Rattle.cel_check.specs.Operators.{row};
 ghost use Rattle.cel_check.specs.Wants.{side_of};
-ghost use Rattle.cel_code.specs.Machine.{Frame, act, inputs_of, push, constant as constant_of, operate_by, made as made_next, join as sides_joined};
+ghost use Rattle.cel_code.specs.Machine.{Frame, act, inputs_of, push, constant as constant_of, operate_by};
+ghost use Rattle.cel_code.specs.Machine.{made as made_next, join as sides_joined};
 ghost use Rattle.cel_machine.specs.Lent.{lent};
 ghost use Rattle.cel_machine.specs.Room.{HasRoom};
-ghost use Rattle.cel_machine.specs.Follow.{metered, metered_one, metered_two, next_of, test_of, join_of, sides_of, branch_of};
+ghost use Rattle.cel_machine.specs.Follow.{LeadsTo, metered_one, metered_two, next_of, test_of, join_of, sides_of, branch_of};
 
 use crate::operand::{Operand, outcome_of, own, read};
 use crate::operate::{on_one, on_two};
@@ -35,7 +36,7 @@ pub fn step<'a>(
 ) -> Result<Move, AllocError>
     requires at { at + 1 < 2 ^ 64 }
     requires room { HasRoom stack.old }
-    ensures acts { IfOk result (λ m. (frames : List Frame) → metered (act (inputs_of image.now slots.now) instr at stack.old.items frames) ≡ next_of m stack.new.items frames) }
+    ensures acts { IfOk result (λ m. LeadsTo (act (inputs_of image.now slots.now) instr at stack.old.items) m stack.new.items) }
     ensures room { stack.new.room ≡ stack.old.room }
 {
     match instr {
@@ -60,7 +61,7 @@ pub fn step<'a>(
 fn constant<'a>(image: &'a Image, number: usize, at: usize, stack: &mut Stack<'a>) -> Move
     requires at { at + 1 < 2 ^ 64 }
     requires room { HasRoom stack.old }
-    ensures acts { (frames : List Frame) → metered (push (constant_of (slice_get image.now.constants number)) at stack.old.items frames) ≡ next_of result stack.new.items frames }
+    ensures acts { LeadsTo (push (constant_of (slice_get image.now.constants number)) at stack.old.items) result stack.new.items }
     ensures room { stack.new.room ≡ stack.old.room }
 {
     let Some(value) = image.constants.get(number) else {
@@ -73,7 +74,7 @@ fn constant<'a>(image: &'a Image, number: usize, at: usize, stack: &mut Stack<'a
 fn operate(op: Operator, at: usize, stack: &mut Stack<'_>) -> Move
     requires at { at + 1 < 2 ^ 64 }
     requires room { HasRoom stack.old }
-    ensures acts { (frames : List Frame) → metered (operate_by (Some op) at stack.old.items frames) ≡ next_of result stack.new.items frames }
+    ensures acts { LeadsTo (operate_by (Some op) at stack.old.items) result stack.new.items }
     ensures room { stack.new.room ≡ stack.old.room }
 {
     match op.operands() {
@@ -122,12 +123,13 @@ fn finish(made: Option<Made>, at: usize, stack: &mut Stack<'_>) -> Move
     Move::GoesTo(made.charge, at + 1)
 }
 
-// The truth value or error that an operand is, if it is one.
+// The truth value or error that an operand is, if it is one. Null is an error.
 fn side(x: Result<&Value, CelError>) -> Option<Result<bool, CelError>>
     ensures { result ≡ side_of (Some (lent x.entry)) }
 {
     match x {
         Ok(Value::Bool(b)) => Some(Ok(*b)),
+        Ok(Value::Null) => Some(Err(CelError::NullOperand)),
         Err(e) => Some(Err(e)),
         _ => None,
     }
@@ -136,7 +138,7 @@ fn side(x: Result<&Value, CelError>) -> Option<Result<bool, CelError>>
 // The jump of a test, which is taken where the top is this truth value.
 fn test(stack: &Stack<'_>, ends: bool, to: usize, at: usize) -> Move
     requires { at + 1 < 2 ^ 64 }
-    ensures { (frames : List Frame) → metered (test_of ends stack.now.items to at frames) ≡ next_of result stack.now.items frames }
+    ensures { LeadsTo (test_of ends stack.now.items to at) result stack.now.items }
 {
     let Some(x) = stack.top() else {
         return Move::IsStuckHere;
@@ -152,7 +154,7 @@ fn test(stack: &Stack<'_>, ends: bool, to: usize, at: usize) -> Move
 fn join(stack: &mut Stack<'_>, all: bool, at: usize) -> Move
     requires at { at + 1 < 2 ^ 64 }
     requires room { HasRoom stack.old }
-    ensures acts { (frames : List Frame) → metered (join_of all stack.old.items at frames) ≡ next_of result stack.new.items frames }
+    ensures acts { LeadsTo (join_of all stack.old.items at) result stack.new.items }
     ensures room { stack.new.room ≡ stack.old.room }
 {
     let Some(y) = stack.pop() else {
@@ -186,7 +188,7 @@ fn joined(
 fn branch(stack: &mut Stack<'_>, if_false: usize, if_error: usize, at: usize) -> Move
     requires at { at + 1 < 2 ^ 64 }
     requires room { HasRoom stack.old }
-    ensures acts { (frames : List Frame) → metered (branch_of if_false if_error stack.old.items at frames) ≡ next_of result stack.new.items frames }
+    ensures acts { LeadsTo (branch_of if_false if_error stack.old.items at) result stack.new.items }
     ensures room { stack.new.room ≡ stack.old.room }
 {
     let Some(x) = stack.pop() else {

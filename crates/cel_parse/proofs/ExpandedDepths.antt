@@ -1,5 +1,6 @@
 -- The expression of a tree is as deep as the tree is counted.
-use Rattle.std.proofs.Common.{◌≡◌, ℕ, ◌+◌, ◌<◌, Bool, true, false, cond, List, [], ◌∷◌, map, Option, Some, None, Result, Ok, Err, refl, sym, ap, subst, ◌∙◌, arith}
+use Rattle.std.proofs.Common.{◌≡◌, ℕ, ◌+◌, ◌<◌, Bool, true, false, cond, List, [], ◌∷◌, map}
+use Rattle.std.proofs.Common.{Option, Some, None, Result, Ok, Err, refl, sym, ap, subst, ◌∙◌, arith}
 use Rattle.std.specs.Prelude.{max, ◌&&◌}
 use Rattle.cel_lex.specs.declared.token.Infix.TheVariants as op
 use Rattle.cel_grammar.specs.declared.fault.ParseFault.{ParseFault}
@@ -10,7 +11,8 @@ use Rattle.cel_grammar.specs.declared.tree.Tree.{Tree, roll-Tree}
 use Rattle.cel_grammar.specs.declared.tree.Tree.TheOpen.{Tree-F}
 use Rattle.cel_grammar.specs.declared.tree.Tree.TheFolds.{map-Tree}
 use Rattle.cel_grammar.specs.Words.{is_has, word_at}
-use Rattle.cel_grammar.specs.Limits.{Depth, deepest as deepest_tree, deepest_entry as deepest_tree_entry, one_select, call_depth, depth, depth_at as tree_depth_at, measure, measure_at}
+use Rattle.cel_grammar.specs.Limits.{Depth, deepest as deepest_tree, deepest_entry as deepest_tree_entry, one_select, call_depth}
+use Rattle.cel_grammar.specs.Limits.{depth, depth_at as tree_depth_at, measure, measure_at}
 use Rattle.cel_grammar.specs.Descent.{◌>>=◌}
 use Rattle.cel_grammar.proofs.Depths.{depth_pos}
 use Rattle.cel_grammar.proofs.Levels.{Such, fold_level, every_tree}
@@ -23,7 +25,9 @@ use Rattle.cel_parse.specs.declared.expr.Syntax.{Syntax}
 use Rattle.cel_parse.specs.declared.expr.Syntax.TheVariants as syntax
 use Rattle.cel_parse.specs.Macros.{loop_of}
 use Rattle.cel_parse.specs.Sizes.{deepest, deepest_entry, depth_at, depth_of, entry_depths}
-use Rattle.cel_parse.specs.Expansion.{expr, signed, form_of, is_in_range, number_of, Expanded, Role, names, selects, other, Expansion, each, each_entry, plain_call, has_by, has_of, plain_method, loop_by, where_by, loop_of_kind, method_by, expanded_at, role_at, expansion, expanded}
+use Rattle.cel_parse.specs.Expansion.{expr, signed, form_of, is_in_range, number_of, Expanded, Role, names, selects}
+use Rattle.cel_parse.specs.Expansion.{other, Expansion, each, each_entry, plain_call, has_by, has_of, plain_method, loop_by}
+use Rattle.cel_parse.specs.Expansion.{where_by, loop_of_kind, method_by, expanded_at, role_at, expansion, expanded}
 
 -- the depth of one level
 level : (place : ℕ) (form : Syntax Expr)
@@ -60,7 +64,8 @@ deep_as n m r e h x q = h x q ∙ e
 -- a macro sees what a tree's depth is counted by
 data IsSeen : Depth → Role → Type 0 where
   a_name : {d : Depth} {n : ℕ} → d.deep ≡ 1 → d.selects ≡ false → IsSeen d (names n)
-  a_select : {d : Depth} {field : ℕ} {a : Expanded} → d.selects ≡ true → Holds (λ e. 1 + depth_of e ≡ d.deep) a → IsSeen d (selects field a)
+  a_select : {d : Depth} {field : ℕ} {a : Expanded} → d.selects ≡ true → Holds (λ e. 1 + depth_of e ≡ d.deep) a
+      → IsSeen d (selects field a)
   another : {d : Depth} → d.selects ≡ false → IsSeen d other
 
 -- what is expanded is as deep as it is counted
@@ -71,7 +76,8 @@ record IsKept (d : Depth) (x : Expansion) : Type 0 where
 
 data AllKept : List Depth → List Expansion → Type 0 where
   none : AllKept [] []
-  one : {d : Depth} {ds : List Depth} {x : Expansion} {xs : List Expansion} → IsKept d x → AllKept ds xs → AllKept (d ∷ ds) (x ∷ xs)
+  one : {d : Depth} {ds : List Depth} {x : Expansion} {xs : List Expansion} → IsKept d x → AllKept ds xs
+      → AllKept (d ∷ ds) (x ∷ xs)
 
 data AllEntries : List (Entry Depth) → List (Entry Expansion) → Type 0 where
   no_entry : AllEntries [] []
@@ -93,7 +99,8 @@ entries_deep (one_entry {d} {ds} {x} {xs} k v r) =
     in let s = entries_deep r es i in omega arith))))
 
 module _ (source : List ℕ) (place : ℕ) where
-  call_deep : {ds : List Depth} {xs : List Expansion} → AllKept ds xs → Holds (IsDeep (deepest_tree ds + 1)) (plain_call source place xs)
+  call_deep : {ds : List Depth} {xs : List Expansion} → AllKept ds xs
+      → Holds (IsDeep (deepest_tree ds + 1)) (plain_call source place xs)
   call_deep {ds} {xs} k =
       holds_then _ (each xs) _ (λ es h. holds_ok _ _ (let l = level place (syntax.Call (word_at source place) es)
       in let p = each_deep k es h in omega arith))
@@ -286,7 +293,8 @@ module _ (source : List ℕ) where
   abbrev whole_at : Tree-F Expansion → Expansion
   whole_at t = record { role = role_at t; own = expanded_at source t }
 
-  kept_as : (d c : Depth) (x y : Expansion) → d ≡ c → x ≡ y → 0 < d.deep → Holds (IsDeep c.deep) y.own → IsSeen c y.role → IsKept d x
+  kept_as : (d c : Depth) (x y : Expansion) → d ≡ c → x ≡ y → 0 < d.deep → Holds (IsDeep c.deep) y.own → IsSeen c y.role
+      → IsKept d x
   kept_as d c x y e f some own role =
       subst (λ z. IsKept z x) (sym e) (subst (λ z. IsKept c z) (sym f) (record {
         some =

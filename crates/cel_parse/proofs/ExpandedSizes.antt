@@ -1,5 +1,6 @@
 -- The expression of a tree has no more nodes than the tree.
-use Rattle.std.proofs.Common.{◌≡◌, ℕ, ◌+◌, ◌≤◌, Bool, true, false, cond, List, [], ◌∷◌, map, Option, Some, None, Ok, Err, sym, subst, arith}
+use Rattle.std.proofs.Common.{◌≡◌, ℕ, ◌+◌, ◌≤◌, Bool, true, false, cond, List, []}
+use Rattle.std.proofs.Common.{◌∷◌, map, Option, Some, None, Ok, Err, sym, subst, arith}
 use Rattle.cel_lex.specs.declared.token.Infix.TheVariants as op
 use Rattle.cel_grammar.specs.declared.fault.ParseFault.{ParseFault}
 use Rattle.cel_grammar.specs.declared.tree.Entry.{Entry}
@@ -20,7 +21,9 @@ use Rattle.cel_parse.specs.declared.expr.Syntax.{Syntax}
 use Rattle.cel_parse.specs.declared.expr.Syntax.TheVariants as syntax
 use Rattle.cel_parse.specs.Macros.{loop_of}
 use Rattle.cel_parse.specs.Sizes.{total, total_entries, nodes_at, nodes_of, entry_sizes}
-use Rattle.cel_parse.specs.Expansion.{expr, signed, form_of, is_in_range, number_of, Expanded, Role, names, selects, other, Expansion, each, each_entry, plain_call, has_by, has_of, plain_method, loop_by, where_by, loop_of_kind, method_by, expanded_at, role_at, expansion, expanded}
+use Rattle.cel_parse.specs.Expansion.{expr, signed, form_of, is_in_range, number_of, Expanded, Role, names, selects}
+use Rattle.cel_parse.specs.Expansion.{other, Expansion, each, each_entry, plain_call, has_by, has_of, plain_method, loop_by}
+use Rattle.cel_parse.specs.Expansion.{where_by, loop_of_kind, method_by, expanded_at, role_at, expansion, expanded}
 use Rattle.cel_parse.proofs.ExpandedDepths.{Holds, holds_then, holds_ok}
 
 -- how many nodes one level has

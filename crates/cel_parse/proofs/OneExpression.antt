@@ -27,7 +27,8 @@ use Rattle.cel_grammar.proofs.Answered.{one_tree}
 same_tokens : {text : List ℕ} {ts us : List Token} → IsCut text ts → IsCut text us → ts ≡ us
 same_tokens p q = one_cut p.cut q.cut
 
-same_tree : {text : List ℕ} {ts us : List Token} {a b : Tree} → IsCut text ts → IsCut text us → IsTree text ts a → IsTree text us b → a ≡ b
+same_tree : {text : List ℕ} {ts us : List Token} {a b : Tree} → IsCut text ts → IsCut text us → IsTree text ts a
+    → IsTree text us b → a ≡ b
 same_tree {text} {ts} {us} {a} {b} p q t u = one_tree text ts a b (few_tokens p) t (subst (λ x. IsTree text x b) (sym (same_tokens p q)) u)
 
 pub same_expression : (text : List ℕ) (a b : Expr) → IsParsed text a → IsParsed text b → a ≡ b
@@ -42,7 +43,8 @@ has_tree : {text : List ℕ} {ts : List Token} {e : Tree} {f : ParseFault} → H
 has_tree {e = e} (unexpected u) t = u.stops u.rest (agrees_self u.rest) e (subst (λ x. Derives Expression x [] e) u.tokens t.derived)
 has_tree {e = e} (too_deep d) t = d.none_within e t.derived t.within
 
-tree_or_none : {text : List ℕ} {ts us : List Token} {e : Tree} {f : ParseFault} → IsCut text ts → IsCut text us → HasNoTree text ts f → IsTree text us e → ⊥
+tree_or_none : {text : List ℕ} {ts us : List Token} {e : Tree} {f : ParseFault} → IsCut text ts → IsCut text us
+    → HasNoTree text ts f → IsTree text us e → ⊥
 tree_or_none {text} {e = e} p q n t = has_tree n (subst (λ x. IsTree text x e) (same_tokens q p) t)
 
 pub not_both : (text : List ℕ) (e : Expr) (f : ParseFault) → IsParsed text e → IsRefused text f → ⊥
@@ -77,18 +79,21 @@ first_fault text f g h (no_expression c t m x) (no_expression d u k y) q = let e
 pub only_fault : (text : List ℕ) (f : LexFault) (g : ParseFault) → IsRefused text (Lex f) → IsRefused text g → g ≡ Lex f
 only_fault text f g r s = first_fault text f g (Lex f) r s refl
 
-unexpected_of : {text : List ℕ} {ts : List Token} (f : ParseFault) (p : ℕ) → HasNoTree text ts f → f ≡ Unexpected p → IsUnexpected (length text) ts p
+unexpected_of : {text : List ℕ} {ts : List Token} (f : ParseFault) (p : ℕ) → HasNoTree text ts f → f ≡ Unexpected p
+    → IsUnexpected (length text) ts p
 unexpected_of {text} {ts} f p (unexpected {place} u) h = subst (λ x. IsUnexpected (length text) ts x) (cc) u
 unexpected_of f p (too_deep d) h = absurd cc
 
 -- where no token is expected, it is one place
-unexpected_place : (text : List ℕ) (f g : ParseFault) (p q : ℕ) → IsRefused text f → IsRefused text g → f ≡ Unexpected p → g ≡ Unexpected q → p ≡ q
+unexpected_place : (text : List ℕ) (f g : ParseFault) (p q : ℕ) → IsRefused text f → IsRefused text g → f ≡ Unexpected p
+    → g ≡ Unexpected q → p ≡ q
 unexpected_place text f g p q (no_cut r) s h i = absurd cc
 unexpected_place text f g p q (bad_macro c t w) s h i = absurd cc
 unexpected_place text f g p q (no_expression {e = e} c t m x) s h i = absurd (let l = expanded_lexical text e f x in let k = l.1 in cc)
 unexpected_place text f g p q (no_tree c n) (no_cut r) h i = absurd cc
 unexpected_place text f g p q (no_tree c n) (bad_macro d u w) h i = absurd cc
-unexpected_place text f g p q (no_tree c n) (no_expression {e = e} d u m y) h i = absurd (let l = expanded_lexical text e g y in let k = l.1 in cc)
+unexpected_place text f g p q (no_tree c n) (no_expression {e = e} d u m y) h i =
+    absurd (let l = expanded_lexical text e g y in let k = l.1 in cc)
 unexpected_place text f g p q (no_tree {ts = ts} c n) (no_tree {ts = us} d m) h i =
     one_place (unexpected_of f p n h) (subst (λ x. IsUnexpected (length text) x q) (same_tokens d c) (unexpected_of g q m i))
 

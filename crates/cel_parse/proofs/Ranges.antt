@@ -1,5 +1,6 @@
 -- The only fault of the expression of a tree is a number out of range.
-use Rattle.std.proofs.Common.{◌≡◌, ℕ, Bool, true, false, cond, List, [], ◌∷◌, Option, Some, None, Result, Ok, Err, refl, sym, subst}
+use Rattle.std.proofs.Common.{◌≡◌, ℕ, Bool, true, false, cond, List, [], ◌∷◌}
+use Rattle.std.proofs.Common.{Option, Some, None, Result, Ok, Err, refl, sym, subst}
 use Rattle.std.specs.Prelude.{map}
 use Rattle.cel_lex.specs.declared.fault.LexFault.{LexFault}
 use Rattle.cel_parse.specs.declared.expr.Expr.{Expr}
@@ -15,13 +16,16 @@ use Rattle.cel_grammar.specs.Words.{is_has, word_at}
 use Rattle.cel_parse.specs.Macros.{loop_of}
 use Rattle.cel_grammar.specs.Descent.{◌>>=◌}
 use Rattle.cel_grammar.proofs.Levels.{Such, fold_level, every_tree}
-use Rattle.cel_parse.specs.Expansion.{Expanded, Role, names, selects, other, Expansion, each, each_entry, plain_call, has_by, has_of, plain_method, loop_by, where_by, loop_of_kind, method_by, is_in_range, expanded_at, role_at, expansion, expanded}
+use Rattle.cel_parse.specs.Expansion.{Expanded, Role, names, selects, other, Expansion, each}
+use Rattle.cel_parse.specs.Expansion.{each_entry, plain_call, has_by, has_of, plain_method, loop_by, where_by}
+use Rattle.cel_parse.specs.Expansion.{loop_of_kind, method_by, is_in_range, expanded_at, role_at, expansion, expanded}
 
 -- a fault, if there is one, is the lexer's
 abbrev Lexical : {A : Type 0} → Result A ParseFault → Type 0
 Lexical r = (f : ParseFault) → r ≡ Err f → (g : LexFault) × (f ≡ Lex g)
 
-lexical_then : {A B : Type 0} (r : Result A ParseFault) (go : A → Result B ParseFault) → Lexical r → ((x : A) → Lexical (go x)) → Lexical (r >>= go)
+lexical_then : {A B : Type 0} (r : Result A ParseFault) (go : A → Result B ParseFault) → Lexical r → ((x : A) → Lexical (go x))
+    → Lexical (r >>= go)
 lexical_then (Ok x) go first next f h = next x f h
 lexical_then (Err e) go first next f h = let p = first e refl in (p.0, let q = p.1 in cc)
 
@@ -46,7 +50,8 @@ data AllGood : List Expansion → Type 0 where
 
 data AllEntries : List (Entry Expansion) → Type 0 where
   no_entry : AllEntries []
-  one_entry : {x : Entry Expansion} {xs : List (Entry Expansion)} → Good x.key → Good x.value → AllEntries xs → AllEntries (x ∷ xs)
+  one_entry : {x : Entry Expansion} {xs : List (Entry Expansion)} → Good x.key → Good x.value → AllEntries xs
+      → AllEntries (x ∷ xs)
 
 each_lexical : {xs : List Expansion} → AllGood xs → Lexical (each xs)
 each_lexical none = lexical_ok []
@@ -54,7 +59,9 @@ each_lexical (some {x} {xs} g r) = lexical_then x.own _ g.0 (λ e. lexical_then 
 
 entries_lexical : {xs : List (Entry Expansion)} → AllEntries xs → Lexical (each_entry xs)
 entries_lexical no_entry = lexical_ok []
-entries_lexical (one_entry {x} {xs} k v r) = lexical_then x.key.own _ k.0 (λ a. lexical_then x.value.own _ v.0 (λ b. lexical_then (each_entry xs) _ (entries_lexical r) (λ es. lexical_ok _)))
+entries_lexical (one_entry {x} {xs} k v r) =
+    lexical_then x.key.own _ k.0
+    (λ a. lexical_then x.value.own _ v.0 (λ b. lexical_then (each_entry xs) _ (entries_lexical r) (λ es. lexical_ok _)))
 
 module _ (source : List ℕ) (place : ℕ) where
   plain_lexical : {xs : List Expansion} → AllGood xs → Lexical (plain_call source place xs)
@@ -84,18 +91,21 @@ module _ (source : List ℕ) (place : ℕ) where
     loop_lexical x b l other g h = method_lexical (some g (some h none))
 
     where_lexical : (x p t : Expansion) (r : Role) → Good x → Good p → Good t → Lexical (where_by source place a x p t r)
-    where_lexical x p t (names n) g h i = lexical_then a _ la (λ e. lexical_then p.own _ h.0 (λ q. lexical_then t.own _ i.0 (λ u. lexical_ok _)))
+    where_lexical x p t (names n) g h i =
+        lexical_then a _ la (λ e. lexical_then p.own _ h.0 (λ q. lexical_then t.own _ i.0 (λ u. lexical_ok _)))
     where_lexical x p t (selects field c) g h i = method_lexical (some g (some h (some i none)))
     where_lexical x p t other g h i = method_lexical (some g (some h (some i none)))
 
-    three_lexical : (x p t : Expansion) (l : Loop) → Good x → Good p → Good t → Lexical (loop_of_kind source place l a (x ∷ p ∷ t ∷ []))
+    three_lexical : (x p t : Expansion) (l : Loop) → Good x → Good p → Good t
+        → Lexical (loop_of_kind source place l a (x ∷ p ∷ t ∷ []))
     three_lexical x p t loop.All g h i = method_lexical (some g (some h (some i none)))
     three_lexical x p t loop.Exists g h i = method_lexical (some g (some h (some i none)))
     three_lexical x p t loop.ExistsOne g h i = method_lexical (some g (some h (some i none)))
     three_lexical x p t loop.Filter g h i = method_lexical (some g (some h (some i none)))
     three_lexical x p t loop.Map g h i = where_lexical x p t x.role g h i
 
-    more_lexical : {x p t u : Expansion} {xs : List Expansion} (l : Loop) → AllGood (x ∷ p ∷ t ∷ u ∷ xs) → Lexical (loop_of_kind source place l a (x ∷ p ∷ t ∷ u ∷ xs))
+    more_lexical : {x p t u : Expansion} {xs : List Expansion} (l : Loop) → AllGood (x ∷ p ∷ t ∷ u ∷ xs)
+        → Lexical (loop_of_kind source place l a (x ∷ p ∷ t ∷ u ∷ xs))
     more_lexical loop.All g = method_lexical g
     more_lexical loop.Exists g = method_lexical g
     more_lexical loop.ExistsOne g = method_lexical g
@@ -152,12 +162,16 @@ module _ (source : List ℕ) where
   lexical_at (Tree-F.Call place xs) = call_by source place (is_has source place) (all_good xs)
   lexical_at (Tree-F.Select place a) = lexical_then (of_such a).own _ a.1.0 (λ x. lexical_ok _)
   lexical_at (Tree-F.Method place a xs) = kind_lexical source place (of_such a).own a.1.0 (loop_of (word_at source place)) (all_good xs)
-  lexical_at (Tree-F.Index place a b) = lexical_then (of_such a).own _ a.1.0 (λ x. lexical_then (of_such b).own _ b.1.0 (λ y. lexical_ok _))
+  lexical_at (Tree-F.Index place a b) =
+      lexical_then (of_such a).own _ a.1.0 (λ x. lexical_then (of_such b).own _ b.1.0 (λ y. lexical_ok _))
   lexical_at (Tree-F.List place xs) = lexical_then (each (map of_such xs)) _ (each_lexical (all_good xs)) (λ es. lexical_ok _)
   lexical_at (Tree-F.Map place es) = lexical_then (each_entry (map entry_of es)) _ (entries_lexical (all_entries es)) (λ es. lexical_ok _)
   lexical_at (Tree-F.Unary place o a) = lexical_then (of_such a).own _ a.1.0 (λ x. lexical_ok _)
-  lexical_at (Tree-F.Binary place o a b) = lexical_then (of_such a).own _ a.1.0 (λ x. lexical_then (of_such b).own _ b.1.0 (λ y. lexical_ok _))
-  lexical_at (Tree-F.Conditional place c a b) = lexical_then (of_such c).own _ c.1.0 (λ x. lexical_then (of_such a).own _ a.1.0 (λ y. lexical_then (of_such b).own _ b.1.0 (λ z. lexical_ok _)))
+  lexical_at (Tree-F.Binary place o a b) =
+      lexical_then (of_such a).own _ a.1.0 (λ x. lexical_then (of_such b).own _ b.1.0 (λ y. lexical_ok _))
+  lexical_at (Tree-F.Conditional place c a b) =
+      lexical_then (of_such c).own _ c.1.0
+      (λ x. lexical_then (of_such a).own _ a.1.0 (λ y. lexical_then (of_such b).own _ b.1.0 (λ z. lexical_ok _)))
 
   kept_at : (y : Tree-F (Such IsGood)) → Kept (role_at (below y))
   kept_at (Tree-F.Null place) = tt

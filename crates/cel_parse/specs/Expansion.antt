@@ -1,5 +1,6 @@
 -- The expression of a tree, with its macros expanded (cel-spec, "Macros").
-use Rattle.std.specs.Prelude.{ℕ, ◌^◌, ℤ, pos, negsuc, zero, suc, Bool, true, false, List, [], ◌∷◌, map, Option, Some, None, Result, Ok, Err, nat_le, nat_lt, if◌then◌else◌}
+use Rattle.std.specs.Prelude.{ℕ, ◌^◌, ℤ, pos, negsuc, zero, suc, Bool, true, false, List, []}
+use Rattle.std.specs.Prelude.{◌∷◌, map, Option, Some, None, Result, Ok, Err, nat_le, nat_lt, if◌then◌else◌}
 use Rattle.cel_lex.specs.declared.token.Infix.TheVariants as op
 use Rattle.cel_lex.specs.declared.fault.LexFaultKind.TheVariants.{IntRange}
 use Rattle.cel_parse.specs.declared.expr.BinaryOperator.TheVariants as binary

@@ -1,5 +1,6 @@
 -- Calls of macros whose arguments are wrong (cel-spec, "Macros").
-use Rattle.std.specs.Prelude.{ℕ, min, Bool, true, false, ◌&&◌, not, List, [], ◌∷◌, map, Option, Some, None, if◌then◌else◌, codes}
+use Rattle.std.specs.Prelude.{ℕ, min, Bool, true, false, ◌&&◌, not, List}
+use Rattle.std.specs.Prelude.{[], ◌∷◌, map, Option, Some, None, if◌then◌else◌, codes}
 use Rattle.std.specs.Str.{bytes_eq}
 use Rattle.cel_parse.specs.declared.expr.Loop.{Loop}
 use Rattle.cel_parse.specs.declared.expr.Loop.TheVariants as loop

@@ -4,7 +4,9 @@ ghost use Rattle.std.specs.Prelude.{◌≡◌, ℕ, List, IfOk, Ok};
 ghost use Rattle.cel_parse.specs.declared.expr.Expr.{Expr};
 ghost use Rattle.cel_grammar.specs.Views.{same, Gives, Carries};
 ghost use Rattle.cel_grammar.specs.Words.{word_at};
-ghost use Rattle.cel_parse.specs.Expansion.{expr, number_of, form_of, each, each_entry, plain_call, has_of, call_of, name_in, loop_name, plain_method, loop_of_kind, method_of, expansion, expansions, entry_expansions, expanded};
+ghost use Rattle.cel_parse.specs.Expansion.{expr, number_of, form_of, each, each_entry, plain_call, has_of, call_of};
+ghost use Rattle.cel_parse.specs.Expansion.{name_in, loop_name, plain_method, loop_of_kind, method_of};
+ghost use Rattle.cel_parse.specs.Expansion.{expansion, expansions, entry_expansions, expanded};
 
 use crate::expr::{BinaryOperator, Expr, Loop, Syntax};
 use crate::macros::loop_at;

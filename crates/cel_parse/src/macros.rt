@@ -1,7 +1,8 @@
 //! Calls of macros whose arguments are wrong.
 
 ghost use Rattle.std.specs.Prelude.{◌≡◌, ℕ, List, map, not, ◌&&◌};
-ghost use Rattle.cel_parse.specs.Macros.{loop_of, lesser, mark, wrong_if, suits_has, suits_loop, wrong_method, least, least_entry, first_wrong, marks};
+ghost use Rattle.cel_parse.specs.Macros.{loop_of, lesser, mark, marks, least, least_entry};
+ghost use Rattle.cel_parse.specs.Macros.{wrong_if, suits_has, suits_loop, wrong_method, first_wrong};
 ghost use Rattle.cel_grammar.specs.Words.{is_has, word_at};
 
 use crate::expr::Loop;

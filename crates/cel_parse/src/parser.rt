@@ -57,7 +57,8 @@ pub fn one_expression()
     ensures either { (text : List ℕ) (e : Expr) (f : ParseFault) → IsParsed text e → IsRefused text f → ⊥ }
     ensures lexing { (text : List ℕ) (f : LexFault) (g : ParseFault) → IsRefused text (Lex f) → IsRefused text g → g ≡ Lex f }
     ensures places { (text : List ℕ) (p q : ℕ) → IsRefused text (Unexpected p) → IsRefused text (Unexpected q) → p ≡ q }
-    ensures macros { (text : List ℕ) (p : ℕ) (g : ParseFault) → IsRefused text (BadMacro p) → IsRefused text g → g ≡ BadMacro p }
+    ensures macros { (text : List ℕ) (p : ℕ) (g : ParseFault)
+        → IsRefused text (BadMacro p) → IsRefused text g → g ≡ BadMacro p }
     ensures some { (text : List ℕ) → IsAnswered text }
     ensures spelled { (text : List ℕ) (e : Expr) → IsParsed text e ↔ (parsed text ≡ Ok e) }
     ensures told { (text : List ℕ) (f : ParseFault) → parsed text ≡ Err f → IsRefused text f }

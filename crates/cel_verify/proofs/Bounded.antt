@@ -1,5 +1,7 @@
 -- No instruction of a sound image has more operands than a stack may have.
-use Rattle.std.proofs.Common.{◌≡◌, ℕ, zero, suc, ◌+◌, ◌<◌, ◌≤◌, Bool, true, not, ◌&&◌, ◌||◌, nat_eq, List, [], ◌∷◌, length, Option, Some, None, refl, sym, ap, ◌∙◌, inl, inr, ⊎_elim, arith, add-one, true≢false}
+use Rattle.std.proofs.Common.{◌≡◌, ℕ, zero, suc, ◌+◌, ◌<◌, ◌≤◌, Bool, true, not}
+use Rattle.std.proofs.Common.{◌&&◌, ◌||◌, nat_eq, List, [], ◌∷◌, length, Option, Some, None}
+use Rattle.std.proofs.Common.{refl, sym, ap, ◌∙◌, inl, inr, ⊎_elim, arith, add-one, true≢false}
 use Rattle.std.specs.Prelude.{Ok, Err, slice_get, nat_le}
 use Rattle.std.proofs.lemmas.Bool.{and_parts, or_cases, eqb-true, leb-true}
 use Rattle.std.proofs.lemmas.Option.{slice_get_within}
@@ -12,7 +14,8 @@ use Rattle.cel_code.specs.declared.image.Image.{Image}
 use Rattle.cel_check.specs.Meaning.{is_there, is_truth}
 use Rattle.cel_verify.specs.declared.fault.VerifyRule.TheVariants.{TooDeep, WrongKind}
 use Rattle.cel_verify.specs.StackTypes.{StackTypes, all_assignable}
-use Rattle.cel_verify.specs.Sound.{Falls, Open, some_of, jumps_of, is_jumped, is_target, enters, shallow, entered, typed_rule, entry_in, entry_or, fallen, label_at, IsSound, max_depth}
+use Rattle.cel_verify.specs.Sound.{Falls, Open, some_of, jumps_of, is_jumped, is_target, enters, shallow}
+use Rattle.cel_verify.specs.Sound.{entered, typed_rule, entry_in, entry_or, fallen, label_at, IsSound, max_depth}
 use Rattle.cel_verify.specs.Paths.{IsIn}
 use Rattle.cel_verify.specs.Typed.{below_all, types_at, opens_at}
 use Rattle.cel_verify.specs.Depths.{operands_of, depth_at, deepest, greatest_depth}
@@ -39,7 +42,8 @@ record Jumper (code : List Instr) (to : ℕ) : Type 0 where
 -- one of these is the number
 one_is : (ts : List ℕ) (to : ℕ) → some_of (λ t. nat_eq t to) ts ≡ true → IsIn to ts
 one_is [] to h = absurd (true≢false (sym h))
-one_is (t ∷ ts) to h = ⊎_elim (λ a. inl (sym (eqb-true t to a))) (λ b. inr (one_is ts to b)) (or_cases (nat_eq t to) (some_of (λ u. nat_eq u to) ts) h)
+one_is (t ∷ ts) to h =
+    ⊎_elim (λ a. inl (sym (eqb-true t to a))) (λ b. inr (one_is ts to b)) (or_cases (nat_eq t to) (some_of (λ u. nat_eq u to) ts) h)
 
 jumper : (code : List Instr) (to : ℕ) → is_jumped code to ≡ true → Jumper code to
 jumper [] to h = absurd (true≢false (sym h))
@@ -56,21 +60,31 @@ enters_long o ts es h e =
     let long = same_long ts r.0 r.2 in
     omega (arith, ap (length {A = CelType}) same)
 
-jump_long : (image : Image) (i : Instr) (opens : List Open) (ts es : StackTypes) (m : Option StackTypes) (to : ℕ) → typed_rule image i opens ts ≡ Ok m → IsIn to (jumps_of i) → entry_in image.targets to ≡ Some es → length es ≤ length ts
+jump_long : (image : Image) (i : Instr) (opens : List Open) (ts es : StackTypes) (m : Option StackTypes) (to : ℕ)
+    → typed_rule image i opens ts ≡ Ok m → IsIn to (jumps_of i) → entry_in image.targets to ≡ Some es → length es ≤ length ts
 jump_long image (AndTest u) opens [] es m to h j e = cc
 jump_long image (AndTest u) opens (t ∷ ts) es m to h j e =
-    ⊎_elim (λ q. let p = two_needs (is_truth t) (enters (entry_in image.targets u) (type.Bool ∷ ts)) (Ok (Some (t ∷ ts))) m h in enters_long (entry_in image.targets u) (type.Bool ∷ ts) es p.1 (ap (entry_in image.targets) (sym q) ∙ e)) (λ x. absurd x) j
+    let o = entry_in image.targets u in
+    let p = two_needs (is_truth t) (enters o (type.Bool ∷ ts)) (Ok (Some (t ∷ ts))) m h in
+    ⊎_elim (λ q. enters_long o (type.Bool ∷ ts) es p.1 (ap (entry_in image.targets) (sym q) ∙ e)) (λ x. absurd x) j
 jump_long image (OrTest u) opens [] es m to h j e = cc
 jump_long image (OrTest u) opens (t ∷ ts) es m to h j e =
-    ⊎_elim (λ q. let p = two_needs (is_truth t) (enters (entry_in image.targets u) (type.Bool ∷ ts)) (Ok (Some (t ∷ ts))) m h in enters_long (entry_in image.targets u) (type.Bool ∷ ts) es p.1 (ap (entry_in image.targets) (sym q) ∙ e)) (λ x. absurd x) j
+    let o = entry_in image.targets u in
+    let p = two_needs (is_truth t) (enters o (type.Bool ∷ ts)) (Ok (Some (t ∷ ts))) m h in
+    ⊎_elim (λ q. enters_long o (type.Bool ∷ ts) es p.1 (ap (entry_in image.targets) (sym q) ∙ e)) (λ x. absurd x) j
 jump_long image (Cond f g) opens [] es m to h j e = cc
 jump_long image (Cond f g) opens (t ∷ ts) es m to h j e =
-    let p = two_needs (is_truth t) (enters (entry_in image.targets f) ts && enters (entry_in image.targets g) (type.Never ∷ ts)) (Ok (Some ts)) m h in
-    let q = and_parts (enters (entry_in image.targets f) ts) (enters (entry_in image.targets g) (type.Never ∷ ts)) p.1 in
-    ⊎_elim (λ k. let l = enters_long (entry_in image.targets f) ts es q.0 (ap (entry_in image.targets) (sym k) ∙ e) in omega arith)
-    (λ r. ⊎_elim (λ k. enters_long (entry_in image.targets g) (type.Never ∷ ts) es q.1 (ap (entry_in image.targets) (sym k) ∙ e)) (λ x. absurd x) r) j
+    let a = entry_in image.targets f in
+    let b = entry_in image.targets g in
+    let p = two_needs (is_truth t) (enters a ts && enters b (type.Never ∷ ts)) (Ok (Some ts)) m h in
+    let q = and_parts (enters a ts) (enters b (type.Never ∷ ts)) p.1 in
+    ⊎_elim (λ k. let l = enters_long a ts es q.0 (ap (entry_in image.targets) (sym k) ∙ e) in omega arith)
+    (λ r. ⊎_elim (λ k. enters_long b (type.Never ∷ ts) es q.1 (ap (entry_in image.targets) (sym k) ∙ e)) (λ x. absurd x) r)
+    j
 jump_long image (Jump u) opens ts es m to h j e =
-    ⊎_elim (λ q. let p = one_needs (enters (entry_in image.targets u) ts) (Ok None) m h in enters_long (entry_in image.targets u) ts es p.0 (ap (entry_in image.targets) (sym q) ∙ e)) (λ x. absurd x) j
+    let o = entry_in image.targets u in
+    let p = one_needs (enters o ts) (Ok None) m h in
+    ⊎_elim (λ q. enters_long o ts es p.0 (ap (entry_in image.targets) (sym q) ∙ e)) (λ x. absurd x) j
 jump_long image (Const k) opens ts es m to h j e = absurd j
 jump_long image (Op k) opens ts es m to h j e = absurd j
 jump_long image And opens ts es m to h j e = absurd j
@@ -87,7 +101,8 @@ shallow_long (Ok (Some ts)) ns e =
 shallow_long (Err k) ns e = cc
 
 -- what falls on to an entry is as long as it
-entry_long : (o : Option StackTypes) (r : Falls) (ns ts : StackTypes) → entered o r ≡ Ok (Some ns) → entry_or o (Some ns) ≡ Some ts → length ts ≡ length ns
+entry_long : (o : Option StackTypes) (r : Falls) (ns ts : StackTypes) → entered o r ≡ Ok (Some ns) → entry_or o (Some ns) ≡ Some ts
+    → length ts ≡ length ns
 entry_long None r ns ts h e = let same : ns ≡ ts = cc e in ap (length {A = CelType}) (sym same)
 entry_long (Some es) (Err k) ns ts h e = cc
 entry_long (Some es) (Ok None) ns ts h e = cc
@@ -107,30 +122,43 @@ entry_is None ts e = e
 entry_is (Some es) ts e = e
 
 module _ (image : Image) (sound : IsSound image) where
-  label_long : (n at : ℕ) → at < n → at < length image.code → (ts : StackTypes) → types_at image at ≡ Some ts → length ts ≤ max_depth
+  label_long : (n at : ℕ) → at < n → at < length image.code → (ts : StackTypes) → types_at image at ≡ Some ts
+      → length ts ≤ max_depth
   label_long zero at lt inside ts e = absurd (omega arith)
   label_long (suc n) zero lt inside ts e = let none : [] ≡ ts = cc e in omega (arith, ap (length {A = CelType}) none)
   label_long (suc n) (suc k) lt inside ts e =
       let i = get_some image.code k (omega arith) in
       let p = parts_at image sound k i.0 (omega arith) i.1 in
-      by (λ j l m us q. label_long n j l m us q) i.0 i.1 (sound.each k (omega arith)).next p (ap (entry_or (entry_in image.targets (suc k))) (ap fallen (sym (sound.each k (omega arith)).is)) ∙ e)
+      let holds = sound.each k (omega arith) in
+      by (λ j l m us q. label_long n j l m us q) i.0 i.1 holds.next p
+      (ap (entry_or (entry_in image.targets (suc k))) (ap fallen (sym holds.is)) ∙ e)
     where
-      by : ((j : ℕ) → j < n → j < length image.code → (us : StackTypes) → types_at image j ≡ Some us → length us ≤ max_depth) → (i : Instr) → slice_get image.code k ≡ Some i → (next : Option StackTypes) → Parts image k i (label_at image k).types (label_at image k).opens next → entry_or (entry_in image.targets (suc k)) next ≡ Some ts → length ts ≤ max_depth
+      by :
+          ((j : ℕ) → j < n → j < length image.code → (us : StackTypes) → types_at image j ≡ Some us → length us ≤ max_depth)
+          → (i : Instr) → slice_get image.code k ≡ Some i → (next : Option StackTypes)
+          → Parts image k i (label_at image k).types (label_at image k).opens next
+          → entry_or (entry_in image.targets (suc k)) next ≡ Some ts → length ts ≤ max_depth
       by before_it i hi (Some ns) p q =
           let sucs : k + 1 ≡ suc k = add-one k in
-          let fell = entry_long (entry_in image.targets (k + 1)) (typed_rule image i (label_at image k).opens p.here) ns ts p.typed (ap (λ m. entry_or (entry_in image.targets m) (Some ns)) sucs ∙ q) in
-          let deep = shallow_long (entered (entry_in image.targets (k + 1)) (typed_rule image i (label_at image k).opens p.here)) ns p.deep in
+          let o = entry_in image.targets (k + 1) in
+          let r = typed_rule image i (label_at image k).opens p.here in
+          let fell = entry_long o r ns ts p.typed (ap (λ m. entry_or (entry_in image.targets m) (Some ns)) sucs ∙ q) in
+          let deep = shallow_long (entered o r) ns p.deep in
           omega arith
       by before_it i hi None p q =
-          let there = entry_is (entry_in image.targets (suc k)) ts q in
+          let o = entry_in image.targets (suc k) in
+          let there = entry_is o ts q in
           let j = get_some image.code (suc k) inside in
           let w = (parts_at image sound (suc k) j.0 inside j.1).wanted in
-          let from = jumper image.code (suc k) (is_jumped_where (entry_in image.targets (suc k)) (is_jumped image.code (suc k)) ts there w) in
+          let from = jumper image.code (suc k) (is_jumped_where o (is_jumped image.code (suc k)) ts there w) in
           let inner : from.at < length image.code = slice_get_within image.code from.at from.instr from.is in
           let r = parts_at image sound from.at from.instr inner from.is in
-          let before = (is_ahead image from.at (suc k) (every_in (is_target image from.at) (jumps_of from.instr) (suc k) r.targets from.jumps)).0 in
-          let m = entered_ok (entry_in image.targets (from.at + 1)) (typed_rule image from.instr (label_at image from.at).opens r.here) (sound.each from.at inner).next r.typed in
-          let less = jump_long image from.instr (label_at image from.at).opens r.here ts m.0 (suc k) m.1 from.jumps there in
+          let target = every_in (is_target image from.at) (jumps_of from.instr) (suc k) r.targets from.jumps in
+          let before = (is_ahead image from.at (suc k) target).0 in
+          let opens = (label_at image from.at).opens in
+          let falls = typed_rule image from.instr opens r.here in
+          let m = entered_ok (entry_in image.targets (from.at + 1)) falls (sound.each from.at inner).next r.typed in
+          let less = jump_long image from.instr opens r.here ts m.0 (suc k) m.1 from.jumps there in
           let known = before_it from.at (omega arith) inner r.here r.is in
           omega arith
 
@@ -139,7 +167,8 @@ module _ (image : Image) (sound : IsSound image) where
       let none : length (below_all (opens_at image at)) ≡ 0 = ap (λ os. length (below_all os)) (opens_is image at) in
       by (types_at image at) refl none
     where
-      by : (o : Option StackTypes) → types_at image at ≡ o → length (below_all (opens_at image at)) ≡ 0 → depth_at image at ≤ max_depth
+      by : (o : Option StackTypes) → types_at image at ≡ o → length (below_all (opens_at image at)) ≡ 0
+          → depth_at image at ≤ max_depth
       by None e z = let own : operands_of (types_at image at) ≡ 0 = ap operands_of e in omega arith
       by (Some ts) e z =
           let own : operands_of (types_at image at) ≡ length ts = ap operands_of e in

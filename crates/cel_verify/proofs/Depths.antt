@@ -1,5 +1,6 @@
 -- The most operands, one instruction after another.
-use Rattle.std.proofs.Common.{◌≡◌, ℕ, zero, suc, ◌+◌, ◌<◌, ◌≤◌, max, List, [], ◌∷◌, ◌++◌, length, length-append, Option, None, refl, sym, ap, ◌∙◌, subst, ⊎_elim, arith, add-one}
+use Rattle.std.proofs.Common.{◌≡◌, ℕ, zero, suc, ◌+◌, ◌<◌, ◌≤◌, max, List, [], ◌∷◌, ◌++◌}
+use Rattle.std.proofs.Common.{length, length-append, Option, None, refl, sym, ap, ◌∙◌, subst, ⊎_elim, arith, add-one}
 use Rattle.std.proofs.lemmas.Bool.{cases_lt}
 use Rattle.std.specs.Prelude.{slice_get}
 use Rattle.std.proofs.lemmas.Option.{slice_get_cases}
@@ -14,7 +15,8 @@ use Rattle.cel_verify.proofs.Steps.{begins, gets_typed}
 use Rattle.cel_verify.specs.Walked.{labelled}
 
 -- one more instruction
-pub deepest_next : (image : Image) (at : ℕ) (here : Option StackTypes) (depth n : ℕ) → label_at image at ≡ labelled here → n ≡ operands_of here → depth ≡ deepest image at → max depth n ≡ deepest image (at + 1)
+pub deepest_next : (image : Image) (at : ℕ) (here : Option StackTypes) (depth n : ℕ) → label_at image at ≡ labelled here
+    → n ≡ operands_of here → depth ≡ deepest image at → max depth n ≡ deepest image (at + 1)
 deepest_next image at here depth n l e d =
     let label : depth_at image at ≡ operands_of here + 0 = ap (λ l. operands_of l.types + length (below_all l.opens)) l in
     let own : n ≡ depth_at image at = omega (arith) in
@@ -30,9 +32,11 @@ within_deepest image (suc n) at h =
     (cases_lt at n)
 
 -- all instructions
-pub deepest_all : (image : Image) (at depth : ℕ) → slice_get image.code at ≡ None → at ≤ length image.code → depth ≡ deepest image at → depth ≡ greatest_depth image
+pub deepest_all : (image : Image) (at depth : ℕ) → slice_get image.code at ≡ None → at ≤ length image.code
+    → depth ≡ deepest image at → depth ≡ greatest_depth image
 deepest_all image at depth h le d =
-    let past : length image.code ≤ at = ⊎_elim (λ w. let z : ⊥ = cc (h, w.2) in absurd z) (λ w. w.0) (slice_get_cases image.code at).1 in
+    let past : length image.code ≤ at =
+    ⊎_elim (λ w. let z : ⊥ = cc (h, w.2) in absurd z) (λ w. w.0) (slice_get_cases image.code at).1 in
     let e : at ≡ length image.code = omega arith in
     d ∙ ap (deepest image) e
 
@@ -54,4 +58,5 @@ typed_deep image s t =
 
 -- a state that the machine reaches
 pub never_more : (image : Image) (slots : List Outcome) → IsSound image → NeverMore image slots (greatest_depth image)
-never_more image slots sound = λ s charge steps g. typed_deep image s (gets_typed image slots sound (on 0 [] []) s charge steps g (begins image slots sound)).0
+never_more image slots sound =
+    λ s charge steps g. typed_deep image s (gets_typed image slots sound (on 0 [] []) s charge steps g (begins image slots sound)).0

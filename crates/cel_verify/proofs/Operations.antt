@@ -26,7 +26,8 @@ charge_by_one (One u r) w [] e = refl
 charge_by_one (One u r) w (s ∷ ts) e = refl
 charge_by_one (Two u v r) w ts e = cc
 
-pub charge_by_two : (r : Row) (v w : Want) (ts : StackTypes) → operands_of r ≡ operands.Two v w → row_charge r ts ≡ charge_on_two r ts
+pub charge_by_two : (r : Row) (v w : Want) (ts : StackTypes) → operands_of r ≡ operands.Two v w
+    → row_charge r ts ≡ charge_on_two r ts
 charge_by_two (One u r) v w ts e = cc
 charge_by_two (Two u x r) v w [] e = refl
 charge_by_two (Two u x r) v w (t ∷ []) e = refl

@@ -8,7 +8,8 @@ pub types_long : (ss ts : StackTypes) → length ss ≢ length ts → all_assign
 types_long [] [] ne = absurd (ne refl)
 types_long [] (t ∷ ts) ne = refl
 types_long (s ∷ ss) [] ne = refl
-types_long (s ∷ ss) (t ∷ ts) ne = let r = types_long ss ts (λ e. ne (ap suc e)) in ap (λ b. assignable s t && b) r ∙ last (assignable s t)
+types_long (s ∷ ss) (t ∷ ts) ne =
+    let r = types_long ss ts (λ e. ne (ap suc e)) in ap (λ b. assignable s t && b) r ∙ last (assignable s t)
   where
     last : (b : Bool) → (b && false) ≡ false
     last true = refl

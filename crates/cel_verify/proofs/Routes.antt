@@ -1,5 +1,6 @@
 -- What is to go is the greatest sum of the routes.
-use Rattle.std.proofs.Common.{◌≡◌, ◌≢◌, ℕ, zero, suc, ◌+◌, ◌<◌, ◌≤◌, true, List, [], ◌∷◌, length, Some, refl, sym, ap, ◌∙◌, subst, inl, inr, ⊎_elim, arith}
+use Rattle.std.proofs.Common.{◌≡◌, ◌≢◌, ℕ, zero, suc, ◌+◌, ◌<◌, ◌≤◌, true, List, [], ◌∷◌}
+use Rattle.std.proofs.Common.{length, Some, refl, sym, ap, ◌∙◌, subst, inl, inr, ⊎_elim, arith}
 use Rattle.std.specs.Prelude.{slice_get}
 use Rattle.std.proofs.lemmas.Bool.{cases_lt}
 use Rattle.std.proofs.lemmas.Option.{slice_get_within}
@@ -45,15 +46,19 @@ module _ (image : Image) (sound : IsSound image) (w : ℕ → ℕ) where
       let other : at ≢ sound.ends.last = λ q. ne (let end : i ≡ End = cc (h, ap (slice_get image.code) q, sound.ends.ends) in end) in
       omega (arith, sound.ends.long)
 
-  next : (at t : ℕ) (i : Instr) → slice_get image.code at ≡ Some i → i ≢ End → IsIn t ((at + 1) ∷ []) → t < length image.code
+  next : (at t : ℕ) (i : Instr) → slice_get image.code at ≡ Some i → i ≢ End → IsIn t ((at + 1) ∷ [])
+      → t < length image.code
   next at t i h ne m = let n = next_inside at i h ne in ⊎_elim (λ e. omega arith) (λ x. absurd x) m
 
   jump : (at : ℕ) (i : Instr) → slice_get image.code at ≡ Some i → (u : ℕ) → IsIn u (jumps_of i) → u < length image.code
   jump at i h u m = (is_ahead image at u (every_in (is_target image at) (jumps_of i) u (targets_at at i h) m)).1
 
-  targets_inside : (at : ℕ) (i : Instr) → slice_get image.code at ≡ Some i → (t : ℕ) → IsIn t (goes_to i at) → t < length image.code
-  targets_inside at (AndTest to) h t m = ⊎_elim (λ e. let l = jump at (AndTest to) h to (inl refl) in omega arith) (λ n. next at t (AndTest to) h (λ q. cc) n) m
-  targets_inside at (OrTest to) h t m = ⊎_elim (λ e. let l = jump at (OrTest to) h to (inl refl) in omega arith) (λ n. next at t (OrTest to) h (λ q. cc) n) m
+  targets_inside : (at : ℕ) (i : Instr) → slice_get image.code at ≡ Some i → (t : ℕ) → IsIn t (goes_to i at)
+      → t < length image.code
+  targets_inside at (AndTest to) h t m =
+      ⊎_elim (λ e. let l = jump at (AndTest to) h to (inl refl) in omega arith) (λ n. next at t (AndTest to) h (λ q. cc) n) m
+  targets_inside at (OrTest to) h t m =
+      ⊎_elim (λ e. let l = jump at (OrTest to) h to (inl refl) in omega arith) (λ n. next at t (OrTest to) h (λ q. cc) n) m
   targets_inside at (Cond f g) h t m = ⊎_elim (λ e. next at t (Cond f g) h (λ q. cc) (inl e)) (λ n. jump at (Cond f g) h t n) m
   targets_inside at (Jump to) h t m = jump at (Jump to) h t m
   targets_inside at End h t m = absurd m
@@ -63,7 +68,9 @@ module _ (image : Image) (sound : IsSound image) (w : ℕ → ℕ) where
   targets_inside at Or h t m = next at t Or h (λ q. cc) m
 
   -- routes from an instruction, where those further on have theirs
-  route_by : (at : ℕ) (i : Instr) → slice_get image.code at ≡ Some i → ((t : ℕ) → at < t → t < length image.code → R t (path_from image w t)) → (ts : List ℕ) → goes_to i at ≡ ts → R at (path_from image w at)
+  route_by : (at : ℕ) (i : Instr) → slice_get image.code at ≡ Some i
+      → ((t : ℕ) → at < t → t < length image.code → R t (path_from image w t)) → (ts : List ℕ) → goes_to i at ≡ ts
+      → R at (path_from image w at)
   route_by at i h more [] e =
       let p = path_is image at w i h (targets_at at i h) in
       let g : greatest (path_from image w) (goes_to i at) ≡ 0 = ap (greatest (path_from image w)) e in

@@ -17,10 +17,14 @@ use Rattle.cel_check.proofs.Rows.{Taken, taken_fits}
 use Rattle.cel_verify.specs.StackTypes.{Fits, constant_type_at, constant_type}
 
 level_fits : (v : Value) (p : Value-F Value) (t : CelType) → out-Value v ≡ p → constant_type_at p ≡ Some t → fits v t ≡ true
-level_fits v Value-F.Null t e h = subst (λ s. fits v s ≡ true) (same_Some _ _ h) (fits-levels v type.Null Value-F.Null CelType-F.Null e out-type-Null)
-level_fits v (Value-F.Bool b) t e h = subst (λ s. fits v s ≡ true) (same_Some _ _ h) (fits-levels v type.Bool (Value-F.Bool b) CelType-F.Bool e out-type-Bool)
-level_fits v (Value-F.Int n) t e h = subst (λ s. fits v s ≡ true) (same_Some _ _ h) (fits-levels v type.Int (Value-F.Int n) CelType-F.Int e out-type-Int)
-level_fits v (Value-F.Uint n) t e h = subst (λ s. fits v s ≡ true) (same_Some _ _ h) (fits-levels v type.Uint (Value-F.Uint n) CelType-F.Uint e out-type-Uint)
+level_fits v Value-F.Null t e h =
+    subst (λ s. fits v s ≡ true) (same_Some _ _ h) (fits-levels v type.Null Value-F.Null CelType-F.Null e out-type-Null)
+level_fits v (Value-F.Bool b) t e h =
+    subst (λ s. fits v s ≡ true) (same_Some _ _ h) (fits-levels v type.Bool (Value-F.Bool b) CelType-F.Bool e out-type-Bool)
+level_fits v (Value-F.Int n) t e h =
+    subst (λ s. fits v s ≡ true) (same_Some _ _ h) (fits-levels v type.Int (Value-F.Int n) CelType-F.Int e out-type-Int)
+level_fits v (Value-F.Uint n) t e h =
+    subst (λ s. fits v s ≡ true) (same_Some _ _ h) (fits-levels v type.Uint (Value-F.Uint n) CelType-F.Uint e out-type-Uint)
 level_fits v _ t e h = absurd (none-some _ h)
 
 pub constant_fits : (v : Value) (t : CelType) → constant_type (Some v) ≡ Some t → Fits (Ok v) t
@@ -31,7 +35,8 @@ found : (l : Limit Truth) (o : Option Side) → Taken Truth l o → (s : Side) �
 found l None h = absurd h
 found l (Some s) h = (s, refl)
 
-side_by : (x : Outcome) (t : CelType) (o : Option (Limit Truth)) → limit_of Truth t ≡ o → Fits x t → is_there o ≡ true → (s : Side) × (side_of (Some x) ≡ Some s)
+side_by : (x : Outcome) (t : CelType) (o : Option (Limit Truth)) → limit_of Truth t ≡ o → Fits x t → is_there o ≡ true
+    → (s : Side) × (side_of (Some x) ≡ Some s)
 side_by x t None e h a = absurd (true≢false (sym a))
 side_by x t (Some l) e h a = found l (side_of (Some x)) (taken_fits Truth t (Some x) l e h)
 
@@ -40,10 +45,10 @@ truth_side x t h a = side_by x t (limit_of Truth t) refl h a
 
 -- a side that ends the operator is a truth value
 pub false_side : (x : Outcome) → side_of (Some x) ≡ Some (Ok false) → Fits x type.Bool
-false_side x h = subst (λ y. Fits y type.Bool) (sym (side_is x (Ok false) h)) (bool_fits false)
+false_side x h = subst (λ y. Fits y type.Bool) (sym (side_is x false h)) (bool_fits false)
 
 pub true_side : (x : Outcome) → side_of (Some x) ≡ Some (Ok true) → Fits x type.Bool
-true_side x h = subst (λ y. Fits y type.Bool) (sym (side_is x (Ok true) h)) (bool_fits true)
+true_side x h = subst (λ y. Fits y type.Bool) (sym (side_is x true h)) (bool_fits true)
 
 pub and_fits : (x y : Side) → Fits (and_of x y) type.Bool
 and_fits (Ok false) y = bool_fits false

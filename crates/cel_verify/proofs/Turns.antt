@@ -6,7 +6,8 @@ use Rattle.cel_code.specs.Machine.{State, on, Goes, step, Gets, Stays, Moves}
 
 module _ (image : Image) (slots : List Outcome) where
   -- two stretches in a row
-  pub stretches : (s m t : State) (c d a j k b : ℕ) → Gets image slots s m c j → Gets image slots m t d k → a ≡ c + d → b ≡ j + k → Gets image slots s t a b
+  pub stretches : (s m t : State) (c d a j k b : ℕ) → Gets image slots s m c j → Gets image slots m t d k → a ≡ c + d
+      → b ≡ j + k → Gets image slots s t a b
   stretches s m t c d a j k b (Stays e f g) r ea eb =
       let x : a ≡ d = omega arith in
       let y : b ≡ k = omega arith in
@@ -19,6 +20,8 @@ module _ (image : Image) (slots : List Outcome) where
   starts stack e = rw e (Stays refl refl refl)
 
   -- one more step
-  pub one_more : (s t : State) (charge charged steps : ℕ) → step image slots s ≡ Goes charge t → Gets image slots (on 0 [] []) s charged steps → Gets image slots (on 0 [] []) t (charged + charge) (steps + 1)
+  pub one_more : (s t : State) (charge charged steps : ℕ) → step image slots s ≡ Goes charge t
+      → Gets image slots (on 0 [] []) s charged steps → Gets image slots (on 0 [] []) t (charged + charge) (steps + 1)
   one_more s t charge charged steps e g =
-      stretches (on 0 [] []) s t charged charge _ steps 1 _ g (Moves t charge 0 0 e (Stays refl refl refl) (omega arith) (omega arith)) refl refl
+      stretches (on 0 [] []) s t charged charge _ steps 1 _ g
+      (Moves t charge 0 0 e (Stays refl refl refl) (omega arith) (omega arith)) refl refl

@@ -16,12 +16,14 @@ abbrev whole : List Instr → Image
 whole code = record { slots = []; constants = value.Int (pos 1) ∷ value.Bool true ∷ []; targets = []; result = type.Int; code = code }
 
 -- an operand is missing
-short : rule_at (whole (Const 0 ∷ Op 2 ∷ End ∷ [])) 1 (Some (Op 2)) (label_at (whole (Const 0 ∷ Op 2 ∷ End ∷ [])) 1) ≡ Err Underflow
+short : rule_at (whole (Const 0 ∷ Op 2 ∷ End ∷ [])) 1 (Some (Op 2))
+    (label_at (whole (Const 0 ∷ Op 2 ∷ End ∷ [])) 1) ≡ Err Underflow
 unfolding value.out-Value denote.Hole.Carrier.out
 short = refl
 
 -- an operand is of another kind
-mixed : rule_at (whole (Const 1 ∷ Const 1 ∷ Op 2 ∷ End ∷ [])) 2 (Some (Op 2)) (label_at (whole (Const 1 ∷ Const 1 ∷ Op 2 ∷ End ∷ [])) 2) ≡ Err WrongKind
+mixed : rule_at (whole (Const 1 ∷ Const 1 ∷ Op 2 ∷ End ∷ [])) 2 (Some (Op 2))
+    (label_at (whole (Const 1 ∷ Const 1 ∷ Op 2 ∷ End ∷ [])) 2) ≡ Err WrongKind
 unfolding value.out-Value denote.Hole.Carrier.out type.out-CelType
 mixed = refl
 
@@ -30,7 +32,8 @@ unnamed : rule_at (whole (Const 2 ∷ End ∷ [])) 0 (Some (Const 2)) (label_at 
 unnamed = refl
 
 -- a sum is typed, and its dearest route charges 1 in four steps
-sum : rule_at (whole (Const 0 ∷ Const 0 ∷ Op 2 ∷ End ∷ [])) 2 (Some (Op 2)) (label_at (whole (Const 0 ∷ Const 0 ∷ Op 2 ∷ End ∷ [])) 2) ≡ Ok (Some (type.Int ∷ []))
+sum : rule_at (whole (Const 0 ∷ Const 0 ∷ Op 2 ∷ End ∷ [])) 2 (Some (Op 2))
+    (label_at (whole (Const 0 ∷ Const 0 ∷ Op 2 ∷ End ∷ [])) 2) ≡ Ok (Some (type.Int ∷ []))
 unfolding value.out-Value denote.Hole.Carrier.out type.out-CelType
 sum = refl
 
@@ -43,7 +46,14 @@ sum_steps = refl
 
 -- `true && true`: the left's jump joins behind the conjunction
 abbrev both : Image
-both = record { slots = []; constants = value.Bool true ∷ []; targets = record { at = 4; types = type.Bool ∷ [] } ∷ []; result = type.Bool; code = Const 0 ∷ AndTest 4 ∷ Const 0 ∷ And ∷ End ∷ [] }
+both =
+    record {
+      slots = [];
+      constants = value.Bool true ∷ [];
+      targets = record { at = 4; types = type.Bool ∷ [] } ∷ [];
+      result = type.Bool;
+      code = Const 0 ∷ AndTest 4 ∷ Const 0 ∷ And ∷ End ∷ [];
+    }
 
 both_end : rule_at both 4 (Some End) (label_at both 4) ≡ Ok None
 unfolding value.out-Value denote.Hole.Carrier.out type.out-CelType
@@ -60,5 +70,6 @@ both_targets : misplaced_entry both ≡ None
 both_targets = refl
 
 -- a jump that goes back
-back : rule_at (whole (Const 0 ∷ Jump 0 ∷ End ∷ [])) 1 (Some (Jump 0)) (label_at (whole (Const 0 ∷ Jump 0 ∷ End ∷ [])) 1) ≡ Err BadTarget
+back : rule_at (whole (Const 0 ∷ Jump 0 ∷ End ∷ [])) 1 (Some (Jump 0))
+    (label_at (whole (Const 0 ∷ Jump 0 ∷ End ∷ [])) 1) ≡ Err BadTarget
 back = refl

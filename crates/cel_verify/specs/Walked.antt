@@ -1,6 +1,7 @@
 -- What the verifier's parts answer.
 use Rattle.std.specs.Borrow.{Bor}
-use Rattle.std.specs.Prelude.{◌≡◌, ℕ, ◌+◌, ◌<◌, ◌≤◌, min, ◌-◌, ◌^◌, List, [], length, slice_get, slice_index, reverse, ◌∷◌, Option, Some, None, Ok, Err}
+use Rattle.std.specs.Prelude.{◌≡◌, ℕ, ◌+◌, ◌<◌, ◌≤◌, min, ◌-◌, ◌^◌, List, [], length}
+use Rattle.std.specs.Prelude.{slice_get, slice_index, reverse, ◌∷◌, Option, Some, None, Result, Ok, Err, MatchResult}
 use Rattle.cel_value.specs.declared.cel_type.CelType.{CelType}
 use Rattle.cel_code.specs.declared.instr.Instr.{Instr}
 use Rattle.cel_code.specs.declared.instr.Instr.TheVariants.{End}
@@ -12,13 +13,17 @@ use Rattle.cel_verify.specs.declared.fault.VerifyError.TheVariants.{OutOfMemory,
 use Rattle.cel_verify.specs.declared.refusal.Refusal.{Refusal}
 use Rattle.cel_verify.specs.declared.refusal.Refusal.TheVariants.{Broken, NoMemory}
 use Rattle.cel_verify.specs.StackTypes.{StackTypes}
-use Rattle.cel_verify.specs.Sound.{Label, Falls, given, rule_at, entry_in, entry_or, label_at, Holds, IsFirstFault}
+use Rattle.cel_verify.specs.Sound.{Label, Falls, given, entered, shallow, rule_at, entry_in, entry_or, label_at, Holds, IsFirstFault}
 use Rattle.cel_verify.specs.Paths.{charge_at, path_from}
 
 -- a rule's refusal: the rule that is broken, or want of memory
 abbrev pub Refuses : Refusal → Falls → Type 0
 Refuses (Broken r) falls = falls ≡ Err r
 Refuses NoMemory falls = Unit {0}
+
+-- an answer by a rule: what goes on is what the rule gives, and a refusal is the rule's
+abbrev pub Follows : Result (Option StackTypes) Refusal → Falls → Type 0
+Follows answer falls = MatchResult answer (λ next. falls ≡ Ok next) (λ r. Refuses r falls)
 
 -- an operator at the type of one operand
 abbrev pub rule_of_one : Row → StackTypes → Falls
@@ -49,11 +54,23 @@ IsEntry (Some types) entry = entry ≡ Some (reverse types.now)
 abbrev pub labelled : Option StackTypes → Label
 labelled types = record { types = types; opens = [] }
 
+-- the rule of the instruction at a place, at these types outside all loops
+abbrev pub rule_here : Image → ℕ → Option StackTypes → Falls
+rule_here image at here = rule_at image at (slice_get image.code at) (labelled here)
+
 -- one instruction's rule holds, and these are the types at the next one
 pub record Advances (image : Image) (at : ℕ) (here there : Option StackTypes) : Type 0 where
   pub next : Option StackTypes
-  pub holds : rule_at image at (slice_get image.code at) (labelled here) ≡ Ok next
+  pub holds : rule_here image at here ≡ Ok next
   pub entry : entry_or (entry_in image.targets (at + 1)) next ≡ there
+
+-- what goes on to an instruction, where it may stand there and is no deeper than the stack may be
+abbrev pub arrived : Image → ℕ → Falls → Falls
+arrived image to falls = shallow (entered (entry_in image.targets to) falls)
+
+-- these types may go on to an instruction, and those are its types then
+abbrev pub Arrives : Image → ℕ → Option StackTypes → Option StackTypes → Type 0
+Arrives image to falls there = (arrived image to (Ok falls) ≡ Ok falls) × (entry_or (entry_in image.targets to) falls ≡ there)
 
 -- the greatest number of 64 bits
 abbrev pub ceiling : ℕ

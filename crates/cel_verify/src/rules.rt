@@ -1,10 +1,11 @@
-ghost use Rattle.std.specs.Prelude.{◌≡◌, ◌<◌, List, Some, None, Ok, Err, MatchResult, MatchOption, length, slice_get};
+ghost use Rattle.std.specs.Prelude.{◌≡◌, ◌<◌, List, length, slice_get};
 ghost use Rattle.std.specs.List.{AllByRecursion};
 ghost use Rattle.cel_check.specs.Operators.{row, type_of_two};
 ghost use Rattle.cel_verify.specs.StackTypes.{constant_type};
-ghost use Rattle.cel_verify.specs.Sound.{Open, given as given_rule, row_rule, op_rule, constant_rule, enters as may_enter, entry_in, jumps_of, test_rule, join_rule, cond_rule, jump_rule, end_rule, typed_rule};
+ghost use Rattle.cel_verify.specs.Sound.{Open, enters as may_enter, entry_in, jumps_of, typed_rule};
+ghost use Rattle.cel_verify.specs.Sound.{constant_rule, row_rule, given as given_rule, test_rule, join_rule, cond_rule, end_rule};
 ghost use Rattle.cel_verify.specs.Arrivals.{AreArrivals};
-ghost use Rattle.cel_verify.specs.Walked.{Refuses, rule_of_one, rule_of_two};
+ghost use Rattle.cel_verify.specs.Walked.{Follows, rule_of_one, rule_of_two};
 
 use crate::arrivals::Arrivals;
 use crate::constants::constant_type;
@@ -27,7 +28,7 @@ pub fn typed(
 ) -> Result<Option<TypeStack>, Refusal>
     requires known { AreArrivals image.now arrivals.now }
     requires inside { AllByRecursion (λ to. to < length image.now.code) (jumps_of instr) }
-    ensures { (opens : List Open) → MatchResult result (λ falls. typed_rule image.now instr opens types ≡ Ok falls) (λ r. Refuses r (typed_rule image.now instr opens types)) }
+    ensures { (opens : List Open) → Follows result (typed_rule image.now instr opens types) }
 {
     match instr {
         Instr::Const(number) => constant(image, number, types),
@@ -53,7 +54,7 @@ fn constant(
     number: usize,
     mut types: TypeStack,
 ) -> Result<Option<TypeStack>, Refusal>
-    ensures { MatchResult result (λ falls. constant_rule (constant_type (slice_get image.now.constants number)) types ≡ Ok falls) (λ r. Refuses r (constant_rule (constant_type (slice_get image.now.constants number)) types)) }
+    ensures { Follows result (constant_rule (constant_type (slice_get image.now.constants number)) types) }
 {
     let Some(cel_type) = constant_type(image, number) else {
         return Err(Refusal::Broken(VerifyRule::BadConstant));
@@ -63,7 +64,7 @@ fn constant(
 }
 
 fn operation(alloc: Global, op: Operator, types: TypeStack) -> Result<Option<TypeStack>, Refusal>
-    ensures { MatchResult result (λ falls. row_rule (row op) types ≡ Ok falls) (λ r. Refuses r (row_rule (row op) types)) }
+    ensures { Follows result (row_rule (row op) types) }
 {
     match op.operands() {
         Operands::One(_) => operation_on_one(op, types),
@@ -72,7 +73,7 @@ fn operation(alloc: Global, op: Operator, types: TypeStack) -> Result<Option<Typ
 }
 
 fn operation_on_one(op: Operator, mut types: TypeStack) -> Result<Option<TypeStack>, Refusal>
-    ensures { MatchResult result (λ falls. rule_of_one (row op) types ≡ Ok falls) (λ r. Refuses r (rule_of_one (row op) types)) }
+    ensures { Follows result (rule_of_one (row op) types) }
 {
     let Some(s) = types.pop() else {
         return Err(Refusal::Broken(VerifyRule::Underflow));
@@ -85,7 +86,7 @@ fn operation_on_two(
     op: Operator,
     mut types: TypeStack,
 ) -> Result<Option<TypeStack>, Refusal>
-    ensures { MatchResult result (λ falls. rule_of_two (row op) types ≡ Ok falls) (λ r. Refuses r (rule_of_two (row op) types)) }
+    ensures { Follows result (rule_of_two (row op) types) }
 {
     let Some(t) = types.pop() else {
         return Err(Refusal::Broken(VerifyRule::Underflow));
@@ -103,7 +104,7 @@ fn given_of_two(
     t: &CelType,
     types: TypeStack,
 ) -> Result<Option<TypeStack>, Refusal>
-    ensures { MatchResult result (λ falls. given_rule (type_of_two (row op) s.now t.now) types ≡ Ok falls) (λ r. Refuses r (given_rule (type_of_two (row op) s.now t.now) types)) }
+    ensures { Follows result (given_rule (type_of_two (row op) s.now t.now) types) }
 {
     match op.type_of_two(alloc, s, t) {
         Ok(answer) => given(Ok(answer), types),
@@ -116,7 +117,7 @@ fn given(
     answer: Result<CelType, TypeRule>,
     mut types: TypeStack,
 ) -> Result<Option<TypeStack>, Refusal>
-    ensures { MatchResult result (λ falls. given_rule answer types ≡ Ok falls) (λ r. Refuses r (given_rule answer types)) }
+    ensures { Follows result (given_rule answer types) }
 {
     let Ok(answer) = answer else {
         return Err(Refusal::Broken(VerifyRule::WrongKind));
@@ -145,7 +146,7 @@ fn test(
 ) -> Result<Option<TypeStack>, Refusal>
     requires known { AreArrivals image.now arrivals.now }
     requires inside { to < length image.now.code }
-    ensures { MatchResult result (λ falls. test_rule (entry_in image.now.targets to) types ≡ Ok falls) (λ r. Refuses r (test_rule (entry_in image.now.targets to) types)) }
+    ensures { Follows result (test_rule (entry_in image.now.targets to) types) }
 {
     let Some(t) = types.pop() else {
         return Err(Refusal::Broken(VerifyRule::Underflow));
@@ -160,7 +161,7 @@ fn test(
 }
 
 fn both_sides(mut types: TypeStack) -> Result<Option<TypeStack>, Refusal>
-    ensures { MatchResult result (λ falls. join_rule types ≡ Ok falls) (λ r. Refuses r (join_rule types)) }
+    ensures { Follows result (join_rule types) }
 {
     let Some(t) = types.pop() else {
         return Err(Refusal::Broken(VerifyRule::Underflow));
@@ -185,7 +186,7 @@ fn condition(
     requires known { AreArrivals image.now arrivals.now }
     requires if_false { if_false < length image.now.code }
     requires if_error { if_error < length image.now.code }
-    ensures { MatchResult result (λ falls. cond_rule (entry_in image.now.targets if_false) (entry_in image.now.targets if_error) types ≡ Ok falls) (λ r. Refuses r (cond_rule (entry_in image.now.targets if_false) (entry_in image.now.targets if_error) types)) }
+    ensures { Follows result (cond_rule (entry_in image.now.targets if_false) (entry_in image.now.targets if_error) types) }
 {
     let Some(t) = types.pop() else {
         return Err(Refusal::Broken(VerifyRule::Underflow));
@@ -200,7 +201,7 @@ fn condition(
 }
 
 fn end(result_type: &CelType, mut types: TypeStack) -> Result<Option<TypeStack>, Refusal>
-    ensures { MatchResult result (λ falls. end_rule result_type.now types ≡ Ok falls) (λ r. Refuses r (end_rule result_type.now types)) }
+    ensures { Follows result (end_rule result_type.now types) }
 {
     let Some(t) = types.pop() else {
         return Err(Refusal::Broken(VerifyRule::Underflow));

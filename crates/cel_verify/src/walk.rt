@@ -1,8 +1,9 @@
-ghost use Rattle.std.specs.Prelude.{◌≡◌, ◌+◌, ◌<◌, ◌≤◌, ◌^◌, Some, Ok, Err, false, IsTrue, IfOk, MatchResult, length, slice_get};
-ghost use Rattle.cel_verify.specs.Sound.{rule_at, entered, shallow, entry_in, entry_or};
+ghost use Rattle.std.specs.Prelude.{◌≡◌, ◌+◌, ◌<◌, ◌≤◌, ◌^◌, Some, Ok, Err, false, IsTrue, IfOk, MatchResult};
+ghost use Rattle.std.specs.Prelude.{length, slice_get};
+ghost use Rattle.cel_verify.specs.Sound.{shallow};
 ghost use Rattle.cel_verify.specs.Arrivals.{AreArrivals};
 ghost use Rattle.cel_verify.specs.Depths.{operands_of, greatest_depth};
-ghost use Rattle.cel_verify.specs.Walked.{Refuses, Advances, AllHold, AreCharges, IsWalkFault, labelled};
+ghost use Rattle.cel_verify.specs.Walked.{Refuses, Advances, AllHold, AreCharges, IsWalkFault, Arrives, arrived, rule_here};
 
 use crate::arrivals::Arrivals;
 use crate::charges::charge;
@@ -27,7 +28,9 @@ pub struct Measures {
 
 /// Each instruction in turn.
 pub fn walk(alloc: Global, image: &Image) -> Result<Measures, VerifyError>
-    ensures rules { MatchResult result (λ measures. AllHold image.now × AreCharges image.now (length image.now.code) measures.charges.items) (λ e. IsWalkFault image.now e) }
+    ensures rules { MatchResult result
+        (λ measures. AllHold image.now × AreCharges image.now (length image.now.code) measures.charges.items)
+        (λ e. IsWalkFault image.now e) }
     ensures depth { IfOk result (λ measures. measures.depth ≡ greatest_depth image.now) }
 {
     let _len = image.code.len();
@@ -72,7 +75,7 @@ fn advance(
     requires there { slice_get image.now.code at ≡ Some instr }
     requires inside { at < length image.now.code }
     requires room { at + 1 < 2 ^ 64 }
-    ensures { MatchResult result (λ there. Advances image.now at label there) (λ r. Refuses r (rule_at image.now at (slice_get image.now.code at) (labelled label))) }
+    ensures { MatchResult result (λ there. Advances image.now at label there) (λ r. Refuses r (rule_here image.now at label)) }
 {
     if !has_name(image, instr) {
         return Err(Refusal::Broken(VerifyRule::BadConstant));
@@ -97,7 +100,7 @@ fn go_on(
 ) -> Result<Option<TypeStack>, Refusal>
     requires known { AreArrivals image.now arrivals.now }
     requires inside { to ≤ length image.now.code }
-    ensures { MatchResult result (λ there. (shallow (entered (entry_in image.now.targets to) (Ok falls)) ≡ Ok falls) × (entry_or (entry_in image.now.targets to) falls ≡ there)) (λ r. Refuses r (shallow (entered (entry_in image.now.targets to) (Ok falls)))) }
+    ensures { MatchResult result (λ there. Arrives image.now to falls there) (λ r. Refuses r (arrived image.now to (Ok falls))) }
 {
     let Some(entry) = entry(image, arrivals, to) else {
         if is_too_deep(&falls) {

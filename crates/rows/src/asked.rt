@@ -1,6 +1,7 @@
 //! Tables of rows, each a question with its answer.
 
-use crate::{containers, names, operands, schemas, tokens, values};
+use crate::{containers, names, operands, overloads, schemas, tokens, values};
+use cel_check::Operator;
 use std::alloc::{AllocError, Global};
 use std::process::Abort;
 use std::test::Fail;
@@ -23,6 +24,9 @@ pub enum Asked {
     Document(&'static str, &'static str),
     Tokens,
     Names,
+    Roles,
+    /// The type of this operator's answer.
+    Answered(Operator),
 }
 
 /// What is answered to a question that cannot be read.
@@ -47,6 +51,8 @@ fn answer(alloc: Global, asked: Asked, row: &str) -> Result<String, AllocError> 
         Asked::Document(schema, root) => schemas::document(alloc, schema, root, row),
         Asked::Tokens => tokens::shown(alloc, row),
         Asked::Names => names::names(alloc, row),
+        Asked::Roles => overloads::roles(alloc, row),
+        Asked::Answered(operator) => overloads::answered(alloc, operator, row),
     }
 }
 

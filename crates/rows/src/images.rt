@@ -1,11 +1,11 @@
 //! What `check` and `compile` make of trees. An image is shown as the type of its outcome, the types of its slots, its
 //! constants, its targets with their types, and its code.
 
-use crate::kinds::{Kind, instr_text, type_name, type_of, value_text};
-use cel_check::{CheckError, Operator, Scope, Typed, check, is_ordered, is_truth, is_whole};
+use crate::kinds::{instr_text, type_name, value_text};
+use cel_check::{CheckError, Operator, Scope, Typed, check};
 use cel_code::{Image, Instr, Target, compile};
 use cel_parse::{Expr, Syntax, UnaryOperator, parse};
-use cel_value::{CelType, Value, assignable};
+use cel_value::{CelType, Value};
 use plain::Boxed;
 use std::alloc::{AllocError, Global};
 use std::test::Fail;
@@ -167,52 +167,5 @@ fn operators_have_their_numbers(rt: HostRuntime) {
     }
     for code in [4, 20] {
         assert_eq!(rt; Operator::from_code(code), None);
-    }
-}
-
-fn is_same(left: &CelType, right: &CelType) -> bool {
-    assignable(left, right) && assignable(right, left)
-}
-
-fn is_at_one(operator: Operator, operand: Kind, wanted: Kind) -> bool {
-    match operator.type_of_one(&type_of(operand)) {
-        Ok(cel_type) => is_same(&cel_type, &type_of(wanted)),
-        Err(_) => false,
-    }
-}
-
-fn is_at_two(alloc: Global, operator: Operator, operand: Kind, wanted: Kind) -> bool {
-    match operator.type_of_two(alloc, &type_of(operand), &type_of(operand)) {
-        Ok(cel_type) => is_same(&cel_type, &type_of(wanted)),
-        Err(_) => false,
-    }
-}
-
-// Whether a type may stand where a truth value, an integer, or a value with an order is asked.
-fn roles(kind: Kind) -> (bool, bool, bool) {
-    let cel_type = type_of(kind);
-    (
-        is_truth(&cel_type),
-        is_whole(&cel_type),
-        is_ordered(&cel_type),
-    )
-}
-
-static ROLES: [(Kind, (bool, bool, bool)); 5] = [
-    (Kind::Never, (true, true, true)),
-    (Kind::Truth, (true, false, true)),
-    (Kind::Whole, (false, true, true)),
-    (Kind::Natural, (false, false, false)),
-    (Kind::Text, (false, false, false)),
-];
-
-#[test]
-fn operators_have_their_types(rt: HostRuntime) {
-    assert!(rt; is_at_one(Operator::Not, Kind::Truth, Kind::Truth));
-    assert!(rt; is_at_one(Operator::Negate, Kind::Whole, Kind::Whole));
-    assert!(rt; is_at_two(rt.alloc(), Operator::AddUint, Kind::Natural, Kind::Natural));
-    assert!(rt; is_at_two(rt.alloc(), Operator::Less, Kind::Truth, Kind::Truth));
-    for &(kind, own) in &ROLES {
-        assert_eq!(rt; roles(kind), own);
     }
 }

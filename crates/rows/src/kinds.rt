@@ -2,33 +2,50 @@
 
 use cel_code::Instr;
 use cel_value::{CelType, Value};
+use plain::Shared;
 use std::alloc::{AllocError, Global};
 
 #[derive(Clone, Copy)]
 pub enum Kind {
-    Never,
     Truth,
     Whole,
     Natural,
-    /// Texts of at most 3 code points.
-    Text,
+    /// Null or a truth value, and so below.
+    MaybeTruth,
+    MaybeWhole,
+    /// Null or a list that is not plain.
+    MaybeSet,
 }
 
 #[derive(Clone, Copy)]
 pub enum Constant {
+    Null,
     Truth(bool),
     Whole(i64),
     Natural(u64),
 }
 
-pub fn type_of(kind: Kind) -> CelType {
+pub fn type_of(alloc: Global, kind: Kind) -> Result<CelType, AllocError> {
     match kind {
-        Kind::Never => CelType::Never,
-        Kind::Truth => CelType::Bool,
-        Kind::Whole => CelType::Int,
-        Kind::Natural => CelType::Uint,
-        Kind::Text => CelType::Text { max: 3 },
+        Kind::Truth => Ok(CelType::Bool),
+        Kind::Whole => Ok(CelType::Int),
+        Kind::Natural => Ok(CelType::Uint),
+        Kind::MaybeTruth => nullable(alloc, CelType::Bool),
+        Kind::MaybeWhole => nullable(alloc, CelType::Int),
+        Kind::MaybeSet => nullable(alloc, set(alloc)?),
     }
+}
+
+fn nullable(alloc: Global, item: CelType) -> Result<CelType, AllocError> {
+    Ok(CelType::Nullable(Shared::new(alloc, item)?))
+}
+
+fn set(alloc: Global) -> Result<CelType, AllocError> {
+    Ok(CelType::List {
+        max: 2,
+        plain: false,
+        item: Shared::new(alloc, CelType::Int)?,
+    })
 }
 
 pub fn type_name(cel_type: &CelType) -> &'static str {
@@ -42,6 +59,7 @@ pub fn type_name(cel_type: &CelType) -> &'static str {
 
 pub fn value_of(constant: Constant) -> Value {
     match constant {
+        Constant::Null => Value::Null,
         Constant::Truth(truth) => Value::Bool(truth),
         Constant::Whole(number) => Value::Int(number),
         Constant::Natural(number) => Value::Uint(number),
@@ -50,6 +68,7 @@ pub fn value_of(constant: Constant) -> Value {
 
 pub fn value_text(alloc: Global, value: &Value) -> Result<String, AllocError> {
     match value {
+        Value::Null => String::from_str(alloc, "null"),
         Value::Bool(truth) => format!(in alloc; "{truth}"),
         Value::Int(number) => format!(in alloc; "{number}"),
         Value::Uint(number) => format!(in alloc; "{number}u"),

@@ -22,6 +22,8 @@ mod notation;
 #[cfg(test)]
 mod operands;
 #[cfg(test)]
+mod overloads;
+#[cfg(test)]
 mod programs;
 #[cfg(test)]
 mod schemas;

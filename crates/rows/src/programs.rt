@@ -10,20 +10,20 @@ use std::alloc::{AllocError, Global};
 use std::process::Abort;
 use std::test::Fail;
 
-/// An image as a row writes it, where a target has one type at most.
+/// An image as a row writes it.
 #[derive(Clone, Copy)]
 struct Written<'a> {
     result: Kind,
     slots: &'a [Kind],
     constants: &'a [Constant],
-    targets: &'a [(usize, Option<Kind>)],
+    targets: &'a [(usize, &'a [Kind])],
     code: &'a [Instr],
 }
 
 fn types_of(alloc: Global, kinds: &[Kind]) -> Result<Items<CelType>, AllocError> {
     let mut types = Items::new(alloc);
     for kind in kinds {
-        types.push(type_of(*kind))?;
+        types.push(type_of(alloc, *kind)?)?;
     }
     Ok(types)
 }
@@ -36,21 +36,17 @@ fn constants_of(alloc: Global, constants: &[Constant]) -> Result<Items<Value>, A
     Ok(values)
 }
 
-fn target_of(alloc: Global, at: usize, kind: Option<Kind>) -> Result<Target, AllocError> {
-    let mut types = Items::new(alloc);
-    if let Some(kind) = kind {
-        types.push(type_of(kind))?;
-    }
-    Ok(Target { at, types })
+fn target_of(alloc: Global, at: usize, kinds: &[Kind]) -> Result<Target, AllocError> {
+    Ok(Target {
+        at,
+        types: types_of(alloc, kinds)?,
+    })
 }
 
-fn targets_of(
-    alloc: Global,
-    targets: &[(usize, Option<Kind>)],
-) -> Result<Items<Target>, AllocError> {
+fn targets_of(alloc: Global, targets: &[(usize, &[Kind])]) -> Result<Items<Target>, AllocError> {
     let mut made = Items::new(alloc);
-    for (at, kind) in targets {
-        made.push(target_of(alloc, *at, *kind)?)?;
+    for (at, kinds) in targets {
+        made.push(target_of(alloc, *at, *kinds)?)?;
     }
     Ok(made)
 }
@@ -60,7 +56,7 @@ fn image_of(alloc: Global, written: &Written) -> Result<Image, AllocError> {
         slots: types_of(alloc, written.slots)?,
         constants: constants_of(alloc, written.constants)?,
         targets: targets_of(alloc, written.targets)?,
-        result: type_of(written.result),
+        result: type_of(alloc, written.result)?,
         code: Items::from_slice(alloc, written.code)?,
     })
 }
@@ -210,7 +206,7 @@ static RUNS: [(Written<'static>, &str); 7] = [
                 Constant::Whole(7),
                 Constant::Whole(4),
             ],
-            targets: &[(13, Some(Kind::Truth))],
+            targets: &[(13, &[Kind::Truth])],
             code: &[
                 Instr::Const(0),
                 Instr::Const(1),
@@ -240,7 +236,7 @@ static RUNS: [(Written<'static>, &str); 7] = [
                 Constant::Whole(0),
                 Constant::Truth(true),
             ],
-            targets: &[(8, Some(Kind::Truth))],
+            targets: &[(8, &[Kind::Truth])],
             code: &[
                 Instr::Const(0),
                 Instr::Const(1),
@@ -265,7 +261,7 @@ static RUNS: [(Written<'static>, &str); 7] = [
                 Constant::Whole(1),
                 Constant::Whole(0),
             ],
-            targets: &[(8, Some(Kind::Truth))],
+            targets: &[(8, &[Kind::Truth])],
             code: &[
                 Instr::Const(0),
                 Instr::AndTest(8),
@@ -286,7 +282,7 @@ static RUNS: [(Written<'static>, &str); 7] = [
             result: Kind::Whole,
             slots: &[],
             constants: &[Constant::Whole(1), Constant::Whole(0)],
-            targets: &[(8, None), (9, Some(Kind::Whole))],
+            targets: &[(8, &[]), (9, &[Kind::Whole])],
             code: &[
                 Instr::Const(0),
                 Instr::Const(1),
@@ -379,14 +375,14 @@ static FAULTS: [(Written<'static>, &str); 12] = [
     // A target without a jump, in the code and past it.
     (
         Written {
-            targets: &[(1, Some(Kind::Whole))],
+            targets: &[(1, &[Kind::Whole])],
             ..ALONE
         },
         "BadTarget at 1 of 2",
     ),
     (
         Written {
-            targets: &[(7, Some(Kind::Whole))],
+            targets: &[(7, &[Kind::Whole])],
             ..ALONE
         },
         "BadTarget at 7 of 2",
@@ -413,6 +409,279 @@ static FAULTS: [(Written<'static>, &str); 12] = [
 #[test]
 fn a_fault_is_told_with_its_instruction(rt: HostRuntime) -> Result<(), Fail> {
     come_to(&rt, rt.alloc(), &FAULTS)
+}
+
+/// `true ? null : 1` with a type behind it, in front of what a row does with it.
+const MAYBE: Written<'static> = Written {
+    result: Kind::Whole,
+    slots: &[],
+    constants: &[Constant::Truth(true), Constant::Null, Constant::Whole(1)],
+    targets: &[(4, &[]), (5, &[Kind::MaybeWhole])],
+    code: &[],
+};
+
+/// The same with `true` in place of the number.
+const MAYBE_TRUE: Written<'static> = Written {
+    result: Kind::Truth,
+    slots: &[],
+    constants: &[
+        Constant::Truth(true),
+        Constant::Null,
+        Constant::Whole(1),
+        Constant::Truth(false),
+    ],
+    targets: &[(4, &[]), (5, &[Kind::MaybeTruth])],
+    code: &[],
+};
+
+// What a conditional charges, 1, is in each row.
+static NULLS: [(Written<'static>, &str); 13] = [
+    // `(true ? null : 1) + 1`: null is an error, which charges 1.
+    (
+        Written {
+            code: &[
+                Instr::Const(0),
+                Instr::Cond(4, 5),
+                Instr::Const(1),
+                Instr::Jump(5),
+                Instr::Const(2),
+                Instr::Const(2),
+                Instr::Op(2),
+                Instr::End,
+            ],
+            ..MAYBE
+        },
+        "NullOperand, charged 2, steps 7, constants 3",
+    ),
+    // `1 + (true ? null : 1)`, where null is on the right.
+    (
+        Written {
+            targets: &[(5, &[Kind::Whole]), (6, &[Kind::Whole, Kind::MaybeWhole])],
+            code: &[
+                Instr::Const(2),
+                Instr::Const(0),
+                Instr::Cond(5, 6),
+                Instr::Const(1),
+                Instr::Jump(6),
+                Instr::Const(2),
+                Instr::Op(2),
+                Instr::End,
+            ],
+            ..MAYBE
+        },
+        "NullOperand, charged 2, steps 7, constants 3",
+    ),
+    // `(false ? null : 1) + 1`: the same code, where the value is a number.
+    (
+        Written {
+            constants: &[Constant::Truth(false), Constant::Null, Constant::Whole(1)],
+            code: &[
+                Instr::Const(0),
+                Instr::Cond(4, 5),
+                Instr::Const(1),
+                Instr::Jump(5),
+                Instr::Const(2),
+                Instr::Const(2),
+                Instr::Op(2),
+                Instr::End,
+            ],
+            ..MAYBE
+        },
+        "2, charged 2, steps 6, constants 3",
+    ),
+    // `-(true ? null : 1)`
+    (
+        Written {
+            code: &[
+                Instr::Const(0),
+                Instr::Cond(4, 5),
+                Instr::Const(1),
+                Instr::Jump(5),
+                Instr::Const(2),
+                Instr::Op(1),
+                Instr::End,
+            ],
+            ..MAYBE
+        },
+        "NullOperand, charged 2, steps 6, constants 3",
+    ),
+    // `(true ? null : 1) < 1`
+    (
+        Written {
+            result: Kind::Truth,
+            code: &[
+                Instr::Const(0),
+                Instr::Cond(4, 5),
+                Instr::Const(1),
+                Instr::Jump(5),
+                Instr::Const(2),
+                Instr::Const(2),
+                Instr::Op(16),
+                Instr::End,
+            ],
+            ..MAYBE
+        },
+        "NullOperand, charged 2, steps 7, constants 3",
+    ),
+    // `(true ? null : 1) == null`
+    (
+        Written {
+            result: Kind::Truth,
+            code: &[
+                Instr::Const(0),
+                Instr::Cond(4, 5),
+                Instr::Const(1),
+                Instr::Jump(5),
+                Instr::Const(2),
+                Instr::Const(1),
+                Instr::Op(14),
+                Instr::End,
+            ],
+            ..MAYBE
+        },
+        "true, charged 2, steps 7, constants 3",
+    ),
+    // `!(true ? null : true)`
+    (
+        Written {
+            code: &[
+                Instr::Const(0),
+                Instr::Cond(4, 5),
+                Instr::Const(1),
+                Instr::Jump(5),
+                Instr::Const(0),
+                Instr::Op(0),
+                Instr::End,
+            ],
+            ..MAYBE_TRUE
+        },
+        "NullOperand, charged 2, steps 6, constants 4",
+    ),
+    // `(true ? null : true) && false`: a side that is null is an error, and a false one makes up for it.
+    (
+        Written {
+            targets: &[(4, &[]), (5, &[Kind::MaybeTruth]), (8, &[Kind::Truth])],
+            code: &[
+                Instr::Const(0),
+                Instr::Cond(4, 5),
+                Instr::Const(1),
+                Instr::Jump(5),
+                Instr::Const(0),
+                Instr::AndTest(8),
+                Instr::Const(3),
+                Instr::And,
+                Instr::End,
+            ],
+            ..MAYBE_TRUE
+        },
+        "false, charged 2, steps 8, constants 4",
+    ),
+    // `(true ? null : true) || false`
+    (
+        Written {
+            targets: &[(4, &[]), (5, &[Kind::MaybeTruth]), (8, &[Kind::Truth])],
+            code: &[
+                Instr::Const(0),
+                Instr::Cond(4, 5),
+                Instr::Const(1),
+                Instr::Jump(5),
+                Instr::Const(0),
+                Instr::OrTest(8),
+                Instr::Const(3),
+                Instr::Or,
+                Instr::End,
+            ],
+            ..MAYBE_TRUE
+        },
+        "NullOperand, charged 2, steps 8, constants 4",
+    ),
+    // `(true ? null : true) ? 1 : 1`: the condition's error goes behind both branches.
+    (
+        Written {
+            result: Kind::Whole,
+            targets: &[
+                (4, &[]),
+                (5, &[Kind::MaybeTruth]),
+                (8, &[]),
+                (9, &[Kind::Whole]),
+            ],
+            code: &[
+                Instr::Const(0),
+                Instr::Cond(4, 5),
+                Instr::Const(1),
+                Instr::Jump(5),
+                Instr::Const(0),
+                Instr::Cond(8, 9),
+                Instr::Const(2),
+                Instr::Jump(9),
+                Instr::Const(2),
+                Instr::End,
+            ],
+            ..MAYBE_TRUE
+        },
+        "NullOperand, charged 2, steps 6, constants 4",
+    ),
+    // The type of null is of no kind: `null + 1`.
+    (
+        Written {
+            targets: &[],
+            code: &[Instr::Const(1), Instr::Const(2), Instr::Op(2), Instr::End],
+            ..MAYBE
+        },
+        "WrongKind at 2 of 4",
+    ),
+    // What may be a list that is not plain is compared with null ..
+    (
+        Written {
+            result: Kind::Truth,
+            targets: &[(4, &[]), (5, &[Kind::MaybeSet])],
+            code: &[
+                Instr::Const(0),
+                Instr::Cond(4, 5),
+                Instr::Const(1),
+                Instr::Jump(5),
+                Instr::Const(1),
+                Instr::Const(1),
+                Instr::Op(15),
+                Instr::End,
+            ],
+            ..MAYBE
+        },
+        "false, charged 2, steps 7, constants 3",
+    ),
+    // .. and not with what may be another.
+    (
+        Written {
+            result: Kind::Truth,
+            targets: &[
+                (4, &[]),
+                (5, &[Kind::MaybeSet]),
+                (9, &[Kind::MaybeSet]),
+                (10, &[Kind::MaybeSet, Kind::MaybeSet]),
+            ],
+            code: &[
+                Instr::Const(0),
+                Instr::Cond(4, 5),
+                Instr::Const(1),
+                Instr::Jump(5),
+                Instr::Const(1),
+                Instr::Const(0),
+                Instr::Cond(9, 10),
+                Instr::Const(1),
+                Instr::Jump(10),
+                Instr::Const(1),
+                Instr::Op(14),
+                Instr::End,
+            ],
+            ..MAYBE
+        },
+        "WrongKind at 10 of 12",
+    ),
+];
+
+#[test]
+fn null_is_an_error_where_a_kind_is_asked(rt: HostRuntime) -> Result<(), Fail> {
+    come_to(&rt, rt.alloc(), &NULLS)
 }
 
 static RULES: [(VerifyRule, u8); 7] = [

@@ -12,7 +12,8 @@ use std::alloc::{AllocError, Global};
 use std::test::Fail;
 use vap_schema::{FitError, fit};
 
-fn types_of(alloc: Global, row: &[Json]) -> Result<Vec<CelType>, AllocError> {
+/// The types that are written.
+pub fn types_of(alloc: Global, row: &[Json]) -> Result<Vec<CelType>, AllocError> {
     let mut types = Vec::new(alloc);
     for json in row {
         types.push(type_of(alloc, json)?)?;

@@ -27,20 +27,26 @@ is_some t None h = absurd (cc h)
 is_some t (Some x) h = (x, refl)
 
 -- the run of an image that computes an expression ends with what the expression comes to
-pub run_gives : (image : Image) (tree : TypedTree) (x : Outcome) (charged steps : ℕ) → Computes image tree → IsTrue (outcome_fits (type_of tree) (value_of tree (outside []))) → Run image [] x charged steps → value_of tree (outside []) ≡ Some x
+pub run_gives : (image : Image) (tree : TypedTree) (x : Outcome) (charged steps : ℕ) → Computes image tree
+    → IsTrue (outcome_fits (type_of tree) (value_of tree (outside []))) → Run image [] x charged steps
+    → value_of tree (outside []) ≡ Some x
 run_gives image tree x charged steps computes fits run =
     let (y, is) = is_some _ _ fits in
     let (n, ran) = computes [] y is in
     is ∙ ap Some (one_run image [] y x _ _ _ _ ran run).outcome
 
 -- the same of a program of the image
-pub program_gives : (image program : Image) (tree : TypedTree) (x : Outcome) → Computes image tree → IsTrue (outcome_fits (type_of tree) (value_of tree (outside []))) → program ≡ image → EndsWith program x → value_of tree (outside []) ≡ Some x
+pub program_gives : (image program : Image) (tree : TypedTree) (x : Outcome) → Computes image tree
+    → IsTrue (outcome_fits (type_of tree) (value_of tree (outside []))) → program ≡ image → EndsWith program x
+    → value_of tree (outside []) ≡ Some x
 program_gives image program tree x computes fits same ends =
     let r : Run image [] x ends.charged ends.steps = rw (sym same) ends.run in
     run_gives image tree x _ _ computes fits r
 
 -- a refusal of the image that an expression without slots compiles to
-pub not_run : (tree : TypedTree) (image : Image) (types : List CelType) (error : VerifyError) (why : Refusal) (e : EvaluationError) → IsCompiled image tree types → types ≡ [] → IsRefused image error → e ≡ from_verifying error → e ≡ Refused why → IsNotRunFor tree why
+pub not_run : (tree : TypedTree) (image : Image) (types : List CelType) (error : VerifyError) (why : Refusal) (e : EvaluationError)
+    → IsCompiled image tree types → types ≡ [] → IsRefused image error → e ≡ from_verifying error → e ≡ Refused why
+    → IsNotRunFor tree why
 not_run tree image types verifying.OutOfMemory why e compiled none refused from is = cc
 not_run tree image types (verifying.Fault f) why e compiled none refused from is =
     let same : refusal.Unverified f.at ≡ why = cc in
@@ -53,7 +59,8 @@ untyped_text text e (refusal.Type fault) parsed h = record { expression = e; par
 untyped_text text e (refusal.Unverified at) parsed h = absurd h
 
 -- a text whose expression is not run is refused for that
-pub not_run_text : (text : List ℕ) (tree : TypedTree) (why : Refusal) → IsChecked text (Ok tree) → IsNotRunFor tree why → IsRefusedFor text why
+pub not_run_text : (text : List ℕ) (tree : TypedTree) (why : Refusal) → IsChecked text (Ok tree) → IsNotRunFor tree why
+    → IsRefusedFor text why
 not_run_text text tree (refusal.Parse fault) typed h = absurd h
 not_run_text text tree (refusal.Type fault) typed h = absurd h
 not_run_text text tree (refusal.Unverified at) typed h = record { tree = tree; typed = typed; faulty = h }

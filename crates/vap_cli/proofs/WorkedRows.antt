@@ -19,7 +19,8 @@ negative_line = refl
 error_line : answer_line (answer.Error error.DivideByZero) ≡ codes "error: DivideByZero" ++ 10 ∷ []
 error_line = refl
 
-number_line : answer_line (answer.Refused (refusal.Parse (parsing.Lex (record { kind = lexing.IntRange; place = 14 })))) ≡ codes "refused: IntRange at " ++ (decimal 14 ++ 10 ∷ [])
+number_line : answer_line (answer.Refused (refusal.Parse (parsing.Lex (record { kind = lexing.IntRange; place = 14 }))))
+    ≡ codes "refused: IntRange at " ++ (decimal 14 ++ 10 ∷ [])
 number_line = refl
 
 depth_line : answer_line (answer.Refused (refusal.Parse parsing.TooDeep)) ≡ codes "refused: TooDeep" ++ 10 ∷ []

@@ -9,7 +9,8 @@ ghost use Rattle.cel_check.specs.Outcomes.{Outcome, outside};
 ghost use Rattle.cel_check.specs.Typing.{checked_within};
 ghost use Rattle.vap_cli.specs.declared.evaluation.EvaluationError.TheVariants.{OutOfMemory, Refused};
 ghost use Rattle.vap_cli.specs.declared.answer.Refusal.{Refusal};
-ghost use Rattle.vap_cli.specs.Evaluation.{ComesTo, EndsWith, IsAnswer, IsChecked, IsNotRunFor, IsRefusedFor, IsUntypedFor, from_checking, from_parsing, from_verifying, no_names};
+ghost use Rattle.vap_cli.specs.Evaluation.{ComesTo, EndsWith, IsAnswer, IsChecked, IsNotRunFor, IsRefusedFor, IsUntypedFor};
+ghost use Rattle.vap_cli.specs.Evaluation.{from_checking, from_parsing, from_verifying, no_names};
 
 use crate::answer::{Answer, Refusal};
 use cel_check::{CheckError, Scope, Typed, check};

@@ -1,5 +1,6 @@
 -- Required fields are looked for in step with the entries.
-use Rattle.std.proofs.Common.{◌≡◌, ℕ, Bool, true, false, not, ◌&&◌, cond, List, [], ◌∷◌, length, drop, get_or, ◌+◌, ◌<◌, is_some, Result, Err, refl, ap, sym, subst, ◌∙◌}
+use Rattle.std.proofs.Common.{◌≡◌, ℕ, Bool, true, false, not, ◌&&◌, cond, List, [], ◌∷◌, length}
+use Rattle.std.proofs.Common.{drop, get_or, ◌+◌, ◌<◌, is_some, Result, Err, refl, ap, sym, subst, ◌∙◌}
 use Rattle.std.proofs.lemmas.List.{drop_more}
 use Rattle.std.specs.List.{AllByRecursion}
 use Rattle.std.specs.List.Sorted.{IsStrictlySortedBy}
@@ -28,29 +29,37 @@ behind_all : (k path : List ℕ) (fields : Fields) (es : Entries) → AllByRecur
 behind_all k path [] es h = refl
 behind_all k path (f ∷ fields) es h =
     let missing : Result (Unit {0}) FitFault = Err (fault Missing (at_field path f.key)) in
-    ap (λ o. cond (f.value.required && not (is_some o)) missing (all_there (readers_of fields) path (rest_from k es))) (found_behind k f.key es h.0)
+    ap (λ o. cond (f.value.required && not (is_some o)) missing (all_there (readers_of fields) path (rest_from k es)))
+    (found_behind k f.key es h.0)
     ∙ ap (λ r. cond (f.value.required && not (is_some (value_under f.key es))) missing r) (behind_all k path fields es h.1)
 
-module _ (f : Keyed (Field CelType)) (fields : Fields) (path : List ℕ) (es : Entries) (sorted : IsInKeyOrder (f ∷ fields)) (ordered : IsInKeyOrder es) where
+module _ (f : Keyed (Field CelType)) (fields : Fields) (path : List ℕ) (es : Entries) (sorted : IsInKeyOrder (f ∷ fields))
+    (ordered : IsInKeyOrder es) where
   -- whether the field is missing, by the first entry that does not stand before it
   abbrev pub is_missing : Bool
   is_missing = f.value.required && not (is_some (first_under f.key (rest_from f.key es)))
 
-  decided : all_there (readers_of (f ∷ fields)) path es ≡ cond is_missing (Err (fault Missing (at_field path f.key))) (all_there (readers_of fields) path es)
-  decided = ap (λ o. cond (f.value.required && not (is_some o)) (Err (fault Missing (at_field path f.key))) (all_there (readers_of fields) path es)) (found_first f.key es ordered)
+  decided : all_there (readers_of (f ∷ fields)) path es
+      ≡ cond is_missing (Err (fault Missing (at_field path f.key))) (all_there (readers_of fields) path es)
+  decided =
+      ap
+      (λ o. cond (f.value.required && not (is_some o)) (Err (fault Missing (at_field path f.key))) (all_there (readers_of fields) path es))
+      (found_first f.key es ordered)
 
   pub missing_here : is_missing ≡ true → all_there (readers_of (f ∷ fields)) path es ≡ Err (fault Missing (at_field path f.key))
   missing_here h = decided ∙ ap (λ b. cond b (Err (fault Missing (at_field path f.key))) (all_there (readers_of fields) path es)) h
 
-  pub not_missing : is_missing ≡ false → all_there (readers_of fields) path (rest_from f.key es) ≡ all_there (readers_of (f ∷ fields)) path es
+  pub not_missing : is_missing ≡ false
+      → all_there (readers_of fields) path (rest_from f.key es) ≡ all_there (readers_of (f ∷ fields)) path es
   unfolding IsStrictlySortedBy
   not_missing h =
       behind_all f.key path fields es sorted.0
       ∙ sym (decided ∙ ap (λ b. cond b (Err (fault Missing (at_field path f.key))) (all_there (readers_of fields) path es)) h)
 
 -- one turn of the walk over the fields
-module _ (fields : Fields) (i : ℕ) (f : Keyed (Field CelType)) (path name : List ℕ) (es : Entries) (from place : ℕ) (named : name ≡ f.key)
-    (lt : i < length fields) (is : f ≡ get_or fields i f) (sorted : IsInKeyOrder fields) (ordered : IsInKeyOrder es) (at : place ≡ from + count_before name (drop from es)) where
+module _ (fields : Fields) (i : ℕ) (f : Keyed (Field CelType)) (path name : List ℕ) (es : Entries) (from place : ℕ)
+    (named : name ≡ f.key) (lt : i < length fields) (is : f ≡ get_or fields i f) (sorted : IsInKeyOrder fields)
+    (ordered : IsInKeyOrder es) (at : place ≡ from + count_before name (drop from es)) where
   here : drop i fields ≡ f ∷ drop (i + 1) fields
   here = drop_more fields i f lt ∙ ap (λ x. x ∷ drop (i + 1) fields) (sym is)
 
@@ -60,7 +69,8 @@ module _ (fields : Fields) (i : ℕ) (f : Keyed (Field CelType)) (path name : Li
   fields_here : IsInKeyOrder (f ∷ drop (i + 1) fields)
   fields_here = subst IsInKeyOrder here (order_behind i fields sorted)
 
-  missing_is : (f.value.required && not (is_some (first_under name (drop place es)))) ≡ is_missing f (drop (i + 1) fields) path (drop from es) fields_here (order_behind from es ordered)
+  missing_is : (f.value.required && not (is_some (first_under name (drop place es))))
+      ≡ is_missing f (drop (i + 1) fields) path (drop from es) fields_here (order_behind from es ordered)
   missing_is =
       ap (λ k. f.value.required && not (is_some (first_under k (drop place es)))) named
       ∙ ap (λ (l : Entries). f.value.required && not (is_some (first_under f.key l))) rest_here

@@ -1,5 +1,6 @@
 -- Entries by key, in step with keys that rise: what stands before a key is looked for no more.
-use Rattle.std.proofs.Common.{◌≡◌, ℕ, zero, suc, ◌+◌, Bool, true, false, cond, List, [], ◌∷◌, drop, None, Ordering, refl, ap, sym, ◌∙◌, inl, inr, true≢false}
+use Rattle.std.proofs.Common.{◌≡◌, ℕ, zero, suc, ◌+◌, Bool, true, false, cond, List, []}
+use Rattle.std.proofs.Common.{◌∷◌, drop, None, Ordering, refl, ap, sym, ◌∙◌, inl, inr, true≢false}
 use Rattle.std.proofs.Math.Numerals.{one-add}
 use Rattle.std.specs.List.{AllByRecursion}
 use Rattle.std.specs.List.Sorted.{IsStrictlySortedBy}
@@ -54,14 +55,16 @@ none_above : {V : Type 0} (k : List ℕ) (es : List (Keyed V)) → AllByRecursio
 none_above k [] h = refl
 none_above k (e ∷ es) h = rw (apart_from e.key k h.0) (none_above k es h.1)
 
-first_or_none : {V : Type 0} (k : List ℕ) (e : Keyed V) (es : List (Keyed V)) → is_before k e ≡ false → AllByRecursion (Below e.key) (keys_in es)
+first_or_none : {V : Type 0} (k : List ℕ) (e : Keyed V) (es : List (Keyed V)) → is_before k e ≡ false
+    → AllByRecursion (Below e.key) (keys_in es)
     → (b : Bool) → bytes_eq e.key k ≡ b → value_under k (e ∷ es) ≡ first_under k (e ∷ es)
 first_or_none k e es other s true same = rw same refl
 first_or_none k e es other s false same =
     rw same (none_above k es (all_below k e.key (keys_in es) (above_key e.key k other same) s))
 
 -- what stands under a key is found at the first entry that does not stand before it
-pub found_first : {V : Type 0} (k : List ℕ) (es : List (Keyed V)) → IsInKeyOrder es → value_under k es ≡ first_under k (rest_from k es)
+pub found_first : {V : Type 0} (k : List ℕ) (es : List (Keyed V)) → IsInKeyOrder es
+    → value_under k es ≡ first_under k (rest_from k es)
 unfolding IsStrictlySortedBy
 found_first k [] s = refl
 found_first k (e ∷ es) s = elim (cases_Bool (is_before k e)) [
@@ -94,5 +97,6 @@ order_behind (suc n) [] s = s
 order_behind (suc n) (e ∷ es) s = order_behind n es s.1
 
 -- the place that was found begins the rest
-pub moved : {V : Type 0} (k : List ℕ) (es : List (Keyed V)) (from place : ℕ) → place ≡ from + count_before k (drop from es) → drop place es ≡ rest_from k (drop from es)
+pub moved : {V : Type 0} (k : List ℕ) (es : List (Keyed V)) (from place : ℕ) → place ≡ from + count_before k (drop from es)
+    → drop place es ≡ rest_from k (drop from es)
 moved k es from place is = ap (λ n. drop n es) is ∙ sym (drop-drop (count_before k (drop from es)) from es) ∙ rest_is k (drop from es)

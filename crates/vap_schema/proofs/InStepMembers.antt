@@ -1,5 +1,7 @@
 -- An object's members are read in step with the type's fields.
-use Rattle.std.proofs.Common.{◌≡◌, ℕ, ◌+◌, Bool, true, false, List, [], ◌∷◌, ◌++◌, ◌<◌, length, get_or, drop, append-nil, cond, is_some, true≢false, Option, Some, None, Result, Ok, Err, option_map, refl, ap, sym, subst, ◌∙◌, inl, inr}
+use Rattle.std.proofs.Common.{◌≡◌, ℕ, ◌+◌, Bool, true, false, List, [], ◌∷◌, ◌++◌, ◌<◌}
+use Rattle.std.proofs.Common.{length, get_or, drop, append-nil, cond, is_some, true≢false, Option, Some, None, Result}
+use Rattle.std.proofs.Common.{Ok, Err, option_map, refl, ap, sym, subst, ◌∙◌, inl, inr}
 use Rattle.std.specs.Prelude.{option_to_list}
 use Rattle.std.specs.List.{AllByRecursion}
 use Rattle.std.specs.Str.{bytes_eq}
@@ -43,10 +45,13 @@ reader_first k (f ∷ fields) = elim (cases_Bool (bytes_eq f.key k)) [
 ]
 
 -- the field of a member is the first that does not stand before its name
-reader_found : (k : List ℕ) (fields : Fields) → IsInKeyOrder fields → value_under k (readers_of fields) ≡ first_under k (readers_of (rest_from k fields))
-reader_found k fields sorted = reader_under k fields ∙ ap (option_map field_reader) (found_first k fields sorted) ∙ sym (reader_first k (rest_from k fields))
+reader_found : (k : List ℕ) (fields : Fields) → IsInKeyOrder fields
+    → value_under k (readers_of fields) ≡ first_under k (readers_of (rest_from k fields))
+reader_found k fields sorted =
+    reader_under k fields ∙ ap (option_map field_reader) (found_first k fields sorted) ∙ sym (reader_first k (rest_from k fields))
 
-reader_behind : (k g : List ℕ) (fields : Fields) → Below k g → value_under g (readers_of (rest_from k fields)) ≡ value_under g (readers_of fields)
+reader_behind : (k g : List ℕ) (fields : Fields) → Below k g
+    → value_under g (readers_of (rest_from k fields)) ≡ value_under g (readers_of fields)
 reader_behind k g fields below =
     reader_under g (rest_from k fields) ∙ ap (option_map field_reader) (found_behind k g fields below) ∙ sym (reader_under g fields)
 
@@ -55,8 +60,11 @@ members_behind : (k path : List ℕ) (fields : Fields) (ms : Members) → AllByR
     → seen_members (readers_of (rest_from k fields)) path ms ≡ seen_members (readers_of fields) path ms
 members_behind k path fields no_members h = refl
 members_behind k path fields (member l d ms) h =
-    ap (λ o. seen_member o path l d >>= (λ e. seen_members (readers_of (rest_from k fields)) path ms >>= (λ es. Ok (option_to_list e ++ es)))) (reader_behind k l fields h.0)
-    ∙ ap (λ r. seen_member (value_under l (readers_of fields)) path l d >>= (λ e. r >>= (λ es. Ok (option_to_list e ++ es)))) (members_behind k path fields ms h.1)
+    ap
+    (λ o. seen_member o path l d >>= (λ e. seen_members (readers_of (rest_from k fields)) path ms >>= (λ es. Ok (option_to_list e ++ es))))
+    (reader_behind k l fields h.0)
+    ∙ ap (λ r. seen_member (value_under l (readers_of fields)) path l d >>= (λ e. r >>= (λ es. Ok (option_to_list e ++ es))))
+    (members_behind k path fields ms h.1)
 
 -- one turn of the walk over the members: the name and the fields are as the code has them
 module _ (fields listed : Fields) (path name k : List ℕ) (d : Data) (ms : Members) (from place : ℕ) (sorted : IsInKeyOrder fields)
@@ -68,16 +76,19 @@ module _ (fields listed : Fields) (path name k : List ℕ) (d : Data) (ms : Memb
       moved k fields from place
       (at ∙ ap (λ n. from + count_before n (drop from listed)) named ∙ ap (λ (l : Fields). from + count_before k (drop from l)) same)
 
-  first_is : seen_member (first_under name (readers_of (drop place fields))) path name d ≡ seen_member (value_under k (readers_of (drop from fields))) path k d
+  first_is : seen_member (first_under name (readers_of (drop place fields))) path name d
+      ≡ seen_member (value_under k (readers_of (drop from fields))) path k d
   first_is =
       ap (λ n. seen_member (first_under n (readers_of (drop place fields))) path n d) named
       ∙ ap (λ (l : Fields). seen_member (first_under k (readers_of l)) path k d) rest_here
       ∙ ap (λ o. seen_member o path k d) (sym (reader_found k (drop from fields) (order_behind from fields sorted)))
 
-  pub step_stops : (e : FitError) → Answers (seen_member (first_under name (readers_of (drop place fields))) path name d) (Err e) → Answers whole (Err e)
+  pub step_stops : (e : FitError) → Answers (seen_member (first_under name (readers_of (drop place fields))) path name d) (Err e)
+      → Answers whole (Err e)
   step_stops e a = members_stop (readers_of (drop from fields)) path k d ms done whole e read (subst (λ r. Answers r (Err e)) first_is a)
 
-  pub step_goes : (o : Option (Keyed Value)) → IsInOrder (k ∷ names_in ms) → seen_member (first_under name (readers_of (drop place fields))) path name d ≡ Ok o
+  pub step_goes : (o : Option (Keyed Value)) → IsInOrder (k ∷ names_in ms)
+      → seen_member (first_under name (readers_of (drop place fields))) path name d ≡ Ok o
       → whole ≡ behind (done ++ option_to_list o) (seen_members (readers_of (drop place fields)) path ms)
   step_goes o ordered a =
       members_go (readers_of (drop from fields)) path k d ms o done whole read (sym first_is ∙ a)
@@ -86,13 +97,15 @@ module _ (fields listed : Fields) (path name k : List ℕ) (d : Data) (ms : Memb
       ∙ ap (λ (l : Fields). seen_members (readers_of l) path ms) (sym rest_here))
 
   -- a member that has no entry
-  pub step_passes : IsInOrder (k ∷ names_in ms) → seen_member (first_under name (readers_of (drop place fields))) path name d ≡ Ok None
+  pub step_passes : IsInOrder (k ∷ names_in ms)
+      → seen_member (first_under name (readers_of (drop place fields))) path name d ≡ Ok None
       → whole ≡ behind done (seen_members (readers_of (drop place fields)) path ms)
-  step_passes ordered a = step_goes None ordered a ∙ ap (λ l. behind l (seen_members (readers_of (drop place fields)) path ms)) (append-nil done)
+  step_passes ordered a =
+      step_goes None ordered a ∙ ap (λ l. behind l (seen_members (readers_of (drop place fields)) path ms)) (append-nil done)
 
 -- the field that stands at a place, if its name was found there
-module _ (fields : Fields) (place : ℕ) (name : List ℕ) (f : Keyed (Field CelType)) (lt : place < length fields) (is : f ≡ get_or fields place f)
-    (known : is_some (first_under name (drop place fields)) ≡ true) where
+module _ (fields : Fields) (place : ℕ) (name : List ℕ) (f : Keyed (Field CelType)) (lt : place < length fields)
+    (is : f ≡ get_or fields place f) (known : is_some (first_under name (drop place fields)) ≡ true) where
   here : drop place fields ≡ f ∷ drop (place + 1) fields
   here = drop_more fields place f lt ∙ ap (λ x. x ∷ drop (place + 1) fields) (sym is)
 

@@ -1,5 +1,6 @@
 -- What is read of members stands in their order.
-use Rattle.std.proofs.Common.{◌≡◌, ℕ, List, [], ◌∷◌, ◌++◌, Option, None, Some, Ok, String, Global, string_bytes, string_cmp, refl, ap, sym, ◌∙◌, subst}
+use Rattle.std.proofs.Common.{◌≡◌, ℕ, List, [], ◌∷◌, ◌++◌, Option, None, Some, Ok}
+use Rattle.std.proofs.Common.{String, Global, string_bytes, string_cmp, refl, ap, sym, ◌∙◌, subst}
 use Rattle.std.specs.Prelude.{IfSome, option_to_list}
 use Rattle.std.specs.List.{AllByRecursion}
 use Rattle.std.specs.List.Sorted.{IsStrictlySortedBy}
@@ -27,41 +28,52 @@ names_in (member k d ms) = k ∷ names_in ms
 abbrev pub IsInOrder : List (List ℕ) → Type 0
 IsInOrder ks = IsStrictlySortedBy (slice_cmp nat_cmp) ks
 
-entries_keys : (here : Reading) (key_max : ℕ) (path : List ℕ) (ms : Members) (es : List (Keyed Value)) → seen_entries here key_max path ms ≡ Ok es → keys_in es ≡ names_in ms
+entries_keys : (here : Reading) (key_max : ℕ) (path : List ℕ) (ms : Members) (es : List (Keyed Value))
+    → seen_entries here key_max path ms ≡ Ok es → keys_in es ≡ names_in ms
 entries_keys here key_max path no_members es h = ap keys_in (sym (same_ok (Ok []) [] es refl h))
 entries_keys here key_max path (member k d ms) es h =
     let p = both (seen_entry here key_max path k d) (seen_entries here key_max path ms) (λ e more. e ∷ more) es h in
-    ap keys_in p.4 ∙ ap (λ l. l ∷ keys_in p.1) (entry_key here key_max path k d p.0 p.2) ∙ ap (λ ks. k ∷ ks) (entries_keys here key_max path ms p.1 p.3)
+    ap keys_in p.4 ∙ ap (λ l. l ∷ keys_in p.1) (entry_key here key_max path k d p.0 p.2)
+    ∙ ap (λ ks. k ∷ ks) (entries_keys here key_max path ms p.1 p.3)
 
-pub entries_in_order : (here : Reading) (key_max : ℕ) (path : List ℕ) (ms : Members) (es : List (Keyed Value)) → IsInOrder (names_in ms) → seen_entries here key_max path ms ≡ Ok es → IsInKeyOrder es
+pub entries_in_order : (here : Reading) (key_max : ℕ) (path : List ℕ) (ms : Members) (es : List (Keyed Value))
+    → IsInOrder (names_in ms) → seen_entries here key_max path ms ≡ Ok es → IsInKeyOrder es
 entries_in_order here key_max path ms es s h = subst IsInOrder (sym (entries_keys here key_max path ms es h)) s
 
-below_with : (e : Option (Keyed Value)) (more : List (Keyed Value)) (k l : List ℕ) → Below k l → IfSome e (λ x. x.key ≡ l) → AllByRecursion (Below k) (keys_in more) → AllByRecursion (Below k) (keys_in (option_to_list e ++ more))
+below_with : (e : Option (Keyed Value)) (more : List (Keyed Value)) (k l : List ℕ) → Below k l → IfSome e (λ x. x.key ≡ l)
+    → AllByRecursion (Below k) (keys_in more) → AllByRecursion (Below k) (keys_in (option_to_list e ++ more))
 below_with None more k l b named h = h
 below_with (Some x) more k l b named h = (subst (λ q. Below k q) (sym named) b, h)
 
-members_below : (fields : List (Keyed (Field Reader))) (path k : List ℕ) (ms : Members) (es : List (Keyed Value)) → AllByRecursion (Below k) (names_in ms) → seen_members fields path ms ≡ Ok es → AllByRecursion (Below k) (keys_in es)
+members_below : (fields : List (Keyed (Field Reader))) (path k : List ℕ) (ms : Members) (es : List (Keyed Value))
+    → AllByRecursion (Below k) (names_in ms) → seen_members fields path ms ≡ Ok es → AllByRecursion (Below k) (keys_in es)
 members_below fields path k no_members es b h = subst (λ xs. AllByRecursion (Below k) (keys_in xs)) (same_ok (Ok []) [] es refl h) tt
 members_below fields path k (member l d ms) es b h =
     let p = both (seen_member (value_under l fields) path l d) (seen_members fields path ms) (λ e more. option_to_list e ++ more) es h in
-    subst (λ xs. AllByRecursion (Below k) (keys_in xs)) (sym p.4) (below_with p.0 p.1 k l b.0 (member_key (value_under l fields) path l d p.0 p.2) (members_below fields path k ms p.1 b.1 p.3))
+    subst (λ xs. AllByRecursion (Below k) (keys_in xs)) (sym p.4)
+    (below_with p.0 p.1 k l b.0 (member_key (value_under l fields) path l d p.0 p.2) (members_below fields path k ms p.1 b.1 p.3))
 
-in_order_with : (e : Option (Keyed Value)) (more : List (Keyed Value)) (l : List ℕ) → IfSome e (λ x. x.key ≡ l) → AllByRecursion (Below l) (keys_in more) → IsInKeyOrder more → IsInKeyOrder (option_to_list e ++ more)
+in_order_with : (e : Option (Keyed Value)) (more : List (Keyed Value)) (l : List ℕ) → IfSome e (λ x. x.key ≡ l)
+    → AllByRecursion (Below l) (keys_in more) → IsInKeyOrder more → IsInKeyOrder (option_to_list e ++ more)
 unfolding IsStrictlySortedBy
 in_order_with None more l named b s = s
 in_order_with (Some x) more l named b s = (subst (λ q. AllByRecursion (Below q) (keys_in more)) (sym named) b, s)
 
-pub members_in_order : (fields : List (Keyed (Field Reader))) (path : List ℕ) (ms : Members) (es : List (Keyed Value)) → IsInOrder (names_in ms) → seen_members fields path ms ≡ Ok es → IsInKeyOrder es
+pub members_in_order : (fields : List (Keyed (Field Reader))) (path : List ℕ) (ms : Members) (es : List (Keyed Value))
+    → IsInOrder (names_in ms) → seen_members fields path ms ≡ Ok es → IsInKeyOrder es
 unfolding IsStrictlySortedBy
 members_in_order fields path no_members es s h = subst IsInKeyOrder (same_ok (Ok []) [] es refl h) tt
 members_in_order fields path (member l d ms) es s h =
     let p = both (seen_member (value_under l fields) path l d) (seen_members fields path ms) (λ e more. option_to_list e ++ more) es h in
-    subst IsInKeyOrder (sym p.4) (in_order_with p.0 p.1 l (member_key (value_under l fields) path l d p.0 p.2) (members_below fields path l ms p.1 s.0 p.3) (members_in_order fields path ms p.1 s.1 p.3))
+    subst IsInKeyOrder (sym p.4)
+    (in_order_with p.0 p.1 l (member_key (value_under l fields) path l d p.0 p.2) (members_below fields path l ms p.1 s.0 p.3)
+    (members_in_order fields path ms p.1 s.1 p.3))
 
 abbrev Member : Type 0
 Member = String Global × json.Value
 
-names_below : (k : String Global) (es : List Member) → AllByRecursion (λ y. string_cmp k y ≡ Less) (keys_of es) → AllByRecursion (Below (string_bytes k)) (names_in (members_view es))
+names_below : (k : String Global) (es : List Member) → AllByRecursion (λ y. string_cmp k y ≡ Less) (keys_of es)
+    → AllByRecursion (Below (string_bytes k)) (names_in (members_view es))
 names_below k [] h = tt
 names_below k (e ∷ es) h = (h.0, names_below k es h.1)
 

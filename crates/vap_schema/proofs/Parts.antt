@@ -1,5 +1,6 @@
 -- Readings part by part: what a fault of a part is to the whole, and what parts a whole has.
-use Rattle.std.proofs.Common.{◌≡◌, ℕ, Bool, true, false, List, Option, None, Some, Result, Ok, Err, if◌then◌else◌, refl, ap, sym, ◌∙◌}
+use Rattle.std.proofs.Common.{◌≡◌, ℕ, Bool, true, false, List, Option, None, Some}
+use Rattle.std.proofs.Common.{Result, Ok, Err, if◌then◌else◌, refl, ap, sym, ◌∙◌}
 use Rattle.std.specs.Prelude.{IfSome}
 use Rattle.plain.specs.declared.text.Keyed.{Keyed}
 use Rattle.serde_json.specs.Data.{Data}
@@ -15,7 +16,8 @@ pub same_ok : {A E : Type 0} (r : Result A E) (a b : A) → r ≡ Ok a → r ≡
 same_ok r a b g h = cc
 
 -- the first part's fault is the whole's
-pub stops : {A B : Type 0} (part : Result A FitFault) (next : A → Result B FitFault) (whole : Result B FitFault) (e : FitError) → whole ≡ (part >>= next) → Answers part (Err e) → Answers whole (Err e)
+pub stops : {A B : Type 0} (part : Result A FitFault) (next : A → Result B FitFault) (whole : Result B FitFault) (e : FitError)
+    → whole ≡ (part >>= next) → Answers part (Err e) → Answers whole (Err e)
 stops part next whole (Fault f) h a = h ∙ ap (λ r. r >>= next) a
 stops part next whole OutOfMemory h a = tt
 
@@ -25,41 +27,49 @@ told want f (Fault g) h t = h ∙ ap (λ (x : FitFault). Err x) t
 told want f OutOfMemory h t = tt
 
 -- behind a limit that is kept stands what is read
-pub goes_on : {A : Type 0} (limit : Result (Unit {0}) FitFault) (u : Unit {0}) (part : Result A FitFault) (answer : Result A FitError) → limit ≡ Ok u → Answers part answer → Answers (limit >>= (λ _. part)) answer
+pub goes_on : {A : Type 0} (limit : Result (Unit {0}) FitFault) (u : Unit {0}) (part : Result A FitFault) (answer : Result A FitError)
+    → limit ≡ Ok u → Answers part answer → Answers (limit >>= (λ _. part)) answer
 goes_on limit u part answer h a = rw h a
 
 -- what was read has both parts
-pub both : {A B C E : Type 0} (r : Result A E) (s : Result B E) (join : A → B → C) (c : C) → (r >>= (λ a. s >>= (λ b. Ok (join a b)))) ≡ Ok c
+pub both : {A B C E : Type 0} (r : Result A E) (s : Result B E) (join : A → B → C) (c : C)
+    → (r >>= (λ a. s >>= (λ b. Ok (join a b)))) ≡ Ok c
     → (a : A) × (b : B) × (r ≡ Ok a) × (s ≡ Ok b) × (c ≡ join a b)
 both (Ok a) (Ok b) join c h = (a, b, refl, refl, sym (same_ok (Ok (join a b)) (join a b) c refl h))
 both (Ok a) (Err e) join c h = absurd (cc)
 both (Err e) s join c h = absurd (cc)
 
-under_key : (r : Result Value FitFault) (k : List ℕ) (e : Keyed Value) → (r >>= (λ v. Ok (record { key = k; value = v }))) ≡ Ok e → e.key ≡ k
+under_key : (r : Result Value FitFault) (k : List ℕ) (e : Keyed Value) → (r >>= (λ v. Ok (record { key = k; value = v }))) ≡ Ok e
+    → e.key ≡ k
 under_key (Ok v) k e h = ap (λ x. x.key) (sym (same_ok (Ok (record { key = k; value = v })) (record { key = k; value = v }) e refl h))
 under_key (Err f) k e h = absurd (cc)
 
-entry_key_at : (limit : Result (Unit {0}) FitFault) (r : Result Value FitFault) (k : List ℕ) (e : Keyed Value) → (limit >>= (λ _. r >>= (λ v. Ok (record { key = k; value = v })))) ≡ Ok e → e.key ≡ k
+entry_key_at : (limit : Result (Unit {0}) FitFault) (r : Result Value FitFault) (k : List ℕ) (e : Keyed Value)
+    → (limit >>= (λ _. r >>= (λ v. Ok (record { key = k; value = v })))) ≡ Ok e → e.key ≡ k
 entry_key_at (Ok u) r k e h = under_key r k e h
 entry_key_at (Err f) r k e h = absurd (cc)
 
 -- an entry of a map has the member's name
-pub entry_key : (here : Reading) (key_max : ℕ) (path k : List ℕ) (d : Data) (e : Keyed Value) → seen_entry here key_max path k d ≡ Ok e → e.key ≡ k
+pub entry_key : (here : Reading) (key_max : ℕ) (path k : List ℕ) (d : Data) (e : Keyed Value)
+    → seen_entry here key_max path k d ≡ Ok e → e.key ≡ k
 entry_key here key_max path k d e h = entry_key_at _ (here (at_field path k) d) k e h
 
-some_key : (r : Result Value FitFault) (k : List ℕ) (e : Option (Keyed Value)) → (r >>= (λ v. Ok (record { key = k; value = v })) >>= (λ x. Ok (Some x))) ≡ Ok e → IfSome e (λ x. x.key ≡ k)
+some_key : (r : Result Value FitFault) (k : List ℕ) (e : Option (Keyed Value))
+    → (r >>= (λ v. Ok (record { key = k; value = v })) >>= (λ x. Ok (Some x))) ≡ Ok e → IfSome e (λ x. x.key ≡ k)
 some_key (Ok v) k None h = tt
 some_key (Ok v) k (Some x) h = let same : record { key = k; value = v } ≡ x = cc in ap (λ y. y.key) (sym same)
 some_key (Err f) k e h = absurd (cc)
 
 unless_absent : (absent : Bool) (r : Result Value FitFault) (k : List ℕ) (e : Option (Keyed Value))
-    → (if absent then Ok None else (r >>= (λ v. Ok (record { key = k; value = v })) >>= (λ x. Ok (Some x)))) ≡ Ok e → IfSome e (λ x. x.key ≡ k)
+    → (if absent then Ok None else (r >>= (λ v. Ok (record { key = k; value = v })) >>= (λ x. Ok (Some x)))) ≡ Ok e
+    → IfSome e (λ x. x.key ≡ k)
 unless_absent true r k None h = tt
 unless_absent true r k (Some x) h = absurd (cc)
 unless_absent false r k e h = some_key r k e h
 
 -- an entry of an object has the member's name
-pub member_key : (f : Option (Field Reader)) (path k : List ℕ) (d : Data) (e : Option (Keyed Value)) → seen_member f path k d ≡ Ok e → IfSome e (λ x. x.key ≡ k)
+pub member_key : (f : Option (Field Reader)) (path k : List ℕ) (d : Data) (e : Option (Keyed Value)) → seen_member f path k d ≡ Ok e
+    → IfSome e (λ x. x.key ≡ k)
 member_key None path k d None h = tt
 member_key None path k d (Some x) h = absurd (cc)
 member_key (Some f) path k d e h = unless_absent (is_absent f.required f.cel_type d) (f.cel_type.1 (at_field path k) d) k e h

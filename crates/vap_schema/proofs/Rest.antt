@@ -19,16 +19,19 @@ pub behind-all : {X E : Type 0} (done : List X) (r : Result (List X) E) → r �
 unfolding behind
 behind-all done r h = rw h (ap Ok (append-nil done))
 
-pub behind-append : {X E : Type 0} (done new : List X) (r : Result (List X) E) → behind (done ++ new) r ≡ behind done (r >>= (λ more. Ok (new ++ more)))
+pub behind-append : {X E : Type 0} (done new : List X) (r : Result (List X) E)
+    → behind (done ++ new) r ≡ behind done (r >>= (λ more. Ok (new ++ more)))
 unfolding behind
 behind-append done new (Ok more) = ap Ok (append_assoc done new more)
 behind-append done new (Err e) = refl
 
-pub behind-push : {X E : Type 0} (done : List X) (x : X) (r : Result (List X) E) → behind done (r >>= (λ more. Ok (x ∷ more))) ≡ behind (done ++ x ∷ []) r
+pub behind-push : {X E : Type 0} (done : List X) (x : X) (r : Result (List X) E)
+    → behind done (r >>= (λ more. Ok (x ∷ more))) ≡ behind (done ++ x ∷ []) r
 behind-push done x r = sym (behind-append done (x ∷ []) r)
 
 -- a fault behind what was read so far is the whole's
-pub stops_behind : {A X : Type 0} (done : List X) (part : Result A FitFault) (next : A → Result (List X) FitFault) (whole : Result (List X) FitFault) (e : FitError)
+pub stops_behind : {A X : Type 0} (done : List X) (part : Result A FitFault) (next : A → Result (List X) FitFault)
+    (whole : Result (List X) FitFault) (e : FitError)
     → whole ≡ behind done (part >>= next) → Answers part (Err e) → Answers whole (Err e)
 unfolding behind
 stops_behind done part next whole (Fault f) h a = h ∙ ap (λ r. behind done (r >>= next)) a

@@ -20,9 +20,12 @@ same_texts xs ys names moved same k = sym (list_any-IsPermutation (λ t. bytes_e
 abbrev nowhere : Bor (List ℕ)
 nowhere = record { ref_ptr = (0, 0); now = [] }
 
-pub searched : (xs : List (Bor (List ℕ))) (k : List ℕ) (r : Result ℕ ℕ) → IsInTextOrder xs → IsSearchInRange r (length xs) → IsBinarySearchResult (λ t. slice_cmp nat_cmp t.now k) xs r → is_ok r ≡ is_named k xs
+pub searched : (xs : List (Bor (List ℕ))) (k : List ℕ) (r : Result ℕ ℕ) → IsInTextOrder xs → IsSearchInRange r (length xs)
+    → IsBinarySearchResult (λ t. slice_cmp nat_cmp t.now k) xs r → is_ok r ≡ is_named k xs
 searched xs k (Ok i) ordered within found =
-    sym (list_any_at (λ t. bytes_eq t.now k) xs i nowhere within (sym (is_eq-slice_cmp (get_or xs i nowhere).now k) ∙ ap is_eq (found nowhere)))
+    sym
+    (list_any_at (λ t. bytes_eq t.now k) xs i nowhere within
+    (sym (is_eq-slice_cmp (get_or xs i nowhere).now k) ∙ ap is_eq (found nowhere)))
 searched xs k (Err i) ordered within found =
     let parted = found (searchable_from_sorted nat_list_cmp_total (λ t. t.now) xs k ordered) in
     sym (list_any_none (λ t. bytes_eq t.now k) xs (λ j d lt. elim (cases_lt j i) [

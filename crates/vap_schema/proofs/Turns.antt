@@ -1,5 +1,6 @@
 -- One turn of the walks over items, over a map's members and over an object's.
-use Rattle.std.proofs.Common.{◌≡◌, ℕ, ◌+◌, ◌<◌, ◌≤◌, List, [], ◌∷◌, ◌++◌, length, get_or, drop, Option, Result, Ok, Err, refl, ap, sym, ◌∙◌, Bor, rules}
+use Rattle.std.proofs.Common.{◌≡◌, ℕ, ◌+◌, ◌<◌, ◌≤◌, List, [], ◌∷◌, ◌++◌, length, get_or}
+use Rattle.std.proofs.Common.{drop, Option, Result, Ok, Err, refl, ap, sym, ◌∙◌, Bor, rules}
 use Rattle.std.specs.Prelude.{option_to_list, IsTrue}
 use Rattle.std.specs.List.{list_all}
 use Rattle.std.proofs.lemmas.Bool.{and_from}
@@ -22,56 +23,79 @@ use Rattle.vap_schema.proofs.Rest.{behind, behind-all, behind-append, behind-pus
 pub path_text-Item : (above : Bor path.Path) (place : ℕ) → path_text (path.Item above place) ≡ at_item (path_text above.now) place
 path_text-Item above place = search (rules, path.the_lemmas)
 
-pub all_push : {X : Type 0} (p : X → _) (xs : List X) (x : X) → IsTrue (list_all p xs) → IsTrue (p x) → IsTrue (list_all p (xs ++ x ∷ []))
+pub all_push : {X : Type 0} (p : X → _) (xs : List X) (x : X) → IsTrue (list_all p xs) → IsTrue (p x)
+    → IsTrue (list_all p (xs ++ x ∷ []))
 all_push p xs x h here = list_all-append p xs (x ∷ []) ∙ and_from _ _ h (and_from _ _ here refl)
 
 -- ---- items
 
-next_item : (here : Reading) (path : List ℕ) (items : List json.Value) (place : ℕ) (d : json.Value) → place < length items → d ≡ get_or items place d
-    → seen_items here path place (items_view (drop place items)) ≡ seen_items here path place (item (view d) (items_view (drop (place + 1) items)))
+next_item : (here : Reading) (path : List ℕ) (items : List json.Value) (place : ℕ) (d : json.Value) → place < length items
+    → d ≡ get_or items place d
+    → seen_items here path place (items_view (drop place items))
+    ≡ seen_items here path place (item (view d) (items_view (drop (place + 1) items)))
 next_item here path items place d h is =
     ap (λ xs. seen_items here path place (items_view xs)) (drop_more items place d h)
     ∙ ap (λ x. seen_items here path place (item (view x) (items_view (drop (place + 1) items)))) (sym is)
 
-pub items_stop : (here : Reading) (path : List ℕ) (items : List json.Value) (place : ℕ) (d : json.Value) (done : List Value) (whole : Result (List Value) FitFault) (e : FitError)
-    → place < length items → d ≡ get_or items place d → whole ≡ behind done (seen_items here path place (items_view (drop place items)))
+pub items_stop : (here : Reading) (path : List ℕ) (items : List json.Value) (place : ℕ) (d : json.Value) (done : List Value)
+    (whole : Result (List Value) FitFault) (e : FitError)
+    → place < length items → d ≡ get_or items place d
+    → whole ≡ behind done (seen_items here path place (items_view (drop place items)))
     → Answers (here (at_item path place) (view d)) (Err e) → Answers whole (Err e)
 items_stop here path items place d done whole e h is read a =
-    stops_behind done (here (at_item path place) (view d)) (λ v. seen_items here path (place + 1) (items_view (drop (place + 1) items)) >>= (λ vs. Ok (v ∷ vs))) whole e
+    stops_behind done (here (at_item path place) (view d))
+    (λ v. seen_items here path (place + 1) (items_view (drop (place + 1) items)) >>= (λ vs. Ok (v ∷ vs))) whole e
     (read ∙ ap (behind done) (next_item here path items place d h is)) a
 
-pub items_go : (here : Reading) (path : List ℕ) (items : List json.Value) (place : ℕ) (d : json.Value) (v : Value) (done : List Value) (whole : Result (List Value) FitFault)
-    → place < length items → d ≡ get_or items place d → whole ≡ behind done (seen_items here path place (items_view (drop place items)))
-    → here (at_item path place) (view d) ≡ Ok v → whole ≡ behind (done ++ v ∷ []) (seen_items here path (place + 1) (items_view (drop (place + 1) items)))
+pub items_go : (here : Reading) (path : List ℕ) (items : List json.Value) (place : ℕ) (d : json.Value) (v : Value) (done : List Value)
+    (whole : Result (List Value) FitFault)
+    → place < length items → d ≡ get_or items place d
+    → whole ≡ behind done (seen_items here path place (items_view (drop place items)))
+    → here (at_item path place) (view d) ≡ Ok v
+    → whole ≡ behind (done ++ v ∷ []) (seen_items here path (place + 1) (items_view (drop (place + 1) items)))
 items_go here path items place d v done whole h is read a =
     read ∙ ap (behind done) (next_item here path items place d h is)
-    ∙ ap (λ r. behind done (r >>= (λ v. seen_items here path (place + 1) (items_view (drop (place + 1) items)) >>= (λ vs. Ok (v ∷ vs))))) a
+    ∙ ap
+    (λ r. behind done (r >>= (λ v. seen_items here path (place + 1) (items_view (drop (place + 1) items)) >>= (λ vs. Ok (v ∷ vs))))) a
     ∙ behind-push done v (seen_items here path (place + 1) (items_view (drop (place + 1) items)))
 
-pub items_end : (here : Reading) (path : List ℕ) (items : List json.Value) (place : ℕ) (done : List Value) (whole : Result (List Value) FitFault)
+pub items_end : (here : Reading) (path : List ℕ) (items : List json.Value) (place : ℕ) (done : List Value)
+    (whole : Result (List Value) FitFault)
     → length items ≤ place → whole ≡ behind done (seen_items here path place (items_view (drop place items))) → whole ≡ Ok done
-items_end here path items place done whole h read = read ∙ behind-all done _ (ap (λ xs. seen_items here path place (items_view xs)) (drop_all place items h))
+items_end here path items place done whole h read =
+    read ∙ behind-all done _ (ap (λ xs. seen_items here path place (items_view xs)) (drop_all place items h))
 
 -- ---- the members of a map
 
-pub entries_stop : (here : Reading) (key_max : ℕ) (path k : List ℕ) (d : Data) (ms : Members) (done : List (Keyed Value)) (whole : Result (List (Keyed Value)) FitFault) (e : FitError)
-    → whole ≡ behind done (seen_entries here key_max path (member k d ms)) → Answers (seen_entry here key_max path k d) (Err e) → Answers whole (Err e)
+pub entries_stop : (here : Reading) (key_max : ℕ) (path k : List ℕ) (d : Data) (ms : Members) (done : List (Keyed Value))
+    (whole : Result (List (Keyed Value)) FitFault) (e : FitError)
+    → whole ≡ behind done (seen_entries here key_max path (member k d ms)) → Answers (seen_entry here key_max path k d) (Err e)
+    → Answers whole (Err e)
 entries_stop here key_max path k d ms done whole e read a =
     stops_behind done (seen_entry here key_max path k d) (λ x. seen_entries here key_max path ms >>= (λ es. Ok (x ∷ es))) whole e read a
 
-pub entries_go : (here : Reading) (key_max : ℕ) (path k : List ℕ) (d : Data) (ms : Members) (x : Keyed Value) (done : List (Keyed Value)) (whole : Result (List (Keyed Value)) FitFault)
-    → whole ≡ behind done (seen_entries here key_max path (member k d ms)) → seen_entry here key_max path k d ≡ Ok x → whole ≡ behind (done ++ x ∷ []) (seen_entries here key_max path ms)
+pub entries_go : (here : Reading) (key_max : ℕ) (path k : List ℕ) (d : Data) (ms : Members) (x : Keyed Value)
+    (done : List (Keyed Value)) (whole : Result (List (Keyed Value)) FitFault)
+    → whole ≡ behind done (seen_entries here key_max path (member k d ms)) → seen_entry here key_max path k d ≡ Ok x
+    → whole ≡ behind (done ++ x ∷ []) (seen_entries here key_max path ms)
 entries_go here key_max path k d ms x done whole read a =
-    read ∙ ap (λ r. behind done (r >>= (λ x. seen_entries here key_max path ms >>= (λ es. Ok (x ∷ es))))) a ∙ behind-push done x (seen_entries here key_max path ms)
+    read ∙ ap (λ r. behind done (r >>= (λ x. seen_entries here key_max path ms >>= (λ es. Ok (x ∷ es))))) a
+    ∙ behind-push done x (seen_entries here key_max path ms)
 
 -- ---- the members of an object
 
-pub members_stop : (fields : List (Keyed (Field Reader))) (path k : List ℕ) (d : Data) (ms : Members) (done : List (Keyed Value)) (whole : Result (List (Keyed Value)) FitFault) (e : FitError)
-    → whole ≡ behind done (seen_members fields path (member k d ms)) → Answers (seen_member (value_under k fields) path k d) (Err e) → Answers whole (Err e)
+pub members_stop : (fields : List (Keyed (Field Reader))) (path k : List ℕ) (d : Data) (ms : Members) (done : List (Keyed Value))
+    (whole : Result (List (Keyed Value)) FitFault) (e : FitError)
+    → whole ≡ behind done (seen_members fields path (member k d ms)) → Answers (seen_member (value_under k fields) path k d) (Err e)
+    → Answers whole (Err e)
 members_stop fields path k d ms done whole e read a =
-    stops_behind done (seen_member (value_under k fields) path k d) (λ o. seen_members fields path ms >>= (λ es. Ok (option_to_list o ++ es))) whole e read a
+    stops_behind done (seen_member (value_under k fields) path k d)
+    (λ o. seen_members fields path ms >>= (λ es. Ok (option_to_list o ++ es))) whole e read a
 
-pub members_go : (fields : List (Keyed (Field Reader))) (path k : List ℕ) (d : Data) (ms : Members) (o : Option (Keyed Value)) (done : List (Keyed Value)) (whole : Result (List (Keyed Value)) FitFault)
-    → whole ≡ behind done (seen_members fields path (member k d ms)) → seen_member (value_under k fields) path k d ≡ Ok o → whole ≡ behind (done ++ option_to_list o) (seen_members fields path ms)
+pub members_go : (fields : List (Keyed (Field Reader))) (path k : List ℕ) (d : Data) (ms : Members) (o : Option (Keyed Value))
+    (done : List (Keyed Value)) (whole : Result (List (Keyed Value)) FitFault)
+    → whole ≡ behind done (seen_members fields path (member k d ms)) → seen_member (value_under k fields) path k d ≡ Ok o
+    → whole ≡ behind (done ++ option_to_list o) (seen_members fields path ms)
 members_go fields path k d ms o done whole read a =
-    read ∙ ap (λ r. behind done (r >>= (λ o. seen_members fields path ms >>= (λ es. Ok (option_to_list o ++ es))))) a ∙ sym (behind-append done (option_to_list o) (seen_members fields path ms))
+    read ∙ ap (λ r. behind done (r >>= (λ o. seen_members fields path ms >>= (λ es. Ok (option_to_list o ++ es))))) a
+    ∙ sym (behind-append done (option_to_list o) (seen_members fields path ms))

@@ -36,13 +36,17 @@ pair =
     ∷ record { key = codes "b"; value = record { required = true; cel_type = reader_step (CelType-F.Text 1048576) } }
     ∷ []
 
-pub a_number_is_no_text : seen_object pair (codes "object") (json.member (codes "b") (json.number (json.unsigned 1)) json.no_members) ≡ Err (fault WrongKind (codes "object.b"))
+pub a_number_is_no_text : seen_object pair (codes "object") (json.member (codes "b") (json.number (json.unsigned 1)) json.no_members)
+    ≡ Err (fault WrongKind (codes "object.b"))
 a_number_is_no_text = refl
 
-pub an_absence_is_told_behind_the_fields : seen_object pair (codes "object") (json.member (codes "b") (json.string (codes "x")) json.no_members) ≡ Err (fault Missing (codes "object.a"))
+pub an_absence_is_told_behind_the_fields : seen_object pair (codes "object")
+    (json.member (codes "b") (json.string (codes "x")) json.no_members) ≡ Err (fault Missing (codes "object.a"))
 an_absence_is_told_behind_the_fields = refl
 
-pub null_is_no_integer : seen_object pair (codes "object") (json.member (codes "a") json.null (json.member (codes "b") (json.string (codes "x")) json.no_members)) ≡ Err (fault NullHere (codes "object.a"))
+pub null_is_no_integer : seen_object pair (codes "object")
+    (json.member (codes "a") json.null (json.member (codes "b") (json.string (codes "x")) json.no_members))
+    ≡ Err (fault NullHere (codes "object.a"))
 null_is_no_integer = refl
 
 -- ---- schemas
@@ -50,18 +54,23 @@ null_is_no_integer = refl
 pub nothing_is_stated : object_type_of (json.object json.no_members) ≡ Err NoType
 nothing_is_stated = refl
 
-pub a_list_needs_items : object_type_of (json.object (json.member (codes "type") (json.string (codes "array")) json.no_members)) ≡ Err BadKeyword
+pub a_list_needs_items : object_type_of (json.object (json.member (codes "type") (json.string (codes "array")) json.no_members))
+    ≡ Err BadKeyword
 a_list_needs_items = refl
 
 -- `required` is no list, though the entries of a map are not required
 pub a_keyword_is_read_where_it_does_not_count :
-    object_type_of (json.object (json.member (codes "additionalProperties") (json.boolean true) (json.member (codes "required") (json.string (codes "a")) (json.member (codes "type") (json.string (codes "object")) json.no_members))))
+    object_type_of
+    (json.object
+    (json.member (codes "additionalProperties") (json.boolean true) (json.member (codes "required") (json.string (codes "a")) (json.member (codes "type") (json.string (codes "object")) json.no_members))))
     ≡ Err BadKeyword
 a_keyword_is_read_where_it_does_not_count = refl
 
 -- a property that refers to another schema
 pub a_reference_may_not_stand :
-    object_type_of (json.object (json.member (codes "properties") (json.object (json.member (codes "a") (json.object (json.member (codes "$ref") (json.string (codes "b")) json.no_members)) json.no_members)) (json.member (codes "type") (json.string (codes "object")) json.no_members)))
+    object_type_of
+    (json.object
+    (json.member (codes "properties") (json.object (json.member (codes "a") (json.object (json.member (codes "$ref") (json.string (codes "b")) json.no_members)) json.no_members)) (json.member (codes "type") (json.string (codes "object")) json.no_members)))
     ≡ Err BadKeyword
 unfolding schema_type
 a_reference_may_not_stand = refl

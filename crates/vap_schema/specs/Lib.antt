@@ -1,3 +1,4 @@
+pub mod Entries
 pub mod FixedTypes
 pub mod InStep
 pub mod Names

@@ -1,6 +1,7 @@
 -- What a JSON document is at a type: its value, or its first fault in document order (Kubernetes, "Extend the
 -- Kubernetes API with CustomResourceDefinitions", Validation and Field pruning).
-use Rattle.std.specs.Prelude.{◌≡◌, ℕ, ◌+◌, ◌^◌, ◌&&◌, Bool, true, false, not, nat_lt, if◌then◌else◌, ℤ, pos, List, [], ◌∷◌, ◌++◌, map, Option, Some, None, is_some, option_to_list, Result, Ok, Err}
+use Rattle.std.specs.Prelude.{◌≡◌, ℕ, ◌+◌, ◌^◌, ◌&&◌, Bool, true, false, not, nat_lt, if◌then◌else◌, ℤ, pos}
+use Rattle.std.specs.Prelude.{List, [], ◌∷◌, ◌++◌, map, Option, Some, None, is_some, option_to_list, Result, Ok, Err}
 use Rattle.plain.specs.declared.text.Keyed.{Keyed}
 use Rattle.plain.specs.Keys.{value_under}
 use Rattle.serde_json.specs.Data as json

@@ -2,7 +2,9 @@
 
 ghost use Rattle.std.specs.Prelude.{◌≡◌, IfOk};
 ghost use Rattle.serde_json.specs.View.{view, items_view};
-ghost use Rattle.vap_schema.specs.Schemas.{flag, limit, absent, type_word, stated_word, is_plain, all_texts, required_names, properties_of, entry_of, is_named, IsInTextOrder, AreTexts, NamesAre, PropertiesAre, EntryIs};
+ghost use Rattle.vap_schema.specs.Schemas.{flag, limit, absent, type_word, stated_word, is_plain, all_texts};
+ghost use Rattle.vap_schema.specs.Schemas.{required_names, properties_of, entry_of, is_named};
+ghost use Rattle.vap_schema.specs.Schemas.{IsInTextOrder, AreTexts, NamesAre, PropertiesAre, EntryIs};
 
 use crate::schema_fault::SchemaFault;
 use serde_json::{Map, Value as Json};

@@ -3,7 +3,9 @@
 ghost use Rattle.std.specs.Prelude.{◌≡◌, if◌then◌else◌, codes, IfOk};
 ghost use Rattle.cel_value.specs.declared.cel_type.CelType as T;
 ghost use Rattle.serde_json.specs.View.{view, items_view, members_view};
-ghost use Rattle.vap_schema.specs.Schemas.{Answers, schema_type, nested_type, own_type, untyped, limit, list_type, object_type, record_type, bare_type, map_type, entry_type, fields_of, field_of, object_type_of, is_named, IsInTextOrder};
+ghost use Rattle.vap_schema.specs.Schemas.{Answers, schema_type, nested_type, own_type, untyped, limit, list_type};
+ghost use Rattle.vap_schema.specs.Schemas.{object_type, record_type, bare_type, map_type, entry_type, fields_of, field_of};
+ghost use Rattle.vap_schema.specs.Schemas.{object_type_of, is_named, IsInTextOrder};
 
 use crate::fixed_types::with_fixed_fields;
 use crate::keywords::{

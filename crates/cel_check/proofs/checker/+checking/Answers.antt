@@ -3,7 +3,8 @@ use Rattle.cel_check.proofs.checker.+checking.Goals as goal
 
 pub typed_tree-returns-in-Call : goal.typed_tree-returns-in-Call
 typed_tree-returns-in-Call t c = λ names.
-    answers-Call c.args.expr.now names _ c.in-Call.field-0 c.in-Call.parts _ c.in-Call.is c.as_slice.ensures (c.refused_behind.ensures names)
+    answers-Call c.args.expr.now names _ c.in-Call.field-0 c.in-Call.parts _ c.in-Call.is c.as_slice.ensures
+    (c.refused_behind.ensures names)
 
 pub typed_tree-returns-in-List : goal.typed_tree-returns-in-List
 typed_tree-returns-in-List t c = λ names.
@@ -15,4 +16,6 @@ typed_tree-returns-in-Map t c = λ names.
 
 pub typed_tree-returns-in_ok-typed_tree-in-Method : goal.typed_tree-returns-in_ok-typed_tree-in-Method
 typed_tree-returns-in_ok-typed_tree-in-Method t c = λ names.
-    answers-Method c.args.expr.now names _ c.in-Method.operand _ c.in-Method.field-1 c.in-Method.parts _ _ c.in-Method.is c.get-in-Method.ensures (c.in_ok-typed_tree-in-Method.ensures names) c.as_slice-in-Method.ensures (c.refused_behind-in-Method.ensures names)
+    answers-Method c.args.expr.now names _ c.in-Method.operand _ c.in-Method.field-1 c.in-Method.parts _ _ c.in-Method.is
+    c.get-in-Method.ensures
+    (c.in_ok-typed_tree-in-Method.ensures names) c.as_slice-in-Method.ensures (c.refused_behind-in-Method.ensures names)

@@ -20,7 +20,11 @@ returns-in_err-put-clause-preserves c = preserved_outside c.args.typed.now
 
 pub returns : goal.returns
 returns c =
-    let is = compiled c.new-draft.result c.emit.new.self c.put.new.self _ _ c.args.typed.now.tree c.args.typed.now.slots c.get.ensures c.new-draft.ensures.code c.new-draft.ensures.targets c.new-draft.ensures.below c.in_ok-emit.ensures.stands c.in_ok-emit.ensures.writes c.in_ok-put.ensures.code c.in_ok-put.ensures.grows (ap (λ cs. record { constants = cs; instrs = c.put.new.self.code }) c.into_items.ensures) refl (search rules) (search rules) in
+    let is =
+    compiled c.new-draft.result c.emit.new.self c.put.new.self _ _ c.args.typed.now.tree c.args.typed.now.slots c.get.ensures
+    c.new-draft.ensures.code c.new-draft.ensures.targets c.new-draft.ensures.below c.in_ok-emit.ensures.stands c.in_ok-emit.ensures.writes
+    c.in_ok-put.ensures.code c.in_ok-put.ensures.grows
+    (ap (λ cs. record { constants = cs; instrs = c.put.new.self.code }) c.into_items.ensures) refl (search rules) (search rules) in
     record {
       compiled = is;
       only = λ other other_is. one_image other _ c.args.typed.now.tree c.args.typed.now.slots other_is is;

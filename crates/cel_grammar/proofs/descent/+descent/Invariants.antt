@@ -1,7 +1,8 @@
 use Rattle.std.proofs.Common.{◌≡◌, ◌+◌, ◌-◌, ◌*◌, ◌<◌}
 use Rattle.cel_grammar.specs.declared.heads.Closer.TheVariants as closer
 use Rattle.cel_grammar.specs.Views.{seen}
-use Rattle.cel_grammar.specs.Descent.{suffix_at, operator_at, go_on_member, join, more, member, operators, expression, items, entry, entries, items_from}
+use Rattle.cel_grammar.specs.Descent.{suffix_at, operator_at, go_on_member, join, more, member}
+use Rattle.cel_grammar.specs.Descent.{operators, expression, items, entry, entries, items_from}
 use Rattle.cel_grammar.proofs.Rows.{with_front}
 use Rattle.cel_grammar.proofs.descent.+descent.Given as goal
 
@@ -45,16 +46,22 @@ decreases-read_entry l = 1000 * l.brackets + 1
 -- what the loops give from here is the answer
 abbrev pub invariant-read_operators-loop-turn : goal.invariant-read_operators-loop-turn
 invariant-read_operators-loop-turn l =
-    (0 < l.level) × (more (operator_at l.level) (join (operators (expression l.source l.brackets) l.source l.brackets (l.level - 1))) (100 - l._turn) (seen l.left) ≡ operators (expression l.source l.brackets) l.source l.brackets l.level l.tokens)
+    (0 < l.level)
+    × (more (operator_at l.level) (join (operators (expression l.source l.brackets) l.source l.brackets (l.level - 1))) (100 - l._turn)
+    (seen l.left) ≡ operators (expression l.source l.brackets) l.source l.brackets l.level l.tokens)
 
 abbrev pub invariant-read_member-loop-turn : goal.invariant-read_member-loop-turn
 invariant-read_member-loop-turn l =
-    more suffix_at (go_on_member (expression l.source l.brackets) l.source l.brackets) (100 - l._turn) (seen l.left) ≡ member (expression l.source l.brackets) l.source l.brackets l.tokens
+    more suffix_at (go_on_member (expression l.source l.brackets) l.source l.brackets) (100 - l._turn) (seen l.left)
+    ≡ member (expression l.source l.brackets) l.source l.brackets l.tokens
 
 abbrev pub invariant-read_items-loop-turn : goal.invariant-read_items-loop-turn
 invariant-read_items-loop-turn l =
-    with_front l.items l.deepest (items_from l.source l.closer (expression l.source l.brackets) (16384 - l._turn) l.ahead) ≡ items (expression l.source l.brackets) l.source l.brackets l.closer l.tokens
+    with_front l.items l.deepest (items_from l.source l.closer (expression l.source l.brackets) (16384 - l._turn) l.ahead)
+    ≡ items (expression l.source l.brackets) l.source l.brackets l.closer l.tokens
 
 abbrev pub invariant-read_entries-loop-turn : goal.invariant-read_entries-loop-turn
 invariant-read_entries-loop-turn l =
-    with_front l.entries l.deepest (items_from l.source closer.Brace (entry (expression l.source l.brackets) l.source) (16384 - l._turn) l.ahead) ≡ entries (expression l.source l.brackets) l.source l.brackets l.tokens
+    with_front l.entries l.deepest
+    (items_from l.source closer.Brace (entry (expression l.source l.brackets) l.source) (16384 - l._turn) l.ahead) ≡ entries
+    (expression l.source l.brackets) l.source l.brackets l.tokens

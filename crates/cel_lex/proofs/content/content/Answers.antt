@@ -1,4 +1,5 @@
-use Rattle.std.proofs.Common.{◌≡◌, ◌+◌, ◌-◌, ◌++◌, List, ℕ, length, take, drop, string_bytes, sym, ap, subst, ◌∙◌, arith}
+use Rattle.std.proofs.Common.{◌≡◌, ◌+◌, ◌-◌, ◌++◌, List, ℕ, length, take}
+use Rattle.std.proofs.Common.{drop, string_bytes, sym, ap, subst, ◌∙◌, arith}
 use Rattle.std.specs.Str.{IsCharBoundary}
 use Rattle.std.proofs.lemmas.Str.{IsCharBoundary-start}
 use Rattle.cel_lex.specs.Escapes.{meaning_of}
@@ -17,19 +18,24 @@ loop-place-init c =
 
 pub returns-in_default : goal.returns-in_default
 returns-in_default c =
-    bad_turn c.as_bytes-bytes.result.now c.loop-place.place c.loop-place-test.true (string_bytes c.loop-place.out) (meaning_of 0 c.args.body.now)
+    bad_turn c.as_bytes-bytes.result.now c.loop-place.place c.loop-place-test.true (string_bytes c.loop-place.out)
+    (meaning_of 0 c.args.body.now)
     (c.loop-place.invariant.means ∙ ap (meaning_of 0) c.as_bytes-bytes.ensures.value) c.if-bytes-place-eq92.true c.in_default.ensures
 
 pub overflow_add-place : goal.overflow_add-place
 overflow_add-place c =
     let short = ap length c.as_bytes-bytes.ensures.value in
-    let w = escape_within c.as_bytes-bytes.result.now c.loop-place.place c.loop-place-test.true c.in-Some.count c.in-Some.character (sym c.in-Some.ensures) in
+    let w =
+    escape_within c.as_bytes-bytes.result.now c.loop-place.place c.loop-place-test.true c.in-Some.count c.in-Some.character
+    (sym c.in-Some.ensures) in
     omega arith
 
 pub overflow_add-place-then-bytes-place-eq92 : goal.overflow_add-place-then-bytes-place-eq92
 overflow_add-place-then-bytes-place-eq92 c =
     let short = ap length c.as_bytes-bytes.ensures.value in
-    let w = escape_within c.as_bytes-bytes.result.now c.loop-place.place c.loop-place-test.true c.in-Some.count c.in-Some.character (sym c.in-Some.ensures) in
+    let w =
+    escape_within c.as_bytes-bytes.result.now c.loop-place.place c.loop-place-test.true c.in-Some.count c.in-Some.character
+    (sym c.in-Some.ensures) in
     omega arith
 
 pub loop-place-preserved-then-bytes-place-eq92 : goal.loop-place-preserved-then-bytes-place-eq92
@@ -39,7 +45,9 @@ loop-place-preserved-then-bytes-place-eq92 c =
     let lt = c.loop-place-test.true in
     let n = c.in-Some.count in
     let v = c.in-Some.character in
-    let turn = escape_turn bytes place lt (string_bytes c.loop-place.out) (meaning_of 0 bytes) c.loop-place.invariant.means n v c.if-bytes-place-eq92.true (sym c.in-Some.ensures) in
+    let turn =
+    escape_turn bytes place lt (string_bytes c.loop-place.out)
+    (meaning_of 0 bytes) c.loop-place.invariant.means n v c.if-bytes-place-eq92.true (sym c.in-Some.ensures) in
     record {
       within = escape_within bytes place lt n v (sym c.in-Some.ensures);
       cut = escape_cut bytes place lt n v (sym c.in-Some.ensures) c.as_bytes-bytes.ensures.utf8;
@@ -50,7 +58,8 @@ pub range-requires-clause-end_boundary : goal.range-requires-clause-end_boundary
 range-requires-clause-end_boundary c =
     let bytes = c.as_bytes-bytes.result.now in
     subst (λ (x : List ℕ). IsCharBoundary x (c.loop-place.place + (1 + c.run_len-count.result))) c.as_bytes-bytes.ensures.value
-    (plain_cut bytes c.loop-place.place c.loop-place-test.true c.run_len-count.result c.run_len-count.ensures.value c.as_bytes-bytes.ensures.utf8)
+    (plain_cut bytes c.loop-place.place c.loop-place-test.true c.run_len-count.result c.run_len-count.ensures.value
+    c.as_bytes-bytes.ensures.utf8)
 
 pub loop-place-preserved : goal.loop-place-preserved
 loop-place-preserved c =
@@ -59,9 +68,13 @@ loop-place-preserved c =
     let lt = c.loop-place-test.true in
     let n = c.run_len-count.result in
     let is = c.run_len-count.ensures.value in
-    let turn = plain_turn bytes place lt (string_bytes c.loop-place.out) (meaning_of 0 bytes) c.loop-place.invariant.means n c.if-bytes-place-eq92.false is in
+    let turn =
+    plain_turn bytes place lt (string_bytes c.loop-place.out)
+    (meaning_of 0 bytes) c.loop-place.invariant.means n c.if-bytes-place-eq92.false is in
     let slice : c.range.result.now ≡ take (1 + n) (drop place bytes) =
-    c.range.ensures.value ∙ ap (λ (x : ℕ). take x (drop place c.args.body.now)) (let e : place + (1 + n) - place ≡ 1 + n = omega arith in e) ∙ ap (λ (x : List ℕ). take (1 + n) (drop place x)) (sym c.as_bytes-bytes.ensures.value) in
+    c.range.ensures.value
+    ∙ ap (λ (x : ℕ). take x (drop place c.args.body.now)) (let e : place + (1 + n) - place ≡ 1 + n = omega arith in e)
+    ∙ ap (λ (x : List ℕ). take (1 + n) (drop place x)) (sym c.as_bytes-bytes.ensures.value) in
     record {
       within = plain_within bytes place lt n is;
       cut = plain_cut bytes place lt n is c.as_bytes-bytes.ensures.utf8;
@@ -70,6 +83,9 @@ loop-place-preserved c =
 
 pub returns : goal.returns
 returns c =
-    let r = all_read c.as_bytes-bytes.result.now (string_bytes c.loop-place.out) c.loop-place.place (meaning_of 0 c.args.body.now) c.loop-place-test.false (c.loop-place.invariant.means ∙ ap (meaning_of 0) c.as_bytes-bytes.ensures.value) in
+    let r =
+    all_read c.as_bytes-bytes.result.now (string_bytes c.loop-place.out) c.loop-place.place
+    (meaning_of 0 c.args.body.now) c.loop-place-test.false
+    (c.loop-place.invariant.means ∙ ap (meaning_of 0) c.as_bytes-bytes.ensures.value) in
     let f = c.from_string.ensures in
     cc

@@ -4,8 +4,12 @@ use Rattle.cel_lex.proofs.literal.literal.Goals as goal
 
 pub overflow_add-place : goal.overflow_add-place
 overflow_add-place c =
-    let within = closing_within c.args.style c.as_bytes.result.now c.args.text.now c.args.place c.in-Some.count c.as_bytes.ensures.value c.in-Some.ensures in
+    let within =
+    closing_within c.args.style c.as_bytes.result.now c.args.text.now c.args.place c.in-Some.count c.as_bytes.ensures.value
+    c.in-Some.ensures in
     omega arith
 
 pub range-requires-clause-end_boundary : goal.range-requires-clause-end_boundary
-range-requires-clause-end_boundary c = closing_cut c.args.style c.as_bytes.result.now c.args.text.now c.args.place c.in-Some.count c.as_bytes.ensures.value c.in-Some.ensures c.requires.ascii
+range-requires-clause-end_boundary c =
+    closing_cut c.args.style c.as_bytes.result.now c.args.text.now c.args.place c.in-Some.count c.as_bytes.ensures.value c.in-Some.ensures
+    c.requires.ascii

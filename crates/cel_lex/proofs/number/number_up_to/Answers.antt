@@ -8,4 +8,5 @@ returns-then-value-from-clause-value c =
     let digit = c.digit.ensures.value in
     let value = c.from-in-loop-d.ensures in
     let most = c.from-in-loop-d-2.ensures in
-    past_now c.args.most c.args.base c.args.digits.now c.loop-d.d-index c.loop-d.value c.requires.some c.loop-d-test.true (omega (arith, ap (λ x. c.loop-d.value * x) base)) c.loop-d.invariant.1
+    past_now c.args.most c.args.base c.args.digits.now c.loop-d.d-index c.loop-d.value c.requires.some c.loop-d-test.true
+    (omega (arith, ap (λ x. c.loop-d.value * x) base)) c.loop-d.invariant.1

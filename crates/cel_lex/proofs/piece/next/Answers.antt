@@ -23,31 +23,45 @@ pub returns-then-is_in-2 : goal.returns-then-is_in-2
 returns-then-is_in-2 c =
     let same = c.as_bytes-bytes.ensures.value in
     ap (λ (x : ℕ × Piece). Some x) c.number.ensures
-    ∙ number_read c.as_bytes-bytes.result.now c.args.place (shorter _ _ _ same c.requires.within) (sym c.is_in.ensures ∙ c.if-is_in.false) (sym c.is_in-2.ensures ∙ c.if-is_in-2.true)
+    ∙ number_read c.as_bytes-bytes.result.now c.args.place (shorter _ _ _ same c.requires.within)
+    (sym c.is_in.ensures ∙ c.if-is_in.false) (sym c.is_in-2.ensures ∙ c.if-is_in-2.true)
     ∙ ap (λ (x : List ℕ). next_of (drop c.args.place x)) same
 
 pub literal-requires-clause-cut : goal.literal-requires-clause-cut
-literal-requires-clause-cut c = opening_cut c.as_bytes-bytes.result.now c.args.text.now c.args.place (c.in-Some.before, c.in-Some.style) c.as_bytes-bytes.ensures.value c.requires.within c.in-Some.ensures c.utf8.text
+literal-requires-clause-cut c =
+    opening_cut c.as_bytes-bytes.result.now c.args.text.now c.args.place
+    (c.in-Some.before, c.in-Some.style) c.as_bytes-bytes.ensures.value c.requires.within c.in-Some.ensures c.utf8.text
 
 pub returns-in-Some : goal.returns-in-Some
 returns-in-Some c =
     let same = c.as_bytes-bytes.ensures.value in
-    let read = text_read c.as_bytes-bytes.result.now c.args.place (shorter _ _ _ same c.requires.within) (c.in-Some.before, c.in-Some.style) (sym c.is_in.ensures ∙ c.if-is_in.false) (sym c.is_in-2.ensures ∙ c.if-is_in-2.false) (sym c.in-Some.ensures) in
-    let text = ap (λ (x : List ℕ). Some (Rattle.cel_lex.specs.Scan.text_at c.in-Some.before c.in-Some.style (drop (c.args.place + c.in-Some.before) x))) (sym same) in
-    ap (λ (x : ℕ × Piece). Some x) c.in_ok-literal.ensures ∙ text ∙ read ∙ ap (λ (x : List ℕ). next_of (drop c.args.place x)) same
+    let read =
+    text_read c.as_bytes-bytes.result.now c.args.place (shorter _ _ _ same c.requires.within) (c.in-Some.before, c.in-Some.style)
+    (sym c.is_in.ensures ∙ c.if-is_in.false) (sym c.is_in-2.ensures ∙ c.if-is_in-2.false) (sym c.in-Some.ensures) in
+    let text =
+    ap
+    (λ (x : List ℕ). Some (Rattle.cel_lex.specs.Scan.text_at c.in-Some.before c.in-Some.style (drop (c.args.place + c.in-Some.before) x)))
+    (sym same) in
+    ap (λ (x : ℕ × Piece). Some x) c.in_ok-literal.ensures ∙ text ∙ read
+    ∙ ap (λ (x : List ℕ). next_of (drop c.args.place x)) same
 
 pub returns-then-is_letter_at : goal.returns-then-is_letter_at
 returns-then-is_letter_at c =
     let same = c.as_bytes-bytes.ensures.value in
     let n = c.run_len-length.result in
     let whole : c.args.place + (1 + n) - c.args.place ≡ 1 + n = omega arith in
-    ap (λ (x : TokenKind). Some (1 + n, piece.Token x)) (c.token_of-kind.ensures ∙ ap (λ (x : ℕ). word_of (take x (drop c.args.place c.as_bytes-bytes.result.now))) whole)
-    ∙ word_read c.as_bytes-bytes.result.now c.args.place (shorter _ _ _ same c.requires.within) (sym c.is_in.ensures ∙ c.if-is_in.false) (sym c.is_in-2.ensures ∙ c.if-is_in-2.false) (sym c.in_default.ensures) (sym c.is_letter_at.ensures ∙ c.if-is_letter_at.true) n c.run_len-length.ensures.value
+    ap (λ (x : TokenKind). Some (1 + n, piece.Token x))
+    (c.token_of-kind.ensures ∙ ap (λ (x : ℕ). word_of (take x (drop c.args.place c.as_bytes-bytes.result.now))) whole)
+    ∙ word_read c.as_bytes-bytes.result.now c.args.place (shorter _ _ _ same c.requires.within) (sym c.is_in.ensures ∙ c.if-is_in.false)
+    (sym c.is_in-2.ensures ∙ c.if-is_in-2.false) (sym c.in_default.ensures)
+    (sym c.is_letter_at.ensures ∙ c.if-is_letter_at.true) n c.run_len-length.ensures.value
     ∙ ap (λ (x : List ℕ). next_of (drop c.args.place x)) same
 
 pub returns : goal.returns
 returns c =
     let same = c.as_bytes-bytes.ensures.value in
     c.symbol.ensures
-    ∙ symbol_read c.as_bytes-bytes.result.now c.args.place (shorter _ _ _ same c.requires.within) (sym c.is_in.ensures ∙ c.if-is_in.false) (sym c.is_in-2.ensures ∙ c.if-is_in-2.false) (sym c.in_default.ensures) (sym c.is_letter_at.ensures ∙ c.if-is_letter_at.false)
+    ∙ symbol_read c.as_bytes-bytes.result.now c.args.place (shorter _ _ _ same c.requires.within)
+    (sym c.is_in.ensures ∙ c.if-is_in.false) (sym c.is_in-2.ensures ∙ c.if-is_in-2.false) (sym c.in_default.ensures)
+    (sym c.is_letter_at.ensures ∙ c.if-is_letter_at.false)
     ∙ ap (λ (x : List ℕ). next_of (drop c.args.place x)) same

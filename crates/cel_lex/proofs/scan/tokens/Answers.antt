@@ -6,7 +6,8 @@ use Rattle.cel_lex.specs.declared.token.Token.{Token}
 use Rattle.cel_lex.specs.Lexis.{IsNext, Cuts, too_long, first}
 use Rattle.cel_lex.specs.Scan.{Reads, IsNear, HasFaultWithin}
 use Rattle.cel_lex.proofs.Together.{together}
-use Rattle.cel_lex.proofs.Turn.{refuses_as, bad_at, cut_done, turn_within, faulty_turn, blank_cuts, blank_fails, token_cuts, token_fails, pushed}
+use Rattle.cel_lex.proofs.Turn.{refuses_as, bad_at, cut_done, turn_within, faulty_turn}
+use Rattle.cel_lex.proofs.Turn.{blank_cuts, blank_fails, token_cuts, token_fails, pushed}
 use Rattle.cel_lex.proofs.scan.tokens.Goals as goal
 use Rattle.cel_lex.proofs.scan.tokens.Goals.{in-Blank, in-Token+in_ok-push-in-Token}
 
@@ -14,7 +15,8 @@ abbrev at_place : LexFaultKind → ℕ → LexFault
 at_place kind place = record { kind = kind; place = place }
 
 pub returns-then-text-gt16384-clause-fault : goal.returns-then-text-gt16384-clause-fault
-returns-then-text-gt16384-clause-fault c = λ f e. refuses_as c.args.text.now (at_place fault.TooLong 0) f (cc) (too_long c.if-text-gt16384.true)
+returns-then-text-gt16384-clause-fault c =
+    λ f e. refuses_as c.args.text.now (at_place fault.TooLong 0) f (cc) (too_long c.if-text-gt16384.true)
 
 pub returns-in_default-clause-fault : goal.returns-in_default-clause-fault
 returns-in_default-clause-fault c = λ f e.
@@ -32,7 +34,8 @@ pub returns-in-Faulty-clause-fault : goal.returns-in-Faulty-clause-fault
 returns-in-Faulty-clause-fault c = λ f e.
     let next = subst (λ o. Reads (drop c.loop-place.place c.args.text.now) o) c.in-Some.is c.in_ok-length.ensures.reads in
     refuses_as c.args.text.now (at_place c.in-Faulty.found.kind (c.loop-place.place + c.in-Faulty.found.place)) f (cc)
-    (first (omega arith) (c.loop-place.invariant.fault _ (faulty_turn c.args.text.now c.loop-place.place c.in-Some.length c.in-Some.piece c.loop-place.invariant.within next c.in-Faulty.found c.in-Faulty.is)))
+    (first (omega arith)
+    (c.loop-place.invariant.fault _ (faulty_turn c.args.text.now c.loop-place.place c.in-Some.length c.in-Some.piece c.loop-place.invariant.within next c.in-Faulty.found c.in-Faulty.is)))
 
 pub loop-place-preserved : goal.loop-place-preserved
 loop-place-preserved c =
@@ -59,4 +62,5 @@ pub returns-clause-cut : goal.returns-clause-cut
 returns-clause-cut c = record { short = omega arith; cut = cut_done c.args.text.now c.loop-place.place c.loop-place.out.items c.loop-place-test.false c.loop-place.invariant.cut }
 
 pub returns-clause-together : goal.returns-clause-together
-returns-clause-together c = together (cut_done c.args.text.now c.loop-place.place c.loop-place.out.items c.loop-place-test.false c.loop-place.invariant.cut)
+returns-clause-together c =
+    together (cut_done c.args.text.now c.loop-place.place c.loop-place.out.items c.loop-place-test.false c.loop-place.invariant.cut)

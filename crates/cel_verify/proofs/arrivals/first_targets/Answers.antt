@@ -7,14 +7,22 @@ use Rattle.cel_verify.proofs.arrivals.first_targets.Goals as goal
 
 pub loop-number-init : goal.loop-number-init
 loop-number-init c =
-    (omega arith, subst (AreFirsts c.args.targets.now (drop (length c.args.targets.now) c.args.targets.now) c.args.count) (sym (c.in_ok-firsts.ensures.items_if_clones_equal (λ y same. same))) (none_yet c.args.targets.now c.args.count))
+    let targets = c.args.targets.now in (
+      omega arith,
+      subst (AreFirsts targets (drop (length targets) targets) c.args.count)
+          (sym (c.in_ok-firsts.ensures.items_if_clones_equal (λ y same. same)))
+          (none_yet targets c.args.count),
+    )
 
 pub loop-number-preserved-then-at-count : goal.loop-number-preserved-then-at-count
 loop-number-preserved-then-at-count c =
     let e : c.loop-number.number - 1 + 1 ≡ c.loop-number.number = omega (arith, c.loop-number-test.true) in
     let inside : c.loop-number.number - 1 < length c.args.targets.now = omega (arith, c.loop-number-test.true, c.loop-number.invariant.0) in
-    let t = slice_index_or c.args.targets.now (c.loop-number.number - 1) c.index-targets-number.result in (
+    let l = c.loop-number in
+    let targets = c.args.targets.now in
+    let t = slice_index_or targets (l.number - 1) c.index-targets-number.result in (
       omega (arith, inside),
-      one_earlier c.args.targets.now c.args.count (c.loop-number.number - 1) c.loop-number.firsts.items t (slice_get-get_or c.args.targets.now (c.loop-number.number - 1) c.index-targets-number.result inside)
-          (subst (λ n. AreFirsts c.args.targets.now (drop n c.args.targets.now) c.args.count c.loop-number.firsts.items) (sym e) c.loop-number.invariant.1),
+      one_earlier targets c.args.count (l.number - 1) l.firsts.items t
+          (slice_get-get_or targets (l.number - 1) c.index-targets-number.result inside)
+          (subst (λ n. AreFirsts targets (drop n targets) c.args.count l.firsts.items) (sym e) l.invariant.1),
     )

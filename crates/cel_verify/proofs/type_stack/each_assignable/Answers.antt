@@ -5,4 +5,6 @@ use Rattle.cel_verify.proofs.type_stack.each_assignable.Goals as goal
 
 pub returns-then-from-to : goal.returns-then-from-to
 returns-then-from-to c =
-    sym (types_long (reverse c.args.from.now) (reverse c.args.to.now) (λ e. c.if-from-to.true (sym (length-reverse c.args.from.now) ∙ e ∙ length-reverse c.args.to.now)))
+    let from = c.args.from.now in
+    let to = c.args.to.now in
+    sym (types_long (reverse from) (reverse to) (λ e. c.if-from-to.true (sym (length-reverse from) ∙ e ∙ length-reverse to)))

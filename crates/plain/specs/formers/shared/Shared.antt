@@ -22,9 +22,11 @@ use Rattle.plain.specs.declared.shared.Shared.TheView.{view, invariant}
 use Rattle.plain.specs.contracts.shared.Shared as C
 use Rattle.plain.specs.contracts.shared.Shared.TheInside as I
 
+-- a shared value holds what the value in it holds
 abbrev pub the_former : Former {0} → Former {0}
 the_former g = g
 
+-- what is smaller than a value is smaller than the shared value
 abbrev pub the_weighed : {g : Former {0}} → Weighed g → Weighed (the_former g)
 the_weighed w = w
 

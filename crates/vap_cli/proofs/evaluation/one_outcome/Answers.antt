@@ -38,7 +38,8 @@ one_value text x y one p q =
     let same : p.tree ≡ q.tree = ap (tree_or p.tree) (one_checked text (Ok p.tree) (Ok q.tree) one p.typed q.typed) in
     ap (outcome_or x) (sym p.value ∙ (ap (λ t. value_of t (outside [])) same ∙ q.value))
 
-never_ill_typed : (text : List ℕ) (x : Outcome) (f : TypeFault) → OneExpression text → ComesTo text x → IsChecked text (Err f) → ⊥
+never_ill_typed : (text : List ℕ) (x : Outcome) (f : TypeFault) → OneExpression text → ComesTo text x → IsChecked text (Err f)
+    → ⊥
 never_ill_typed text x f one p q = subst IsTyped (one_checked text (Ok p.tree) (Err f) one p.typed q) tt
 
 pub returns : goal.returns

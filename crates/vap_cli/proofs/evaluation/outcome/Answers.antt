@@ -2,4 +2,5 @@ use Rattle.vap_cli.proofs.Running.{not_run_text}
 use Rattle.vap_cli.proofs.evaluation.outcome.Goals as goal
 
 pub returns-clause-refused : goal.returns-clause-refused
-returns-clause-refused c = λ why is. not_run_text c.args.text.now c.in_ok-typed.typed.tree why c.in_ok-typed.ensures.checked (c.run_typed.ensures.refused why is)
+returns-clause-refused c =
+    λ why is. not_run_text c.args.text.now c.in_ok-typed.typed.tree why c.in_ok-typed.ensures.checked (c.run_typed.ensures.refused why is)

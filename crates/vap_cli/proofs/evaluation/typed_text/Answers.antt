@@ -6,4 +6,7 @@ pub returns-clause-checked : goal.returns-clause-checked
 returns-clause-checked c = search rules
 
 pub returns-clause-refused : goal.returns-clause-refused
-returns-clause-refused c = λ why is. untyped_text c.args.text.now c.in_ok-expression.expression why c.in_ok-expression.ensures.parsed (c.typed_expression.ensures.refused why is)
+returns-clause-refused c =
+    λ why is.
+    untyped_text c.args.text.now c.in_ok-expression.expression why c.in_ok-expression.ensures.parsed
+    (c.typed_expression.ensures.refused why is)

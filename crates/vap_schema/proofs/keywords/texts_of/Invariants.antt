@@ -5,4 +5,5 @@ use Rattle.vap_schema.specs.Schemas.{is_named, is_among}
 use Rattle.vap_schema.proofs.keywords.texts_of.Given as goal
 
 abbrev pub invariant-loop-name : goal.invariant-loop-name
-invariant-loop-name l = (k : List ℕ) → (is_named k l.texts.items || is_among k (items_view (drop l.name-index l.names))) ≡ is_among k (items_view l.names)
+invariant-loop-name l =
+    (k : List ℕ) → (is_named k l.texts.items || is_among k (items_view (drop l.name-index l.names))) ≡ is_among k (items_view l.names)

@@ -17,33 +17,48 @@ pub read_fields-returns-in_err-read_field : goal.read_fields-returns-in_err-read
 read_fields-returns-in_err-read_field t c =
     let p = err_from_is_err_and c.from_residual-in_err-read_field.result c.from_residual-in_err-read_field.ensures.1 in
     let l = c.loop-name in
-    let named = field_named (schema_type c.args.levels) c.is_named-is_required.result c.args.required.now c.as_str-name.result.now (string_bytes c.in-Some.name.now) (view c.in-Some.schema.now) c.is_named-is_required.ensures c.as_str-name.ensures.value in
-    let here = ap (λ es. behind l.fields.items (fields_of (schema_type c.args.levels) (λ k. is_named k c.args.required.now) (members_view es))) c.in-Some.ensures.steps in
-    rw (p.1, p.2) (fields_stop (schema_type c.args.levels) (λ k. is_named k c.args.required.now) (string_bytes c.in-Some.name.now) (view c.in-Some.schema.now) (members_view c.next.new.self) l.fields.items _ _ (l.invariant.exact ∙ here)
+    let named =
+    field_named (schema_type c.args.levels) c.is_named-is_required.result c.args.required.now c.as_str-name.result.now
+    (string_bytes c.in-Some.name.now) (view c.in-Some.schema.now) c.is_named-is_required.ensures c.as_str-name.ensures.value in
+    let reading = schema_type c.args.levels in
+    let wanted = c.args.required.now in
+    let here = ap (λ es. behind l.fields.items (fields_of reading (λ k. is_named k wanted) (members_view es))) c.in-Some.ensures.steps in
+    rw (p.1, p.2) (fields_stop reading (λ k. is_named k wanted) (string_bytes c.in-Some.name.now) (view c.in-Some.schema.now)
+    (members_view c.next.new.self) l.fields.items _ _ (l.invariant.exact ∙ here)
     (subst (λ want. Answers want (Err c.in_err-read_field.field-0.0)) named c.in_err-read_field.ensures))
 
 pub read_fields-loop-name-preserved : goal.read_fields-loop-name-preserved
 read_fields-loop-name-preserved t c =
     let l = c.loop-name in
-    let named = field_named (schema_type c.args.levels) c.is_named-is_required.result c.args.required.now c.as_str-name.result.now (string_bytes c.in-Some.name.now) (view c.in-Some.schema.now) c.is_named-is_required.ensures c.as_str-name.ensures.value in
-    let here = ap (λ es. behind l.fields.items (fields_of (schema_type c.args.levels) (λ k. is_named k c.args.required.now) (members_view es))) c.in-Some.ensures.steps in record {
+    let named =
+    field_named (schema_type c.args.levels) c.is_named-is_required.result c.args.required.now c.as_str-name.result.now
+    (string_bytes c.in-Some.name.now) (view c.in-Some.schema.now) c.is_named-is_required.ensures c.as_str-name.ensures.value in
+    let reading = schema_type c.args.levels in
+    let wanted = c.args.required.now in
+    let here = ap (λ es. behind l.fields.items (fields_of reading (λ k. is_named k wanted) (members_view es))) c.in-Some.ensures.steps in
+    record {
       can_next = tt;
       is_finite = tt;
-      exact = rw c.in_ok-push.ensures.items (fields_go (schema_type c.args.levels) (λ k. is_named k c.args.required.now) (string_bytes c.in-Some.name.now) (view c.in-Some.schema.now) (members_view c.next.new.self) c.in_ok-read_field.field-0 l.fields.items _
+      exact = rw c.in_ok-push.ensures.items (fields_go reading (λ k. is_named k wanted) (string_bytes c.in-Some.name.now)
+          (view c.in-Some.schema.now) (members_view c.next.new.self) c.in_ok-read_field.field-0 l.fields.items _
           (l.invariant.exact ∙ here) (sym named ∙ c.in_ok-read_field.ensures));
     }
 
 pub read_fields-from_vec-requires : goal.read_fields-from_vec-requires
 read_fields-from_vec-requires t c =
     let l = c.loop-name in
-    let ended = ap (λ es. fields_of (schema_type c.args.levels) (λ k. is_named k c.args.required.now) (members_view es)) c.in-None.ensures.steps.0 in
-    fields_in_order (schema_type c.args.levels) (λ k. is_named k c.args.required.now) (members_view c.args.properties.now.entries) l.fields.items (names_in_order c.args.properties.now.entries c.iter-name-items.ensures.ordered)
+    let ended =
+    ap (λ es. fields_of (schema_type c.args.levels) (λ k. is_named k c.args.required.now) (members_view es)) c.in-None.ensures.steps.0 in
+    fields_in_order (schema_type c.args.levels) (λ k. is_named k c.args.required.now)
+    (members_view c.args.properties.now.entries) l.fields.items
+    (names_in_order c.args.properties.now.entries c.iter-name-items.ensures.ordered)
     (l.invariant.exact ∙ behind-all l.fields.items _ ended)
 
 pub read_fields-returns : goal.read_fields-returns
 read_fields-returns t c =
     let l = c.loop-name in
-    let ended = ap (λ es. fields_of (schema_type c.args.levels) (λ k. is_named k c.args.required.now) (members_view es)) c.in-None.ensures.steps.0 in
+    let ended =
+    ap (λ es. fields_of (schema_type c.args.levels) (λ k. is_named k c.args.required.now) (members_view es)) c.in-None.ensures.steps.0 in
     l.invariant.exact ∙ behind-all l.fields.items _ ended ∙ ap Ok (sym c.from_vec.ensures)
 
 pub read_schema-returns : goal.read_schema-returns

@@ -8,7 +8,8 @@ abbrev pub invariant-read_fields-loop-name : goal.invariant-read_fields-loop-nam
 invariant-read_fields-loop-name l = record {
   can_next : (goal.iterator-read_fields-loop-name).can_next l.name-iterator;
   is_finite : (goal.iterator-read_fields-loop-name).is_finite l.name-iterator;
-  exact : fields_of (schema_type l.levels) (λ k. is_named k l.required) (members_view l.properties.entries) ≡ behind l.fields.items (fields_of (schema_type l.levels) (λ k. is_named k l.required) (members_view l.name-iterator));
+  exact : fields_of (schema_type l.levels) (λ k. is_named k l.required) (members_view l.properties.entries)
+      ≡ behind l.fields.items (fields_of (schema_type l.levels) (λ k. is_named k l.required) (members_view l.name-iterator));
 }
 
 -- of two calls at one level, the one that is called is nearer to the schema inside

@@ -5,40 +5,61 @@ use Rattle.cel_code.proofs.compiler.Draft.+emit.Goals as goal
 
 pub emit_within-returns-in_ok-number-in-Literal-clause-stands : goal.emit_within-returns-in_ok-number-in-Literal-clause-stands
 emit_within-returns-in_ok-number-in-Literal-clause-stands t c =
-    on_ok_weaker c.put.result (λ e. emits_literal _ _ _ _ _ _ c.in-Literal.is c.in_ok-number-in-Literal.ensures.number e) c.put.ensures.code
+    on_ok_weaker c.put.result
+    (λ e. emits_literal _ _ _ _ _ _ c.in-Literal.is c.in_ok-number-in-Literal.ensures.number e) c.put.ensures.code
 
 pub emit_within-returns-in_ok-emit-in-Unary-clause-stands : goal.emit_within-returns-in_ok-emit-in-Unary-clause-stands
 emit_within-returns-in_ok-emit-in-Unary-clause-stands t c =
-    on_ok_weaker c.put-in-Unary.result (λ e. emits_unary _ _ _ _ _ _ _ _ c.in-Unary.is c.get.ensures c.in_ok-emit-in-Unary.ensures.stands c.code.ensures e) c.put-in-Unary.ensures.code
+    on_ok_weaker c.put-in-Unary.result
+    (λ e. emits_unary _ _ _ _ _ _ _ _ c.in-Unary.is c.get.ensures c.in_ok-emit-in-Unary.ensures.stands c.code.ensures e)
+    c.put-in-Unary.ensures.code
 
 pub emit_within-returns-in_ok-emit_over-in-Binary-clause-stands : goal.emit_within-returns-in_ok-emit_over-in-Binary-clause-stands
 emit_within-returns-in_ok-emit_over-in-Binary-clause-stands t c =
-    on_ok_weaker c.put-in-Binary.result (λ e. emits_binary _ _ _ _ _ _ _ _ _ _ _ c.in-Binary.is c.get-in-Binary.ensures c.get-in-Binary-2.ensures c.in_ok-emit-in-Binary.ensures.stands c.in_ok-emit_over-in-Binary.ensures.stands c.code-in-Binary.ensures e) c.put-in-Binary.ensures.code
+    on_ok_weaker c.put-in-Binary.result
+    (λ e.
+    emits_binary _ _ _ _ _ _ _ _ _ _ _ c.in-Binary.is c.get-in-Binary.ensures c.get-in-Binary-2.ensures c.in_ok-emit-in-Binary.ensures.stands c.in_ok-emit_over-in-Binary.ensures.stands c.code-in-Binary.ensures e)
+    c.put-in-Binary.ensures.code
 
 pub emit_within-returns-in_ok-emit_over-in-Binary-clause-writes : goal.emit_within-returns-in_ok-emit_over-in-Binary-clause-writes
 emit_within-returns-in_ok-emit_over-in-Binary-clause-writes t c =
-    on_ok_weaker c.put-in-Binary.result (λ g. writes_binary _ _ _ _ _ _ _ _ _ _ _ c.in-Binary.is c.get-in-Binary.ensures c.get-in-Binary-2.ensures c.get-in-Binary-3.ensures c.in_ok-emit-in-Binary.ensures.writes c.in_ok-emit_over-in-Binary.ensures.writes g) c.put-in-Binary.ensures.grows
+    on_ok_weaker c.put-in-Binary.result
+    (λ g.
+    writes_binary _ _ _ _ _ _ _ _ _ _ _ c.in-Binary.is c.get-in-Binary.ensures c.get-in-Binary-2.ensures c.get-in-Binary-3.ensures c.in_ok-emit-in-Binary.ensures.writes c.in_ok-emit_over-in-Binary.ensures.writes g)
+    c.put-in-Binary.ensures.grows
 
 pub emit_within-returns-in_ok-put-in-And-2-clause-stands : goal.emit_within-returns-in_ok-put-in-And-2-clause-stands
 emit_within-returns-in_ok-put-in-And-2-clause-stands t c =
-    emits_both _ _ _ _ _ _ _ _ _ _ _ _ _ c.in-And.is c.get-in-And.ensures c.get-in-And-2.ensures c.in_ok-emit-in-And.ensures.stands c.len-test.ensures c.in_ok-put-in-And.ensures.code c.in_ok-emit_over-in-And.ensures.stands c.in_ok-put-in-And-2.ensures.code c.len.ensures c.patch.ensures.code
+    emits_both _ _ _ _ _ _ _ _ _ _ _ _ _ c.in-And.is c.get-in-And.ensures c.get-in-And-2.ensures c.in_ok-emit-in-And.ensures.stands
+    c.len-test.ensures c.in_ok-put-in-And.ensures.code c.in_ok-emit_over-in-And.ensures.stands c.in_ok-put-in-And-2.ensures.code
+    c.len.ensures c.patch.ensures.code
 
 pub emit_within-returns-in_ok-put-in-And-2-clause-writes : goal.emit_within-returns-in_ok-put-in-And-2-clause-writes
 emit_within-returns-in_ok-put-in-And-2-clause-writes t c =
-    writes_both _ _ _ _ _ _ _ _ _ _ _ _ c.in-And.is c.get-in-And.ensures c.get-in-And-2.ensures c.get-in-And-3.ensures c.in_ok-emit-in-And.ensures.writes c.in_ok-put-in-And.ensures.grows c.in_ok-emit_over-in-And.ensures.writes c.in_ok-put-in-And-2.ensures.grows c.patch.ensures.grows
+    writes_both _ _ _ _ _ _ _ _ _ _ _ _ c.in-And.is c.get-in-And.ensures c.get-in-And-2.ensures c.get-in-And-3.ensures
+    c.in_ok-emit-in-And.ensures.writes c.in_ok-put-in-And.ensures.grows c.in_ok-emit_over-in-And.ensures.writes
+    c.in_ok-put-in-And-2.ensures.grows c.patch.ensures.grows
 
 pub emit_within-returns-in_ok-put-in-Or-2-clause-stands : goal.emit_within-returns-in_ok-put-in-Or-2-clause-stands
 emit_within-returns-in_ok-put-in-Or-2-clause-stands t c =
-    emits_either _ _ _ _ _ _ _ _ _ _ _ _ _ c.in-Or.is c.get-in-Or.ensures c.get-in-Or-2.ensures c.in_ok-emit-in-Or.ensures.stands c.len-test-in-Or.ensures c.in_ok-put-in-Or.ensures.code c.in_ok-emit_over-in-Or.ensures.stands c.in_ok-put-in-Or-2.ensures.code c.len-in-Or.ensures c.patch-in-Or.ensures.code
+    emits_either _ _ _ _ _ _ _ _ _ _ _ _ _ c.in-Or.is c.get-in-Or.ensures c.get-in-Or-2.ensures c.in_ok-emit-in-Or.ensures.stands
+    c.len-test-in-Or.ensures c.in_ok-put-in-Or.ensures.code c.in_ok-emit_over-in-Or.ensures.stands c.in_ok-put-in-Or-2.ensures.code
+    c.len-in-Or.ensures c.patch-in-Or.ensures.code
 
 pub emit_within-returns-in_ok-put-in-Or-2-clause-writes : goal.emit_within-returns-in_ok-put-in-Or-2-clause-writes
 emit_within-returns-in_ok-put-in-Or-2-clause-writes t c =
-    writes_either _ _ _ _ _ _ _ _ _ _ _ _ c.in-Or.is c.get-in-Or.ensures c.get-in-Or-2.ensures c.get-in-Or-3.ensures c.in_ok-emit-in-Or.ensures.writes c.in_ok-put-in-Or.ensures.grows c.in_ok-emit_over-in-Or.ensures.writes c.in_ok-put-in-Or-2.ensures.grows c.patch-in-Or.ensures.grows
+    writes_either _ _ _ _ _ _ _ _ _ _ _ _ c.in-Or.is c.get-in-Or.ensures c.get-in-Or-2.ensures c.get-in-Or-3.ensures
+    c.in_ok-emit-in-Or.ensures.writes c.in_ok-put-in-Or.ensures.grows c.in_ok-emit_over-in-Or.ensures.writes
+    c.in_ok-put-in-Or-2.ensures.grows c.patch-in-Or.ensures.grows
 
 pub emit_conditional-returns-clause-stands : goal.emit_conditional-returns-clause-stands
 emit_conditional-returns-clause-stands t c =
-    emits_conditional _ _ _ _ _ _ _ _ _ _ _ _ _ _ _ _ c.requires.is c.in_ok-emit.ensures.stands c.len-test.ensures c.in_ok-put.ensures.code c.in_ok-emit-2.ensures.stands c.len-jump.ensures c.in_ok-put-2.ensures.code c.in_ok-arrive.ensures.code c.in_ok-emit_within.ensures.stands c.len-end.ensures c.patch.ensures.code c.patch-2.ensures.code
+    emits_conditional _ _ _ _ _ _ _ _ _ _ _ _ _ _ _ _ c.requires.is c.in_ok-emit.ensures.stands c.len-test.ensures c.in_ok-put.ensures.code
+    c.in_ok-emit-2.ensures.stands c.len-jump.ensures c.in_ok-put-2.ensures.code c.in_ok-arrive.ensures.code
+    c.in_ok-emit_within.ensures.stands c.len-end.ensures c.patch.ensures.code c.patch-2.ensures.code
 
 pub emit_conditional-returns-clause-writes : goal.emit_conditional-returns-clause-writes
 emit_conditional-returns-clause-writes t c =
-    writes_conditional _ _ _ _ _ _ _ _ _ _ _ _ _ c.requires.is c.in_ok-emit.ensures.writes c.in_ok-put.ensures.grows c.in_ok-emit-2.ensures.writes c.in_ok-put-2.ensures.grows c.in_ok-arrive.ensures.grows c.in_ok-emit_within.ensures.writes c.patch.ensures.grows c.patch-2.ensures.grows
+    writes_conditional _ _ _ _ _ _ _ _ _ _ _ _ _ c.requires.is c.in_ok-emit.ensures.writes c.in_ok-put.ensures.grows
+    c.in_ok-emit-2.ensures.writes c.in_ok-put-2.ensures.grows c.in_ok-arrive.ensures.grows c.in_ok-emit_within.ensures.writes
+    c.patch.ensures.grows c.patch-2.ensures.grows

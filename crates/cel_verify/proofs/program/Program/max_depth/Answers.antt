@@ -11,5 +11,6 @@ returns-clause-within c =
 
 pub returns-clause-never_more : goal.returns-clause-never_more
 returns-clause-never_more c = λ slots fits s charge steps g.
-    let le = never_more c.self.inside.image slots c.self.invariant.0.sound s charge steps (subst (λ i. Gets i slots (on 0 [] []) s charge steps) (sym c.self.view_is) g) in
+    let gets = subst (λ i. Gets i slots (on 0 [] []) s charge steps) (sym c.self.view_is) g in
+    let le = never_more c.self.inside.image slots c.self.invariant.0.sound s charge steps gets in
     omega (arith, c.self.invariant.1)

@@ -1,4 +1,5 @@
-use Rattle.std.proofs.Common.{◌≡◌, ◌≢◌, ℕ, zero, suc, ◌-◌, List, ◌++◌, Ok, length, take, drop, refl, sym, ap, ◌∙◌, append_assoc, take-append-drop}
+use Rattle.std.proofs.Common.{◌≡◌, ◌≢◌, ℕ, zero, suc, ◌-◌, List, ◌++◌, Ok}
+use Rattle.std.proofs.Common.{length, take, drop, refl, sym, ap, ◌∙◌, append_assoc, take-append-drop}
 use Rattle.std.proofs.lemmas.List.{take_rest}
 use Rattle.std.specs.contracts.io.Error.{the_row}
 use Rattle.std.proofs.KnownBytes.{Appends-trans}
@@ -6,9 +7,11 @@ use Rattle.vap_cli.specs.Counted.{failures_after_write}
 use Rattle.vap_cli.proofs.counted.CountedWrite.write_all.Goals as goal
 
 -- a list whose end moves by n places
-moves_front : (all done rest : List ℕ) (n : ℕ) → all ≡ done ++ rest → all ≡ (done ++ take n rest) ++ take (length rest - n) (drop n rest)
+moves_front : (all done rest : List ℕ) (n : ℕ) → all ≡ done ++ rest
+    → all ≡ (done ++ take n rest) ++ take (length rest - n) (drop n rest)
 moves_front all done rest n e =
-    e ∙ ap (λ l. done ++ l) (sym (take-append-drop n rest)) ∙ sym (append_assoc done (take n rest) (drop n rest)) ∙ ap (λ l. (done ++ take n rest) ++ l) (sym (take_rest rest n))
+    e ∙ ap (λ l. done ++ l) (sym (take-append-drop n rest)) ∙ sym (append_assoc done (take n rest) (drop n rest))
+    ∙ ap (λ l. (done ++ take n rest) ++ l) (sym (take_rest rest n))
 
 -- a write that takes some bytes has not failed
 counts_none : (E : Type 0) (old size taken : ℕ) → taken ≢ 0 → failures_after_write {E = E} old size (Ok taken) ≡ old
