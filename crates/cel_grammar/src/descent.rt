@@ -91,6 +91,13 @@ fn read_operators<'a>(
     Err(ParseError::Fault(ParseFault::TooDeep))
 }
 
+// How many signs may stand in a row.
+fn most_signs() -> u32
+    ensures { result ≡ 100 }
+{
+    100
+}
+
 #[cycle(descent)]
 #[tactic(auto, unfolding(crate::specs::Descent::unary_at))]
 fn read_unary<'a>(
@@ -102,11 +109,11 @@ fn read_unary<'a>(
     ensures { Gives seen result (unary_at (expression source.now brackets) source.now brackets tokens.now) }
 {
     if let Some((place, after)) = bang_at(tokens) {
-        let operand = read_nots(alloc, source, brackets, 100, after);
+        let operand = read_nots(alloc, source, brackets, most_signs(), after);
         return signed(alloc, place, UnaryOperator::Not, operand);
     }
     if let Some((place, after)) = minus_at(tokens) {
-        return read_minuses(alloc, source, brackets, 100, place, after);
+        return read_minuses(alloc, source, brackets, most_signs(), place, after);
     }
     read_member(alloc, source, brackets, tokens)
 }

@@ -16,7 +16,7 @@ read_unary-read_nots-operand-requires t c = omega arith
 pub read_unary-returns-in-Some : goal.read_unary-returns-in-Some
 read_unary-returns-in-Some t c =
     nots_give (expression c.args.source.now c.args.brackets) c.args.source.now c.args.brackets c.args.tokens.now
-    (c.in-Some.place, c.in-Some.after.now) c.signed.result c.in-Some.ensures (c.signed.ensures _ c.read_nots-operand.ensures)
+    (c.in-Some.place, c.in-Some.after.now) c.signed.result c.in-Some.ensures (c.signed.ensures _ (rw c.most_signs.ensures at c.read_nots-operand.ensures))
 
 pub read_operators-returns-in_default : goal.read_operators-returns-in_default
 read_operators-returns-in_default t c =

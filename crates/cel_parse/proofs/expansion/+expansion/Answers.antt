@@ -1,3 +1,5 @@
+use Rattle.std.proofs.Common.{arith}
+use Rattle.std.proofs.lemmas.Grind.{common_steps}
 use Rattle.cel_parse.proofs.Expanded.{call_gives, method_gives, list_gives, map_gives}
 use Rattle.cel_parse.proofs.expansion.+expansion.Goals as goal
 
@@ -23,3 +25,6 @@ expand-returns-in-Map t c =
     map_gives c.args.source.now c.in-Map.place c.args.tree.now c.in-Map.entries c.as_slice-in-Map.result.now c.as_slice-in-Map.ensures
     c.mapped.result c.in-Map.is
     (c.mapped.ensures _ c.each_entry-entries.ensures)
+
+pub each_entry-returns-in_err-key : goal.each_entry-returns-in_err-key
+each_entry-returns-in_err-key t c = grind (arith, common_steps)
