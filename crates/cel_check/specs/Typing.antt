@@ -187,6 +187,10 @@ Answers (Ok x) view c = c ≡ Ok (view x)
 Answers (Err error.OutOfMemory) view c = Unit {0}
 Answers (Err (error.Fault f)) view c = c ≡ Err f
 
+-- whatever checking gives of a part, what a node answers is what follows behind the part
+abbrev pub Follows : Result TypedTree CheckError → Result TypedTree CheckError → (TypedTree → Checked) → Type 0
+Follows part result f = (c : Checked) → Answers part (λ tree. tree) c → Answers result (λ tree. tree) (after c f)
+
 -- what a row is found to give is what it gives, unless memory ran out
 abbrev pub Tells : {X : Type 0} → Result X Untyped → Result X TypeRule → Type 0
 Tells (Ok x) r = r ≡ Ok x

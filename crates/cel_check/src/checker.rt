@@ -1,10 +1,12 @@
 ghost use Rattle.std.specs.Prelude.{◌≡◌, IfOk};
 ghost use Rattle.cel_check.specs.declared.fault.TypeRule.TheVariants.{NoOverload};
-ghost use Rattle.cel_check.specs.Typing.{Names, names_of, types_in, refused, checked, checked_within, Answers};
+ghost use Rattle.cel_check.specs.Typing.{names_of, types_in, refused, checked, checked_within, Answers};
 ghost use Rattle.cel_check.specs.Typing.{after_each, after_entries, each_checked, entries_checked};
 
 use crate::fault::{CheckError, TypeFault, TypeRule};
-use crate::node::{binary, conditional, conjunction, disjunction, literal, refused, unary};
+use crate::node::{
+    binary, conditional, conjunction, disjunction, literal, named, unary, untyped, untyped_behind,
+};
 use crate::scope::Scope;
 use crate::size::is_too_large;
 use crate::tree::TypedTree;
@@ -27,7 +29,7 @@ pub fn check(alloc: Global, expr: &Expr, scope: &Scope) -> Result<Typed, CheckEr
         }));
     }
     let slots = slot_types(alloc, scope.names.as_slice())?;
-    let tree = typed_tree(alloc, expr)?;
+    let tree = typed_tree(alloc, scope, expr)?;
     Ok(Typed { slots, tree })
 }
 
@@ -42,95 +44,91 @@ fn slot_types(alloc: Global, names: &[Keyed<CelType>]) -> Result<Items<CelType>,
     Ok(types)
 }
 
-// What has no type yet is refused behind the first fault of its parts.
+// Parts one after another; what has them has no type yet.
 #[cycle(checking)]
-fn refused_behind(
+fn untyped_behind_each(
     alloc: Global,
+    scope: &Scope,
     place: usize,
     parts: &[Expr],
 ) -> Result<Boxed<TypedTree>, CheckError>
-    ensures { (names : Names) → Answers result (λ tree. tree)
-        (after_each (each_checked parts.now) names (refused place NoOverload)) }
+    ensures { Answers result (λ tree. tree)
+        (after_each (each_checked parts.now) (names_of scope.now) (refused place NoOverload)) }
 {
     for part in parts {
-        typed_tree(alloc, part)?;
+        typed_tree(alloc, scope, part)?;
     }
-    Err(refused(TypeRule::NoOverload, place))
+    untyped(place)
 }
 
+// The same, of keys and values.
 #[cycle(checking)]
-fn refused_behind_entries(
+fn untyped_behind_entries(
     alloc: Global,
+    scope: &Scope,
     place: usize,
     entries: &[Entry<Expr>],
 ) -> Result<Boxed<TypedTree>, CheckError>
-    ensures { (names : Names) → Answers result (λ tree. tree)
-        (after_entries (entries_checked entries.now) names (refused place NoOverload)) }
+    ensures { Answers result (λ tree. tree)
+        (after_entries (entries_checked entries.now) (names_of scope.now) (refused place NoOverload)) }
 {
     for entry in entries {
-        typed_tree(alloc, &entry.key)?;
-        typed_tree(alloc, &entry.value)?;
+        typed_tree(alloc, scope, &entry.key)?;
+        typed_tree(alloc, scope, &entry.value)?;
     }
-    Err(refused(TypeRule::NoOverload, place))
+    untyped(place)
 }
 
 #[cycle(checking)]
-fn typed_tree(alloc: Global, expr: &Expr) -> Result<Boxed<TypedTree>, CheckError>
-    ensures { (names : Names) → Answers result (λ tree. tree) (checked expr.now names) }
+fn typed_tree(alloc: Global, scope: &Scope, expr: &Expr) -> Result<Boxed<TypedTree>, CheckError>
+    ensures { Answers result (λ tree. tree) (checked expr.now (names_of scope.now)) }
 {
     let place = expr.place;
     match &expr.form {
         Syntax::Bool(value) => literal(alloc, CelType::Bool, Value::Bool(*value)),
         Syntax::Int(value) => literal(alloc, CelType::Int, Value::Int(*value)),
-        Syntax::Name(_) => Err(refused(TypeRule::UnknownName, place)),
-        Syntax::Null | Syntax::Uint(_) | Syntax::Text(_) => {
-            Err(refused(TypeRule::NoOverload, place))
-        }
+        Syntax::Name(_) => named(place),
+        Syntax::Null | Syntax::Uint(_) | Syntax::Text(_) => untyped(place),
         Syntax::Select(operand, _) | Syntax::Has(operand, _) => {
-            typed_tree(alloc, operand.get())?;
-            Err(refused(TypeRule::NoOverload, place))
+            untyped_behind(place, typed_tree(alloc, scope, operand.get()))
         }
         Syntax::Index(left, right) | Syntax::Loop(_, left, _, right) => {
-            typed_tree(alloc, left.get())?;
-            typed_tree(alloc, right.get())?;
-            Err(refused(TypeRule::NoOverload, place))
+            typed_tree(alloc, scope, left.get())?;
+            untyped_behind(place, typed_tree(alloc, scope, right.get()))
         }
         Syntax::MapWhere(range, _, predicate, transform) => {
-            typed_tree(alloc, range.get())?;
-            typed_tree(alloc, predicate.get())?;
-            typed_tree(alloc, transform.get())?;
-            Err(refused(TypeRule::NoOverload, place))
+            typed_tree(alloc, scope, range.get())?;
+            typed_tree(alloc, scope, predicate.get())?;
+            untyped_behind(place, typed_tree(alloc, scope, transform.get()))
         }
-        Syntax::Call(_, parts) => refused_behind(alloc, place, parts.as_slice()),
-        Syntax::List(parts) => refused_behind(alloc, place, parts.as_slice()),
+        Syntax::Call(_, parts) => untyped_behind_each(alloc, scope, place, parts.as_slice()),
+        Syntax::List(parts) => untyped_behind_each(alloc, scope, place, parts.as_slice()),
         Syntax::Method(operand, _, parts) => {
-            typed_tree(alloc, operand.get())?;
-            refused_behind(alloc, place, parts.as_slice())
+            typed_tree(alloc, scope, operand.get())?;
+            untyped_behind_each(alloc, scope, place, parts.as_slice())
         }
-        Syntax::Map(entries) => refused_behind_entries(alloc, place, entries.as_slice()),
+        Syntax::Map(entries) => untyped_behind_entries(alloc, scope, place, entries.as_slice()),
         Syntax::Unary(operator, operand) => {
-            let operand = typed_tree(alloc, operand.get())?;
+            let operand = typed_tree(alloc, scope, operand.get());
             unary(alloc, place, *operator, operand)
         }
         Syntax::Binary(operator, left, right) => {
-            let left = typed_tree(alloc, left.get())?;
-            let right = typed_tree(alloc, right.get())?;
+            let left = typed_tree(alloc, scope, left.get())?;
+            let right = typed_tree(alloc, scope, right.get());
             binary(alloc, place, *operator, left, right)
         }
         Syntax::And(left, right) => {
-            let left = typed_tree(alloc, left.get())?;
-            let right = typed_tree(alloc, right.get())?;
-            conjunction(alloc, place, left, right)
+            let left = typed_tree(alloc, scope, left.get())?;
+            conjunction(alloc, place, left, typed_tree(alloc, scope, right.get()))
         }
         Syntax::Or(left, right) => {
-            let left = typed_tree(alloc, left.get())?;
-            let right = typed_tree(alloc, right.get())?;
-            disjunction(alloc, place, left, right)
+            let left = typed_tree(alloc, scope, left.get())?;
+            disjunction(alloc, place, left, typed_tree(alloc, scope, right.get()))
         }
         Syntax::Conditional(condition, yes, no) => {
-            let condition = typed_tree(alloc, condition.get())?;
-            let yes = typed_tree(alloc, yes.get())?;
-            let no = typed_tree(alloc, no.get())?;
+            let condition = typed_tree(alloc, scope, condition.get())?;
+            let yes = typed_tree(alloc, scope, yes.get())?;
+            let no = typed_tree(alloc, scope, no.get());
             conditional(alloc, place, condition, yes, no)
         }
     }

@@ -21,9 +21,16 @@ pub fn are_comparable(alloc: Global, left: &CelType, right: &CelType) -> Result<
 fn has_comparable_join(alloc: Global, left: &CelType, right: &CelType) -> Result<bool, AllocError>
     ensures { IfOk result (λ b. b ≡ is_compared (type_join left.now right.now)) }
 {
-    match join(alloc, left, right)? {
-        Some(joined) => Ok(is_comparable(&joined)),
-        None => Ok(false),
+    let joined = join(alloc, left, right)?;
+    Ok(is_compared(&joined))
+}
+
+fn is_compared(joined: &Option<CelType>) -> bool
+    ensures { result ≡ is_compared joined.now }
+{
+    match joined {
+        Some(cel_type) => is_comparable(cel_type),
+        None => false,
     }
 }
 

@@ -3,7 +3,8 @@
 ghost use Rattle.std.specs.Prelude.{◌≡◌, Ok};
 ghost use Rattle.cel_check.specs.declared.tree.Form.TheVariants as form;
 ghost use Rattle.cel_check.specs.Meaning.{type_of};
-ghost use Rattle.cel_check.specs.Typing.{node, chosen, overload_of_one, overload_of_two, logic, conditional, Answers};
+ghost use Rattle.cel_check.specs.declared.fault.TypeRule.TheVariants.{UnknownName, NoOverload};
+ghost use Rattle.cel_check.specs.Typing.{node, refused, chosen, overload_of_one, overload_of_two, logic, conditional, Answers, Follows};
 
 use crate::fault::{CheckError, TypeFault, TypeRule, Untyped};
 use crate::operator::is_truth;
@@ -40,15 +41,43 @@ pub fn literal(
     new_node(alloc, cel_type, Form::Literal(value))
 }
 
+/// A name: none is known yet.
+pub fn named(place: usize) -> Result<Boxed<TypedTree>, CheckError>
+    ensures { Answers result (λ tree. tree) (refused place UnknownName) }
+{
+    Err(refused(TypeRule::UnknownName, place))
+}
+
+/// What has no type yet.
+pub fn untyped(place: usize) -> Result<Boxed<TypedTree>, CheckError>
+    ensures { Answers result (λ tree. tree) (refused place NoOverload) }
+{
+    Err(refused(TypeRule::NoOverload, place))
+}
+
+/// What has no type yet, behind the last of its parts.
+pub fn untyped_behind(
+    place: usize,
+    part: Result<Boxed<TypedTree>, CheckError>,
+) -> Result<Boxed<TypedTree>, CheckError>
+    ensures { Follows part result (λ s. refused place NoOverload) }
+{
+    match part {
+        Ok(_) => untyped(place),
+        Err(error) => Err(error),
+    }
+}
+
 pub fn unary(
     alloc: Global,
     place: usize,
     operator: UnaryOperator,
-    operand: Boxed<TypedTree>,
+    operand: Result<Boxed<TypedTree>, CheckError>,
 ) -> Result<Boxed<TypedTree>, CheckError>
-    ensures { Answers result (λ tree. tree)
-        (chosen place (λ o. form.Unary o operand) (overload_of_one operator (type_of operand))) }
+    ensures { Follows operand result
+        (λ s. chosen place (λ o. form.Unary o s) (overload_of_one operator (type_of s))) }
 {
+    let operand = operand?;
     match overload_of_one(operator, &operand.get().cel_type) {
         Ok(overload) => new_node(
             alloc,
@@ -64,11 +93,12 @@ pub fn binary(
     place: usize,
     operator: BinaryOperator,
     left: Boxed<TypedTree>,
-    right: Boxed<TypedTree>,
+    right: Result<Boxed<TypedTree>, CheckError>,
 ) -> Result<Boxed<TypedTree>, CheckError>
-    ensures { Answers result (λ tree. tree)
-        (chosen place (λ o. form.Binary o left right) (overload_of_two operator (type_of left) (type_of right))) }
+    ensures { Follows right result
+        (λ t. chosen place (λ o. form.Binary o left t) (overload_of_two operator (type_of left) (type_of t))) }
 {
+    let right = right?;
     match overload_of_two(alloc, operator, &left.get().cel_type, &right.get().cel_type) {
         Ok(overload) => new_node(
             alloc,
@@ -84,10 +114,11 @@ pub fn conjunction(
     alloc: Global,
     place: usize,
     left: Boxed<TypedTree>,
-    right: Boxed<TypedTree>,
+    right: Result<Boxed<TypedTree>, CheckError>,
 ) -> Result<Boxed<TypedTree>, CheckError>
-    ensures { Answers result (λ tree. tree) (logic place form.And left right) }
+    ensures { Follows right result (λ t. logic place form.And left t) }
 {
+    let right = right?;
     if !(is_truth(&left.get().cel_type) && is_truth(&right.get().cel_type)) {
         return Err(refused(TypeRule::NoOverload, place));
     }
@@ -98,10 +129,11 @@ pub fn disjunction(
     alloc: Global,
     place: usize,
     left: Boxed<TypedTree>,
-    right: Boxed<TypedTree>,
+    right: Result<Boxed<TypedTree>, CheckError>,
 ) -> Result<Boxed<TypedTree>, CheckError>
-    ensures { Answers result (λ tree. tree) (logic place form.Or left right) }
+    ensures { Follows right result (λ t. logic place form.Or left t) }
 {
+    let right = right?;
     if !(is_truth(&left.get().cel_type) && is_truth(&right.get().cel_type)) {
         return Err(refused(TypeRule::NoOverload, place));
     }
@@ -113,10 +145,11 @@ pub fn conditional(
     place: usize,
     condition: Boxed<TypedTree>,
     yes: Boxed<TypedTree>,
-    no: Boxed<TypedTree>,
+    no: Result<Boxed<TypedTree>, CheckError>,
 ) -> Result<Boxed<TypedTree>, CheckError>
-    ensures { Answers result (λ tree. tree) (conditional place condition yes no) }
+    ensures { Follows no result (λ t. conditional place condition yes t) }
 {
+    let no = no?;
     if !is_truth(&condition.get().cel_type) {
         return Err(refused(TypeRule::NoOverload, place));
     }
