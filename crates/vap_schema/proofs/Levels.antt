@@ -6,15 +6,15 @@ use Rattle.plain.specs.Keys.{IsInKeyOrder, keys_in}
 use Rattle.serde_json.specs.Data.{Data, Members, no_members, member}
 use Rattle.cel_value.specs.declared.cel_type.Field.{Field}
 use Rattle.cel_value.specs.declared.cel_type.CelType.{CelType}
-use Rattle.vap_schema.specs.Seen.{◌>>=◌}
+use Rattle.vap_fit.specs.Seen.{◌>>=◌}
 use Rattle.vap_schema.specs.Schemas.{Inner, Answers, schema_type, nested_type, field_of, fields_of, is_named}
 use Rattle.vap_schema.specs.declared.schema_fault.SchemaFault.{SchemaFault}
 use Rattle.vap_schema.specs.declared.schema_fault.SchemaFault.TheVariants.{TooDeep}
 use Rattle.vap_schema.specs.declared.schema_fault.SchemaError.{SchemaError}
 use Rattle.vap_schema.specs.declared.schema_fault.SchemaError.TheVariants.{Fault, OutOfMemory}
-use Rattle.vap_schema.proofs.Parts.{same_ok, both}
-use Rattle.vap_schema.proofs.Rest.{behind, behind-push}
-use Rattle.vap_schema.proofs.Ordered.{IsInOrder, names_in}
+use Rattle.vap_fit.proofs.Parts.{same_ok, both}
+use Rattle.vap_fit.proofs.Rest.{behind, behind-push}
+use Rattle.vap_fit.proofs.Ordered.{IsInOrder, names_in}
 
 pub too_deep : (levels : ℕ) (d : Data) → levels ≡ 0 → schema_type levels d ≡ Err TooDeep
 unfolding schema_type

@@ -1,12 +1,4 @@
-pub mod AllThere
-pub mod Fitted
-pub mod InStep
-pub mod InStepMembers
-pub mod Lengths
+pub mod Forms
 pub mod Levels
-pub mod Ordered
-pub mod Parts
-pub mod Rest
 pub mod Searched
-pub mod Turns
 pub mod WorkedRows

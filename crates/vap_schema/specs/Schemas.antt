@@ -19,8 +19,10 @@ use Rattle.serde_json.specs.declared.value.Value.{Value as Json}
 use Rattle.cel_value.specs.declared.cel_type.Field.{Field}
 use Rattle.cel_value.specs.declared.cel_type.CelType as type
 use Rattle.cel_value.specs.declared.cel_type.CelType.{CelType}
-use Rattle.vap_schema.specs.Seen.{◌>>=◌}
+use Rattle.vap_fit.specs.Seen.{◌>>=◌}
 use Rattle.vap_schema.specs.FixedTypes.{with_fixed_fields}
+use Rattle.vap_schema.specs.declared.form.Form.{Form}
+use Rattle.vap_schema.specs.declared.form.Form.TheVariants as form
 use Rattle.vap_schema.specs.declared.keywords.TypeWord.{TypeWord}
 use Rattle.vap_schema.specs.declared.keywords.TypeWord.TheVariants as word
 use Rattle.vap_schema.specs.declared.schema_fault.SchemaFault.{SchemaFault}
@@ -289,14 +291,22 @@ abbrev pub NamesAre : Result Items SchemaFault → Result (Bor (List Json)) Sche
 NamesAre want (Ok names) = want ≡ Ok (items_view names.now)
 NamesAre want (Err f) = want ≡ Err f
 
+-- members that are lent, if there are any
+abbrev pub members_seen : Option (Bor (BTreeMap (String Global) Json)) → Option Members
+members_seen found = option_map (λ m. members_view m.now.entries) found
+
 -- the answer has these properties or none, or this fault
 abbrev pub PropertiesAre : Result (Option Members) SchemaFault → Result (Option (Bor (BTreeMap (String Global) Json))) SchemaFault → Type 0
-PropertiesAre want (Ok found) = want ≡ Ok (option_map (λ m. members_view m.now.entries) found)
+PropertiesAre want (Ok found) = want ≡ Ok (members_seen found)
 PropertiesAre want (Err f) = want ≡ Err f
+
+-- a schema that is lent, if there is one
+abbrev pub entry_seen : Option (Bor Json) → Option Data
+entry_seen found = option_map (λ v. view v.now) found
 
 -- the answer has this entry or none, or this fault
 abbrev pub EntryIs : Result (Option Data) SchemaFault → Result (Option (Bor Json)) SchemaFault → Type 0
-EntryIs want (Ok found) = want ≡ Ok (option_map (λ v. view v.now) found)
+EntryIs want (Ok found) = want ≡ Ok (entry_seen found)
 EntryIs want (Err f) = want ≡ Err f
 
 -- the answer is this one or this fault, or memory ran out
@@ -304,3 +314,36 @@ abbrev pub Answers : {A : Type 0} → Result A SchemaFault → Result A SchemaEr
 Answers want (Ok a) = want ≡ Ok a
 Answers want (Err (Fault f)) = want ≡ Err f
 Answers want (Err OutOfMemory) = Unit {0}
+
+-- whatever the answer of the part says, the answer of the whole says what a step makes of it
+abbrev pub Carries : {A B : Type 0} → Result A SchemaError → Result B SchemaError → (A → Result B SchemaFault) → Type 0
+Carries part whole step = (want : Result _ SchemaFault) → Answers want part → Answers (want >>= step) whole
+
+-- ---- forms
+
+-- the type of a form, by what schemas inside it give
+abbrev pub form_type : Inner → Form → Result CelType SchemaFault
+form_type inner form.Opaque = Ok type.Opaque
+form_type inner form.Bool = Ok type.Bool
+form_type inner form.Int = Ok type.Int
+form_type inner (form.Text max) = Ok (type.Text max)
+form_type inner (form.List max plain items) = do
+  item ← inner (view items.now)
+  Ok (type.List max plain item)
+form_type inner (form.Map max entry) = map_type inner max (view entry.now)
+form_type inner (form.Record required properties) = record_type inner (items_view required.now) (members_view properties.now.entries)
+form_type inner form.Bare = Ok (type.Object [])
+
+-- a type, or the one that null has too
+abbrev pub or_null : Bool → CelType → Result CelType SchemaFault
+or_null nullable t = Ok (if nullable then type.Nullable t else t)
+
+-- the answer is a form that has this type whatever schemas inside give, or this fault
+abbrev pub FormIs : (Inner → Result CelType SchemaFault) → Result Form SchemaFault → Type 0
+FormIs want (Ok f) = (inner : Inner) → want inner ≡ form_type inner f
+FormIs want (Err e) = (inner : Inner) → want inner ≡ Err e
+
+-- the same, and beside the form whether null has the type too
+abbrev pub NestedIs : (Inner → Result CelType SchemaFault) → Result (Bool × Form) SchemaFault → Type 0
+NestedIs want (Ok p) = (inner : Inner) → want inner ≡ (form_type inner p.1 >>= or_null p.0)
+NestedIs want (Err e) = (inner : Inner) → want inner ≡ Err e

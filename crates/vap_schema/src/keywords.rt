@@ -11,7 +11,7 @@ use serde_json::{Map, Value as Json};
 use std::alloc::{AllocError, Global};
 
 /// The words of `type`.
-#[derive(Clone, Copy, Debug, PartialEq, Eq)]
+#[derive(Clone, Copy)]
 pub enum TypeWord {
     Boolean,
     Integer,

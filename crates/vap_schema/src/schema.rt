@@ -1,17 +1,14 @@
 //! From a schema to the type of what it describes.
 
-ghost use Rattle.std.specs.Prelude.{◌≡◌, if◌then◌else◌, codes, IfOk};
+ghost use Rattle.std.specs.Prelude.{◌≡◌, IfOk, Ok};
 ghost use Rattle.cel_value.specs.declared.cel_type.CelType as T;
 ghost use Rattle.serde_json.specs.View.{view, items_view, members_view};
-ghost use Rattle.vap_schema.specs.Schemas.{Answers, schema_type, nested_type, own_type, untyped, limit, list_type};
-ghost use Rattle.vap_schema.specs.Schemas.{object_type, record_type, bare_type, map_type, entry_type, fields_of, field_of};
-ghost use Rattle.vap_schema.specs.Schemas.{object_type_of, is_named, IsInTextOrder};
+ghost use Rattle.vap_schema.specs.Schemas.{Answers, Carries, schema_type, form_type, or_null, entry_type, record_type};
+ghost use Rattle.vap_schema.specs.Schemas.{fields_of, object_type_of, is_named, IsInTextOrder};
 
 use crate::fixed_types::with_fixed_fields;
-use crate::keywords::{
-    TypeWord, check_absent, entry_of, flag, in_text_order, is_named, is_plain, limit,
-    properties_of, required_names, stated_word,
-};
+use crate::form::{Form, nested_form, own_form};
+use crate::keywords::{in_text_order, is_named};
 use crate::schema_fault::{SchemaError, SchemaFault};
 use cel_value::{CelType, Field};
 use plain::{Keyed, Shared, Text, TextMap};
@@ -45,7 +42,8 @@ impl Schema {
         if !json.is_object() {
             return Err(SchemaError::Fault(SchemaFault::BadKeyword));
         }
-        let object_type = read_own(99, alloc, json)?;
+        let form = own_form(json)?;
+        let object_type = read_form(99, alloc, form)?;
         Ok(Schema {
             object_type: with_fixed_fields(alloc, object_type)?,
         })
@@ -67,131 +65,30 @@ fn read_schema(levels: u32, alloc: Global, schema: &Json) -> Result<CelType, Sch
     if levels == 0 {
         return Err(SchemaError::Fault(SchemaFault::TooDeep));
     }
-    read_nested(levels - 1, alloc, schema)
+    let (nullable, form) = nested_form(schema)?;
+    nullable_type(alloc, nullable, read_form(levels - 1, alloc, form))
 }
 
-/// The type of a schema that is no root, where so many may stand inside each other in it.
+/// The type of a form, where so many schemas may stand inside each other in it.
 #[cycle(read_schema)]
-fn read_nested(levels: u32, alloc: Global, schema: &Json) -> Result<CelType, SchemaError>
-    ensures { Answers (nested_type (schema_type levels) (view schema.now)) result }
+fn read_form(levels: u32, alloc: Global, form: Form<'_>) -> Result<CelType, SchemaError>
+    ensures { Answers (form_type (schema_type levels) form.entry) result }
 {
-    if !schema.is_object() {
-        return Err(SchemaError::Fault(SchemaFault::BadKeyword));
-    }
-    let nullable = flag(schema, "nullable")?;
-    let cel_type = read_own(levels, alloc, schema)?;
-    Ok(or_null(alloc, nullable, cel_type)?)
-}
-
-/// A type, or the one that null has too.
-fn or_null(alloc: Global, nullable: bool, cel_type: CelType) -> Result<CelType, AllocError>
-    ensures { IfOk result (λ t. t ≡ (if nullable then T.Nullable cel_type else cel_type)) }
-{
-    if nullable {
-        Ok(CelType::Nullable(Shared::new(alloc, cel_type)?))
-    } else {
-        Ok(cel_type)
-    }
-}
-
-/// The type of a schema, null apart, where so many may stand inside each other in it.
-#[cycle(read_schema)]
-fn read_own(levels: u32, alloc: Global, schema: &Json) -> Result<CelType, SchemaError>
-    ensures { Answers (own_type (schema_type levels) (view schema.now)) result }
-{
-    check_absent(schema, "$ref")?;
-    match stated_word(schema)? {
-        None => Ok(untyped(schema)?),
-        Some(TypeWord::Boolean) => Ok(CelType::Bool),
-        Some(TypeWord::Integer) => Ok(CelType::Int),
-        Some(TypeWord::Number) => Ok(CelType::Opaque),
-        Some(TypeWord::String) => {
-            let max = limit(schema, "maxLength", 1_048_576)?;
-            Ok(CelType::Text { max })
+    match form {
+        Form::Opaque => Ok(CelType::Opaque),
+        Form::Bool => Ok(CelType::Bool),
+        Form::Int => Ok(CelType::Int),
+        Form::Text { max } => Ok(CelType::Text { max }),
+        Form::List { max, plain, items } => {
+            list_of(alloc, max, plain, read_schema(levels, alloc, items))
         }
-        Some(TypeWord::Array) => read_list(levels, alloc, schema),
-        Some(TypeWord::Object) => read_object(levels, alloc, schema),
+        Form::Map { max, entry } => map_of(alloc, max, read_entry(levels, alloc, entry)),
+        Form::Record {
+            required,
+            properties,
+        } => read_record(levels, alloc, required, properties),
+        Form::Bare => object_of(alloc, Ok(TextMap::new(alloc))),
     }
-}
-
-fn untyped(schema: &Json) -> Result<CelType, SchemaFault>
-    ensures { result ≡ untyped (view schema.now) }
-{
-    let kept = flag(schema, "x-kubernetes-preserve-unknown-fields")?;
-    let either = flag(schema, "x-kubernetes-int-or-string")?;
-    if kept || either {
-        Ok(CelType::Opaque)
-    } else {
-        Err(SchemaFault::NoType)
-    }
-}
-
-/// How many items a list may have.
-fn max_items(schema: &Json) -> Result<u32, SchemaFault>
-    ensures { result ≡ limit (codes "maxItems") 524287 (view schema.now) }
-{
-    limit(schema, "maxItems", 524_287)
-}
-
-#[cycle(read_schema)]
-fn read_list(levels: u32, alloc: Global, schema: &Json) -> Result<CelType, SchemaError>
-    ensures { Answers (list_type (schema_type levels) (view schema.now)) result }
-{
-    let max = max_items(schema)?;
-    let plain = is_plain(schema)?;
-    match schema.get("items") {
-        Some(items) => {
-            let item = read_schema(levels, alloc, items)?;
-            Ok(CelType::List {
-                max,
-                plain,
-                item: Shared::new(alloc, item)?,
-            })
-        }
-        None => Err(SchemaError::Fault(SchemaFault::BadKeyword)),
-    }
-}
-
-/// An object: every keyword that some object has is read, whichever of them then count.
-#[cycle(read_schema)]
-fn read_object(levels: u32, alloc: Global, schema: &Json) -> Result<CelType, SchemaError>
-    ensures { Answers (object_type (schema_type levels) (view schema.now)) result }
-{
-    let properties = properties_of(schema)?;
-    let required = required_names(schema)?;
-    let entry = entry_of(schema)?;
-    let max = limit(schema, "maxProperties", 524_287)?;
-    let kept = flag(schema, "x-kubernetes-preserve-unknown-fields")?;
-    match (properties, entry) {
-        (Some(properties), None) => read_record(levels, alloc, required, properties),
-        (None, Some(entry)) => read_map(levels, alloc, max, entry),
-        (None, None) => Ok(bare(alloc, kept)?),
-        (Some(_), Some(_)) => Err(SchemaError::Fault(SchemaFault::BadKeyword)),
-    }
-}
-
-/// An object without properties and entries is kept as it is, or has no fields.
-fn bare(alloc: Global, kept: bool) -> Result<CelType, AllocError>
-    ensures { IfOk result (λ t. t ≡ bare_type kept) }
-{
-    if kept {
-        return Ok(CelType::Opaque);
-    }
-    Ok(CelType::Object {
-        fields: Shared::new(alloc, TextMap::new(alloc))?,
-    })
-}
-
-#[cycle(read_schema)]
-fn read_map(levels: u32, alloc: Global, max: u32, entry: &Json) -> Result<CelType, SchemaError>
-    ensures { Answers (map_type (schema_type levels) max (view entry.now)) result }
-{
-    let item = read_entry(levels, alloc, entry)?;
-    Ok(CelType::Map {
-        max,
-        key_max: 1_048_576,
-        item: Shared::new(alloc, item)?,
-    })
 }
 
 /// What stands under each name of a map: anything, or what a schema gives.
@@ -216,10 +113,10 @@ fn read_record(
     ensures { Answers (record_type (schema_type levels) (items_view required.now) (members_view properties.now.entries)) result }
 {
     let required = in_text_order(alloc, required)?;
-    let fields = read_fields(levels, alloc, required.as_slice(), properties)?;
-    Ok(CelType::Object {
-        fields: Shared::new(alloc, fields)?,
-    })
+    object_of(
+        alloc,
+        read_fields(levels, alloc, required.as_slice(), properties),
+    )
 }
 
 #[cycle(read_schema)]
@@ -236,25 +133,79 @@ fn read_fields(
     for (name, schema) in properties.iter() {
         let name = name.as_str();
         let is_required = is_named(required, name);
-        fields.push(read_field(levels, alloc, is_required, name, schema)?)?;
+        let cel_type = read_schema(levels, alloc, schema);
+        fields.push(field_of(alloc, is_required, name, cel_type)?)?;
     }
     Ok(TextMap::from_vec(fields))
 }
 
-#[cycle(read_schema)]
-fn read_field(
-    levels: u32,
+fn field_of(
     alloc: Global,
     required: bool,
     name: &str,
-    schema: &Json,
+    cel_type: Result<CelType, SchemaError>,
 ) -> Result<Keyed<Field<CelType>>, SchemaError>
-    ensures { Answers (field_of (schema_type levels) required name.now (view schema.now)) result }
+    ensures { Carries cel_type result (λ t. Ok (record { key = name.now; value = record { required = required; cel_type = t } })) }
 {
+    let cel_type = cel_type?;
     let key = Text::from_str(alloc, name)?;
-    let cel_type = read_schema(levels, alloc, schema)?;
     Ok(Keyed {
         key,
         value: Field { required, cel_type },
+    })
+}
+
+/// A type, or the one that null has too.
+fn nullable_type(
+    alloc: Global,
+    nullable: bool,
+    cel_type: Result<CelType, SchemaError>,
+) -> Result<CelType, SchemaError>
+    ensures { Carries cel_type result (or_null nullable) }
+{
+    if nullable {
+        Ok(CelType::Nullable(Shared::new(alloc, cel_type?)?))
+    } else {
+        cel_type
+    }
+}
+
+fn list_of(
+    alloc: Global,
+    max: u32,
+    plain: bool,
+    item: Result<CelType, SchemaError>,
+) -> Result<CelType, SchemaError>
+    ensures { Carries item result (λ t. Ok (T.List max plain t)) }
+{
+    Ok(CelType::List {
+        max,
+        plain,
+        item: Shared::new(alloc, item?)?,
+    })
+}
+
+fn map_of(
+    alloc: Global,
+    max: u32,
+    item: Result<CelType, SchemaError>,
+) -> Result<CelType, SchemaError>
+    ensures { Carries item result (λ t. Ok (T.Map max 1048576 t)) }
+{
+    Ok(CelType::Map {
+        max,
+        key_max: 1_048_576,
+        item: Shared::new(alloc, item?)?,
+    })
+}
+
+fn object_of(
+    alloc: Global,
+    fields: Result<TextMap<Field<CelType>>, SchemaError>,
+) -> Result<CelType, SchemaError>
+    ensures { Carries fields result (λ fs. Ok (T.Object fs)) }
+{
+    Ok(CelType::Object {
+        fields: Shared::new(alloc, fields?)?,
     })
 }
