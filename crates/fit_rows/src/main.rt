@@ -2,41 +2,48 @@
 //!
 //! Each line of the input is a JSON string: the text of an object of a `schema`, a `document` and the `path` that names the
 //! document. The answer is the value that the document is at the schema's type, with its weight and the greatest weight
-//! of the type, or the first fault of the document or of the schema.
+//! of the type, or the first fault of the document or of the schema; to a line that is no such row, what it lacks.
 #![tactic(auto)]
 
-use anyhow::anyhow;
 use cel_value::{CelType, Value, max_weight, weight};
 use json::Writer;
 use plain::TextMap;
 use serde_json::Value as Json;
 use std::alloc::{AllocError, Global};
-use std::io::{BufRead, BufReader};
+use std::io;
 use vap_schema::{FitError, Schema, SchemaError, fit};
 
-fn main(rt: HostRuntime) -> anyhow::Result<()> {
-    for line in BufReader::new(rt.alloc(), rt.reader())?.lines(rt.alloc()) {
-        let answer = answer(rt.alloc(), line?.as_str())?;
+fn main(rt: HostRuntime) -> io::Result<()> {
+    let rows = io::read_to_string(rt.alloc(), rt.reader())?;
+    for row in rows.lines() {
+        let answer = answer(rt.alloc(), row)?;
         rt.println(answer)?;
     }
     Ok(())
 }
 
-fn answer(alloc: Global, line: &str) -> anyhow::Result<String> {
-    let text = Json::from_str(alloc, line)?;
-    match text.as_str() {
-        Some(text) => answer_to(alloc, text),
-        None => Err(anyhow!("a line is no JSON string")),
+fn answer(alloc: Global, line: &str) -> Result<String, AllocError> {
+    match &json(alloc, line)? {
+        Json::String(text) => answer_to(alloc, &json(alloc, text.as_str())?),
+        _ => String::from_str(alloc, "a line is no JSON string"),
     }
 }
 
-fn answer_to(alloc: Global, text: &str) -> anyhow::Result<String> {
-    let row = Json::from_str(alloc, text)?;
+/// A JSON text's value. A text that is no JSON is as null, which is no row.
+fn json(alloc: Global, text: &str) -> Result<Json, AllocError> {
+    match Json::from_str(alloc, text) {
+        Ok(json) => Ok(json),
+        Err(error) if error.is_memory() => Err(AllocError),
+        Err(_) => Ok(Json::Null),
+    }
+}
+
+fn answer_to(alloc: Global, row: &Json) -> Result<String, AllocError> {
     match (row.get("schema"), row.get("document"), row.get("path")) {
         (Some(schema), Some(document), Some(Json::String(path))) => {
-            Ok(at_schema(alloc, schema, document, path.as_str())?)
+            at_schema(alloc, schema, document, path.as_str())
         }
-        _ => Err(anyhow!("a row lacks its schema, its document or its path")),
+        _ => String::from_str(alloc, "a row lacks its schema, its document or its path"),
     }
 }
 

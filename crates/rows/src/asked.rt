@@ -1,10 +1,9 @@
 //! Tables of rows, each a question with its answer.
 
-use crate::{containers, names, operands, overloads, schemas, tokens, values};
+use crate::{containers, images, operands, overloads, schemas, tokens, trees, values};
 use cel_check::Operator;
 use std::alloc::{AllocError, Global};
 use std::process::Abort;
-use std::test::Fail;
 
 /// What the rows of a table ask.
 #[derive(Clone, Copy)]
@@ -23,7 +22,8 @@ pub enum Asked {
     /// A document at this schema, with the name of its root.
     Document(&'static str, &'static str),
     Tokens,
-    Names,
+    Tree,
+    Image,
     Roles,
     /// The type of this operator's answer.
     Answered(Operator),
@@ -32,6 +32,28 @@ pub enum Asked {
 /// What is answered to a question that cannot be read.
 pub fn unreadable(alloc: Global) -> Result<String, AllocError> {
     String::from_str(alloc, "unreadable")
+}
+
+fn put_copies(out: &mut String, count: usize, text: &str) -> Result<(), AllocError> {
+    for _ in 0..count {
+        out.push_str(text)?;
+    }
+    Ok(())
+}
+
+/// So many copies of a front, a middle, and as many copies of a back.
+pub fn repeated(
+    alloc: Global,
+    count: usize,
+    front: &str,
+    middle: &str,
+    back: &str,
+) -> Result<String, AllocError> {
+    let mut out = String::new(alloc);
+    put_copies(&mut out, count, front)?;
+    out.push_str(middle)?;
+    put_copies(&mut out, count, back)?;
+    Ok(out)
 }
 
 /// The answer to a row's question.
@@ -50,23 +72,24 @@ fn answer(alloc: Global, asked: Asked, row: &str) -> Result<String, AllocError> 
         Asked::Schema => schemas::schema(alloc, row),
         Asked::Document(schema, root) => schemas::document(alloc, schema, root, row),
         Asked::Tokens => tokens::shown(alloc, row),
-        Asked::Names => names::names(alloc, row),
+        Asked::Tree => trees::shown(alloc, row),
+        Asked::Image => images::image(alloc, row),
         Asked::Roles => overloads::roles(alloc, row),
         Asked::Answered(operator) => overloads::answered(alloc, operator, row),
     }
 }
 
+/// Asserts what is answered to a row.
+pub fn tells(rt: &impl Abort, got: Result<String, AllocError>, wanted: &str, row: &str) {
+    let got = got.expect(rt, "out of memory");
+    assert_eq!(rt; got.as_str(), wanted, "at {row}");
+}
+
 /// Asserts each row of a table.
-pub fn hold<R: Abort + AllocGlobal>(
-    rt: &R,
-    asked: Asked,
-    rows: &[(&str, &str)],
-) -> Result<(), Fail> {
+pub fn hold<R: Abort + AllocGlobal>(rt: &R, asked: Asked, rows: &[(&str, &str)]) {
     for (row, wanted) in rows {
-        let got = answer(rt.alloc(), asked, row)?;
-        assert_eq!(rt; got.as_str(), *wanted, "at {row}");
+        tells(rt, answer(rt.alloc(), asked, row), wanted, row);
     }
-    Ok(())
 }
 
 /// Whether a row has its answer.

@@ -1,22 +1,26 @@
+//! What is written of an expression's answer, and how failures of readers and writers are counted.
+
+use crate::asked::repeated;
+use std::alloc::{AllocError, Global};
 use std::io;
 use std::io::{ErrorKind, Read, Write};
-use std::test::Fail;
 use vap_cli::{Counted, EvalError, Status, eval_to, one_outcome};
 
 const FIRST_ROW: &str = "1 + 2 * 3 == 7 && !(4 < 3)";
 
-/// A writer that takes so many bytes, and then fails in its own way.
-#[derive(Debug, Drop)]
+/// A writer that takes so many bytes, and then fails in its own way; or one that fails when it is flushed.
+#[derive(Drop)]
 struct Narrow {
     room: usize,
     refusal: Refusal,
 }
 
-#[derive(Clone, Copy, Debug, PartialEq, Eq)]
+#[derive(Clone, Copy)]
 enum Refusal {
     Fails,
     TakesNothing,
     IsInterrupted,
+    FailsAtFlush,
 }
 
 impl Write for Narrow {
@@ -28,32 +32,21 @@ impl Write for Narrow {
         }
         match self.refusal {
             Refusal::Fails => Err(io::Error::from(ErrorKind::BrokenPipe)),
-            Refusal::TakesNothing => Ok(0),
+            Refusal::TakesNothing | Refusal::FailsAtFlush => Ok(0),
             Refusal::IsInterrupted => Err(io::Error::from(ErrorKind::Interrupted)),
         }
     }
 
     fn flush(&mut self) -> io::Result<()> {
-        Ok(())
-    }
-}
-
-/// A writer that takes all, and fails when it is flushed.
-#[derive(Debug, Drop)]
-struct Unflushed;
-
-impl Write for Unflushed {
-    fn write(&mut self, buf: &[u8]) -> io::Result<usize> {
-        Ok(buf.len())
-    }
-
-    fn flush(&mut self) -> io::Result<()> {
-        Err(io::Error::from(ErrorKind::Other))
+        match self.refusal {
+            Refusal::FailsAtFlush => Err(io::Error::from(ErrorKind::Other)),
+            _ => Ok(()),
+        }
     }
 }
 
 /// A reader that fails.
-#[derive(Debug, Drop)]
+#[derive(Drop)]
 struct Broken;
 
 impl Read for Broken {
@@ -62,8 +55,17 @@ impl Read for Broken {
     }
 }
 
+/// Whether an expression ends so, with this line written and no failure.
+fn prints(alloc: Global, text: &str, status: Status, line: &str) -> bool {
+    let mut out = Counted::new(Vec::new(alloc));
+    let result = eval_to(alloc, text, &mut out);
+    let failures = out.failures();
+    let written = out.into_inner();
+    result == Ok(status) && failures == 0 && written.as_slice() == line.as_bytes()
+}
+
 #[test]
-fn eval_prints_the_rows(rt: HostRuntime) -> Result<(), Fail> {
+fn eval_prints_the_rows(rt: HostRuntime) {
     let rows = [
         (FIRST_ROW, Status::Done, "true\n"),
         ("1/0 > 1 || true", Status::Done, "true\n"),
@@ -91,12 +93,8 @@ fn eval_prints_the_rows(rt: HostRuntime) -> Result<(), Fail> {
         ("true ? 1 : true", Status::Fault, "refused: Mixed at 5\n"),
     ];
     for (text, status, line) in rows {
-        let mut out = Counted::new(Vec::new(rt.alloc()));
-        assert_eq!(rt; eval_to(rt.alloc(), text, &mut out)?, status, "{text}");
-        assert_eq!(rt; out.failures(), 0);
-        assert_eq!(rt; out.into_inner().as_slice(), line.as_bytes(), "{text}");
+        assert!(rt; prints(rt.alloc(), text, status, line), "{text}");
     }
-    Ok(())
 }
 
 #[test]
@@ -104,28 +102,25 @@ fn an_outcome_is_the_only_one() {
     one_outcome();
 }
 
-#[test]
-fn what_is_too_long_is_refused(rt: HostRuntime) -> Result<(), Fail> {
-    let mut text = String::new(rt.alloc());
-    for _ in 0..16384 {
-        text.push(' ')?;
+/// Whether so many spaces are refused so.
+fn is_refused(alloc: Global, count: usize, line: &str) -> bool {
+    match repeated(alloc, count, " ", "", "") {
+        Ok(text) => prints(alloc, text.as_str(), Status::Fault, line),
+        Err(AllocError) => false,
     }
-    let mut out = Counted::new(Vec::new(rt.alloc()));
-    eval_to(rt.alloc(), text.as_str(), &mut out)?;
-    let line = out.into_inner();
-    assert_eq!(rt;
-        line.as_slice(),
-        b"refused: Unexpected at 16384\n".as_slice()
-    );
-    text.push(' ')?;
-    let mut out = Counted::new(Vec::new(rt.alloc()));
-    let status = eval_to(rt.alloc(), text.as_str(), &mut out)?;
-    assert_eq!(rt; status, Status::Fault);
-    assert_eq!(rt;
-        out.into_inner().as_slice(),
-        b"refused: TooLong at 0\n".as_slice()
-    );
-    Ok(())
+}
+
+#[test]
+fn what_is_too_long_is_refused(rt: HostRuntime) {
+    assert!(rt; is_refused(rt.alloc(), 16384, "refused: Unexpected at 16384\n"));
+    assert!(rt; is_refused(rt.alloc(), 16385, "refused: TooLong at 0\n"));
+}
+
+/// Whether a writer's failure ends the writing of an answer, and is counted once.
+fn is_failed(alloc: Global, room: usize, refusal: Refusal) -> bool {
+    let mut out = Counted::new(Narrow { room, refusal });
+    let result = eval_to(alloc, FIRST_ROW, &mut out);
+    result == Err(EvalError::Write) && out.failures() == 1
 }
 
 #[test]
@@ -136,31 +131,27 @@ fn a_failed_write_is_counted(rt: HostRuntime) {
         Refusal::IsInterrupted,
     ] {
         for room in 0..5 {
-            let mut out = Counted::new(Narrow { room, refusal });
-            let result = eval_to(rt.alloc(), FIRST_ROW, &mut out);
-            assert_eq!(rt; result, Err(EvalError::Write), "{room} bytes");
-            assert_eq!(rt; out.failures(), 1);
+            assert!(rt; is_failed(rt.alloc(), room, refusal), "{room} bytes");
         }
     }
-    let mut out = Counted::new(Unflushed);
-    assert_eq!(rt;
-        eval_to(rt.alloc(), FIRST_ROW, &mut out),
-        Err(EvalError::Write)
-    );
-    assert_eq!(rt; out.failures(), 1);
+    assert!(rt; is_failed(rt.alloc(), usize::MAX, Refusal::FailsAtFlush));
+}
+
+/// How many bytes a reader gives where four are asked, if it does not fail.
+fn read_of<R: Read>(input: &mut R) -> Option<usize> {
+    let mut bytes = [0u8; 4];
+    input.read(&mut bytes).ok()
 }
 
 #[test]
-fn a_failed_read_is_counted(rt: HostRuntime) -> Result<(), Fail> {
-    let mut bytes = [0u8; 4];
+fn a_failed_read_is_counted(rt: HostRuntime) {
     let mut input = Counted::new(b"abc".as_slice());
-    assert_eq!(rt; input.read(&mut bytes)?, 3);
+    assert_eq!(rt; read_of(&mut input), Some(3));
     assert_eq!(rt; input.failures(), 0);
     let mut input = Counted::new(Broken);
-    assert!(rt; input.read(&mut bytes).is_err());
-    assert!(rt; input.read(&mut bytes).is_err());
+    assert_eq!(rt; read_of(&mut input), None);
+    assert_eq!(rt; read_of(&mut input), None);
     assert_eq!(rt; input.failures(), 2);
-    Ok(())
 }
 
 #[test]

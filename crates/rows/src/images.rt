@@ -1,62 +1,65 @@
 //! What `check` and `compile` make of trees. An image is shown as the type of its outcome, the types of its slots, its
 //! constants, its targets with their types, and its code.
 
-use crate::kinds::{instr_text, type_name, value_text};
+use crate::asked::{Asked, hold, tells, unreadable};
+use crate::kinds::put_instr;
+use crate::shown::{put, put_type};
 use cel_check::{CheckError, Operator, Scope, Typed, check};
 use cel_code::{Image, Instr, Target, compile};
-use cel_parse::{Expr, Syntax, UnaryOperator, parse};
+use cel_parse::{Expr, ParseError, Syntax, UnaryOperator, parse};
 use cel_value::{CelType, Value};
 use plain::Boxed;
 use std::alloc::{AllocError, Global};
-use std::test::Fail;
 
 fn write_types(out: &mut String, types: &[CelType]) -> Result<(), AllocError> {
     for cel_type in types {
         out.push_str(" ")?;
-        out.push_str(type_name(cel_type))?;
+        put_type(out, cel_type)?;
     }
     Ok(())
 }
 
-fn write_constants(out: &mut String, alloc: Global, constants: &[Value]) -> Result<(), AllocError> {
+fn write_constants(out: &mut String, constants: &[Value]) -> Result<(), AllocError> {
     for constant in constants {
-        let text = value_text(alloc, constant)?;
         out.push_str(" ")?;
-        out.push_str(text.as_str())?;
+        put(out, constant)?;
     }
     Ok(())
 }
 
-fn write_targets(out: &mut String, alloc: Global, targets: &[Target]) -> Result<(), AllocError> {
+fn write_targets(out: &mut String, targets: &[Target]) -> Result<(), AllocError> {
     for target in targets {
-        let text = format!(in alloc; " {}:", target.at)?;
-        out.push_str(text.as_str())?;
+        write!(out, " {}:", target.at)?;
         write_types(out, target.types.as_slice())?;
         out.push_str(";")?;
     }
     Ok(())
 }
 
-fn write_code(out: &mut String, alloc: Global, code: &[Instr]) -> Result<(), AllocError> {
+fn write_code(out: &mut String, code: &[Instr]) -> Result<(), AllocError> {
     for instr in code {
-        let text = instr_text(alloc, *instr)?;
         out.push_str(" ")?;
-        out.push_str(text.as_str())?;
+        put_instr(out, *instr)?;
         out.push_str(";")?;
     }
     Ok(())
 }
 
-fn image_text(alloc: Global, image: &Image) -> Result<String, AllocError> {
-    let mut out = String::from_str(alloc, type_name(&image.result))?;
+fn write_image(out: &mut String, image: &Image) -> Result<(), AllocError> {
+    put_type(out, &image.result)?;
     out.push_str(" | slots")?;
-    write_types(&mut out, image.slots.as_slice())?;
+    write_types(out, image.slots.as_slice())?;
     out.push_str(" | constants")?;
-    write_constants(&mut out, alloc, image.constants.as_slice())?;
+    write_constants(out, image.constants.as_slice())?;
     out.push_str(" | targets")?;
-    write_targets(&mut out, alloc, image.targets.as_slice())?;
+    write_targets(out, image.targets.as_slice())?;
     out.push_str(" | code")?;
-    write_code(&mut out, alloc, image.code.as_slice())?;
+    write_code(out, image.code.as_slice())
+}
+
+fn image_text(alloc: Global, image: &Image) -> Result<String, AllocError> {
+    let mut out = String::new(alloc);
+    write_image(&mut out, image)?;
     Ok(out)
 }
 
@@ -65,14 +68,24 @@ fn compiled(alloc: Global, typed: &Typed) -> Result<String, AllocError> {
     image_text(alloc, &image)
 }
 
-fn image_of(alloc: Global, expr: &Expr) -> Result<String, Fail> {
-    let typed = check(alloc, expr, &Scope::new(alloc))?;
-    Ok(compiled(alloc, &typed)?)
+fn checked(alloc: Global, expr: &Expr) -> Result<Typed, CheckError> {
+    check(alloc, expr, &Scope::new(alloc))
 }
 
-fn image_in(alloc: Global, text: &str) -> Result<String, Fail> {
-    let expr = Boxed::new(alloc, parse(alloc, text)?)?;
-    image_of(alloc, expr.get())
+fn image_of(alloc: Global, expr: &Expr) -> Result<String, AllocError> {
+    match &checked(alloc, expr) {
+        Ok(typed) => compiled(alloc, typed),
+        Err(error) => format!(in alloc; "{error}"),
+    }
+}
+
+/// The image of a text.
+pub fn image(alloc: Global, text: &str) -> Result<String, AllocError> {
+    match &parse(alloc, text) {
+        Ok(expr) => image_of(alloc, expr),
+        Err(ParseError::Fault(_)) => unreadable(alloc),
+        Err(ParseError::OutOfMemory) => Err(AllocError),
+    }
 }
 
 static IMAGES: [(&str, &str); 3] = [
@@ -93,12 +106,8 @@ static IMAGES: [(&str, &str); 3] = [
 // Constants stand in the order of their first use, each once. Jumps of a conditional arrive at its second branch with
 // nothing, and behind it with a value.
 #[test]
-fn an_image_is_the_expressions(rt: HostRuntime) -> Result<(), Fail> {
-    for &(text, image) in &IMAGES {
-        let own = image_in(rt.alloc(), text)?;
-        assert_eq!(rt; own.as_str(), image, "{text}");
-    }
-    Ok(())
+fn an_image_is_the_expressions(rt: HostRuntime) {
+    hold(&rt, Asked::Image, &IMAGES);
 }
 
 // `true` behind so many `!`, which may be more than a text has.
@@ -118,28 +127,27 @@ fn negated(alloc: Global, times: u32) -> Result<Boxed<Expr>, AllocError> {
     Ok(expr)
 }
 
-fn fault_of(alloc: Global, expr: &Expr) -> Option<CheckError> {
-    match check(alloc, expr, &Scope::new(alloc)) {
-        Ok(_) => None,
-        Err(error) => Some(error),
+fn fault_of(alloc: Global, expr: &Expr) -> Result<String, AllocError> {
+    match &checked(alloc, expr) {
+        Ok(_) => String::from_str(alloc, "typed"),
+        Err(error) => format!(in alloc; "{error}"),
     }
 }
 
 fn fault_of_negated(alloc: Global, times: u32) -> Result<String, AllocError> {
     let expr = negated(alloc, times)?;
-    match fault_of(alloc, expr.get()) {
-        None => String::from_str(alloc, "typed"),
-        Some(error) => format!(in alloc; "{error}"),
-    }
+    fault_of(alloc, expr.get())
 }
 
 #[test]
-fn a_tree_past_depth_100_is_too_large(rt: HostRuntime) -> Result<(), Fail> {
-    for (times, fault) in [(99, "typed"), (100, "TooLarge at 0")] {
-        let own = fault_of_negated(rt.alloc(), times)?;
-        assert_eq!(rt; own.as_str(), fault, "{times}");
-    }
-    Ok(())
+fn a_tree_past_depth_100_is_too_large(rt: HostRuntime) {
+    tells(&rt, fault_of_negated(rt.alloc(), 99), "typed", "99");
+    tells(
+        &rt,
+        fault_of_negated(rt.alloc(), 100),
+        "TooLarge at 0",
+        "100",
+    );
 }
 
 static OPERATORS: [(Operator, usize); 14] = [
@@ -159,13 +167,15 @@ static OPERATORS: [(Operator, usize); 14] = [
     (Operator::AtLeast, 19),
 ];
 
+fn has_number(operator: Operator, code: usize) -> bool {
+    operator.code() == code && Operator::from_code(code) == Some(operator)
+}
+
 #[test]
 fn operators_have_their_numbers(rt: HostRuntime) {
     for &(operator, code) in &OPERATORS {
-        assert_eq!(rt; operator.code(), code);
-        assert_eq!(rt; Operator::from_code(code), Some(operator));
+        assert!(rt; has_number(operator, code), "{code}");
     }
-    for code in [4, 20] {
-        assert_eq!(rt; Operator::from_code(code), None);
-    }
+    assert!(rt; Operator::from_code(4).is_none());
+    assert!(rt; Operator::from_code(20).is_none());
 }

@@ -15,6 +15,11 @@ pub fn json(alloc: Global, text: &str) -> Result<Json, AllocError> {
     }
 }
 
+/// The type that a row writes.
+pub fn typed(alloc: Global, text: &str) -> Result<CelType, AllocError> {
+    type_of(alloc, &json(alloc, text)?)
+}
+
 /// The type that is written. What is no type is as never, of which no such row has the answer.
 #[cycle(type_of)]
 pub fn type_of(alloc: Global, json: &Json) -> Result<CelType, AllocError> {
@@ -78,7 +83,13 @@ fn around(parts: &[Json], item: Shared<CelType>) -> CelType {
 fn object(alloc: Global, members: &Map<String, Json>) -> Result<CelType, AllocError> {
     let mut fields = TextMap::new(alloc);
     for (name, json) in members.iter() {
-        put(alloc, &mut fields, name.as_str(), type_of(alloc, json)?)?;
+        let key = Text::from_str(alloc, name.strip_suffix('?').unwrap_or(name.as_str()))?;
+        put(
+            &mut fields,
+            key,
+            !name.ends_with('?'),
+            type_of(alloc, json)?,
+        )?;
     }
     Ok(CelType::Object {
         fields: Shared::new(alloc, fields)?,
@@ -87,13 +98,11 @@ fn object(alloc: Global, members: &Map<String, Json>) -> Result<CelType, AllocEr
 
 /// Puts a field under its name, unless one is there.
 fn put(
-    alloc: Global,
     fields: &mut TextMap<Field<CelType>>,
-    name: &str,
+    key: Text,
+    required: bool,
     cel_type: CelType,
 ) -> Result<(), AllocError> {
-    let required = !name.ends_with('?');
-    let key = Text::from_str(alloc, name.strip_suffix('?').unwrap_or(name))?;
     if fields.get(key.as_str()).is_none() {
         return fields.insert(key, Field { required, cel_type });
     }

@@ -1,14 +1,13 @@
 //! The types that operators take, and the types of their answers.
 
 use crate::asked::{Asked, hold, unreadable};
-use crate::notation::{json, type_of};
+use crate::notation::{json, typed};
 use crate::shown::shown_type;
 use crate::values::types_of;
 use cel_check::{Operator, Untyped, is_natural, is_ordered, is_truth, is_whole};
 use cel_value::CelType;
 use serde_json::Value as Json;
 use std::alloc::{AllocError, Global};
-use std::test::Fail;
 
 fn at_one(alloc: Global, operator: Operator, operand: &CelType) -> Result<String, AllocError> {
     match operator.type_of_one(operand) {
@@ -54,8 +53,7 @@ pub fn answered(alloc: Global, operator: Operator, row: &str) -> Result<String, 
 
 /// Whether a type may stand where a truth value, an integer, an unsigned one, or a value with an order is asked.
 pub fn roles(alloc: Global, row: &str) -> Result<String, AllocError> {
-    let row = json(alloc, row)?;
-    roles_of(alloc, type_of(alloc, &row)?)
+    roles_of(alloc, typed(alloc, row)?)
 }
 
 fn roles_of(alloc: Global, cel_type: CelType) -> Result<String, AllocError> {
@@ -86,8 +84,8 @@ static ROLES: [(&str, &str); 10] = [
 ];
 
 #[test]
-fn types_have_their_roles(rt: HostRuntime) -> Result<(), Fail> {
-    hold(&rt, Asked::Roles, &ROLES)
+fn types_have_their_roles(rt: HostRuntime) {
+    hold(&rt, Asked::Roles, &ROLES);
 }
 
 static NOT: [(&str, &str); 4] = [
@@ -160,12 +158,12 @@ static EQUAL: [(&str, &str); 16] = [
 ];
 
 #[test]
-fn operators_take_types(rt: HostRuntime) -> Result<(), Fail> {
-    hold(&rt, Asked::Answered(Operator::Not), &NOT)?;
-    hold(&rt, Asked::Answered(Operator::Negate), &NEGATION)?;
-    hold(&rt, Asked::Answered(Operator::Multiply), &PRODUCT)?;
-    hold(&rt, Asked::Answered(Operator::AddUint), &UINT_SUM)?;
-    hold(&rt, Asked::Answered(Operator::Less), &LESS)?;
-    hold(&rt, Asked::Answered(Operator::Equal), &EQUAL)?;
-    hold(&rt, Asked::Answered(Operator::NotEqual), &EQUAL)
+fn operators_take_types(rt: HostRuntime) {
+    hold(&rt, Asked::Answered(Operator::Not), &NOT);
+    hold(&rt, Asked::Answered(Operator::Negate), &NEGATION);
+    hold(&rt, Asked::Answered(Operator::Multiply), &PRODUCT);
+    hold(&rt, Asked::Answered(Operator::AddUint), &UINT_SUM);
+    hold(&rt, Asked::Answered(Operator::Less), &LESS);
+    hold(&rt, Asked::Answered(Operator::Equal), &EQUAL);
+    hold(&rt, Asked::Answered(Operator::NotEqual), &EQUAL);
 }

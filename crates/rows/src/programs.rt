@@ -1,6 +1,9 @@
 //! Images that the verifier refuses, and runs of those that it accepts.
 
-use crate::kinds::{Constant, Kind, type_of, value_of, value_text};
+use crate::asked::tells;
+use crate::kinds::{Constant, value_of};
+use crate::notation::typed;
+use crate::shown::shown;
 use cel_code::{Image, Instr, Target};
 use cel_machine::{Run, Slots, run, slots_fit};
 use cel_value::{CelError, CelType, Value};
@@ -8,22 +11,34 @@ use cel_verify::{Program, VerifyRule, verify};
 use plain::Items;
 use std::alloc::{AllocError, Global};
 use std::process::Abort;
-use std::test::Fail;
 
-/// An image as a row writes it.
+const TRUTH: &str = r#""bool""#;
+
+const WHOLE: &str = r#""int""#;
+
+const NATURAL: &str = r#""uint""#;
+
+const MAYBE_TRUTH: &str = r#"["nullable","bool"]"#;
+
+const MAYBE_WHOLE: &str = r#"["nullable","int"]"#;
+/// Null or a list that is not plain.
+const MAYBE_SET: &str = r#"["nullable",["set",2,"int"]]"#;
+
+/// An image as a row writes it, with what its slots hold.
 #[derive(Clone, Copy)]
 struct Written<'a> {
-    result: Kind,
-    slots: &'a [Kind],
+    result: &'a str,
+    slots: &'a [&'a str],
     constants: &'a [Constant],
-    targets: &'a [(usize, &'a [Kind])],
+    targets: &'a [(usize, &'a [&'a str])],
     code: &'a [Instr],
+    held: &'a [Result<Constant, CelError>],
 }
 
-fn types_of(alloc: Global, kinds: &[Kind]) -> Result<Items<CelType>, AllocError> {
+fn types_of(alloc: Global, texts: &[&str]) -> Result<Items<CelType>, AllocError> {
     let mut types = Items::new(alloc);
-    for kind in kinds {
-        types.push(type_of(alloc, *kind)?)?;
+    for text in texts {
+        types.push(typed(alloc, text)?)?;
     }
     Ok(types)
 }
@@ -36,17 +51,11 @@ fn constants_of(alloc: Global, constants: &[Constant]) -> Result<Items<Value>, A
     Ok(values)
 }
 
-fn target_of(alloc: Global, at: usize, kinds: &[Kind]) -> Result<Target, AllocError> {
-    Ok(Target {
-        at,
-        types: types_of(alloc, kinds)?,
-    })
-}
-
-fn targets_of(alloc: Global, targets: &[(usize, &[Kind])]) -> Result<Items<Target>, AllocError> {
+fn targets_of(alloc: Global, targets: &[(usize, &[&str])]) -> Result<Items<Target>, AllocError> {
     let mut made = Items::new(alloc);
-    for (at, kinds) in targets {
-        made.push(target_of(alloc, *at, *kinds)?)?;
+    for &(at, texts) in targets {
+        let types = types_of(alloc, texts)?;
+        made.push(Target { at, types })?;
     }
     Ok(made)
 }
@@ -56,14 +65,14 @@ fn image_of(alloc: Global, written: &Written) -> Result<Image, AllocError> {
         slots: types_of(alloc, written.slots)?,
         constants: constants_of(alloc, written.constants)?,
         targets: targets_of(alloc, written.targets)?,
-        result: type_of(alloc, written.result)?,
+        result: typed(alloc, written.result)?,
         code: Items::from_slice(alloc, written.code)?,
     })
 }
 
 fn outcome_text(alloc: Global, outcome: &Result<Value, CelError>) -> Result<String, AllocError> {
     match outcome {
-        Ok(value) => value_text(alloc, value),
+        Ok(value) => shown(alloc, value),
         Err(error) => String::from_str(alloc, error.name()),
     }
 }
@@ -91,15 +100,27 @@ fn outcomes(
     Ok(values)
 }
 
+fn lend(outcome: &Result<Value, CelError>) -> Result<&Value, CelError> {
+    match outcome {
+        Ok(value) => Ok(value),
+        Err(error) => Err(*error),
+    }
+}
+
 fn lend_all<'a>(
     alloc: Global,
     values: &'a [Result<Value, CelError>],
 ) -> Result<Vec<Result<&'a Value, CelError>>, AllocError> {
     let mut lent = Vec::with_capacity(alloc, values.len())?;
     for value in values {
-        lent.push(value.as_ref().map_err(|error| *error))?;
+        lent.push(lend(value))?;
     }
     Ok(lent)
+}
+
+fn ended(alloc: Global, program: &Program, slots: &Slots) -> Result<String, AllocError> {
+    let ended = run(alloc, program, slots)?;
+    run_text(alloc, program, &ended)
 }
 
 fn run_with(
@@ -108,12 +129,11 @@ fn run_with(
     values: &[Result<Value, CelError>],
 ) -> Result<String, AllocError> {
     let lent = lend_all(alloc, values)?;
-    if !slots_fit(program, &lent) {
-        return String::from_str(alloc, "does not fit");
+    if slots_fit(program, &lent) {
+        ended(alloc, program, &Slots::new(program, lent))
+    } else {
+        String::from_str(alloc, "does not fit")
     }
-    let slots = Slots::new(program, lent);
-    let ended = run(alloc, program, &slots)?;
-    run_text(alloc, program, &ended)
 }
 
 fn run_program(
@@ -132,34 +152,29 @@ fn run_image(
     image: Image,
     held: &[Result<Constant, CelError>],
 ) -> Result<String, AllocError> {
-    match verify(alloc, image) {
-        Ok(program) => run_program(alloc, &program, held),
+    match &verify(alloc, image) {
+        Ok(program) => run_program(alloc, program, held),
         Err((error, back)) => format!(in alloc; "{error} of {}", back.code.len()),
     }
 }
 
-fn run_of(
-    alloc: Global,
-    written: &Written,
-    held: &[Result<Constant, CelError>],
-) -> Result<String, AllocError> {
-    run_image(alloc, image_of(alloc, written)?, held)
+fn run_of(alloc: Global, written: &Written) -> Result<String, AllocError> {
+    run_image(alloc, image_of(alloc, written)?, written.held)
 }
 
-fn come_to(rt: &impl Abort, alloc: Global, rows: &[(Written, &str)]) -> Result<(), Fail> {
+fn come_to(rt: &impl Abort, alloc: Global, rows: &[(Written, &str)]) {
     for (written, ended) in rows {
-        let own = run_of(alloc, written, &[])?;
-        assert_eq!(rt; own.as_str(), *ended);
+        tells(rt, run_of(alloc, written), ended, ended);
     }
-    Ok(())
 }
 
 static RUNS: [(Written<'static>, &str); 7] = [
     // `21 + 21`
     (
         Written {
-            result: Kind::Whole,
+            result: WHOLE,
             slots: &[],
+            held: &[],
             constants: &[Constant::Whole(21)],
             targets: &[],
             code: &[Instr::Const(0), Instr::Const(0), Instr::Op(2), Instr::End],
@@ -169,8 +184,9 @@ static RUNS: [(Written<'static>, &str); 7] = [
     // `9223372036854775808u + 21u`
     (
         Written {
-            result: Kind::Natural,
+            result: NATURAL,
             slots: &[],
+            held: &[],
             constants: &[
                 Constant::Natural(9223372036854775808),
                 Constant::Natural(21),
@@ -183,8 +199,9 @@ static RUNS: [(Written<'static>, &str); 7] = [
     // `18446744073709551615u + 1u`
     (
         Written {
-            result: Kind::Natural,
+            result: NATURAL,
             slots: &[],
+            held: &[],
             constants: &[
                 Constant::Natural(18446744073709551615),
                 Constant::Natural(1),
@@ -197,8 +214,9 @@ static RUNS: [(Written<'static>, &str); 7] = [
     // `1 + 2 * 3 == 7 && !(4 < 3)`
     (
         Written {
-            result: Kind::Truth,
+            result: TRUTH,
             slots: &[],
+            held: &[],
             constants: &[
                 Constant::Whole(1),
                 Constant::Whole(2),
@@ -206,7 +224,7 @@ static RUNS: [(Written<'static>, &str); 7] = [
                 Constant::Whole(7),
                 Constant::Whole(4),
             ],
-            targets: &[(13, &[Kind::Truth])],
+            targets: &[(13, &[TRUTH])],
             code: &[
                 Instr::Const(0),
                 Instr::Const(1),
@@ -229,14 +247,15 @@ static RUNS: [(Written<'static>, &str); 7] = [
     // `1/0 > 1 || true`: an error that is absorbed is charged.
     (
         Written {
-            result: Kind::Truth,
+            result: TRUTH,
             slots: &[],
+            held: &[],
             constants: &[
                 Constant::Whole(1),
                 Constant::Whole(0),
                 Constant::Truth(true),
             ],
-            targets: &[(8, &[Kind::Truth])],
+            targets: &[(8, &[TRUTH])],
             code: &[
                 Instr::Const(0),
                 Instr::Const(1),
@@ -254,14 +273,15 @@ static RUNS: [(Written<'static>, &str); 7] = [
     // `false && 1/0 == 1`: a false left ends it.
     (
         Written {
-            result: Kind::Truth,
+            result: TRUTH,
             slots: &[],
+            held: &[],
             constants: &[
                 Constant::Truth(false),
                 Constant::Whole(1),
                 Constant::Whole(0),
             ],
-            targets: &[(8, &[Kind::Truth])],
+            targets: &[(8, &[TRUTH])],
             code: &[
                 Instr::Const(0),
                 Instr::AndTest(8),
@@ -279,10 +299,11 @@ static RUNS: [(Written<'static>, &str); 7] = [
     // `1/0 == 1 ? 1 : 0`: an error of a condition goes behind both branches.
     (
         Written {
-            result: Kind::Whole,
+            result: WHOLE,
             slots: &[],
+            held: &[],
             constants: &[Constant::Whole(1), Constant::Whole(0)],
-            targets: &[(8, &[]), (9, &[Kind::Whole])],
+            targets: &[(8, &[]), (9, &[WHOLE])],
             code: &[
                 Instr::Const(0),
                 Instr::Const(1),
@@ -301,14 +322,15 @@ static RUNS: [(Written<'static>, &str); 7] = [
 ];
 
 #[test]
-fn a_run_is_charged_by_its_nodes(rt: HostRuntime) -> Result<(), Fail> {
-    come_to(&rt, rt.alloc(), &RUNS)
+fn a_run_is_charged_by_its_nodes(rt: HostRuntime) {
+    come_to(&rt, rt.alloc(), &RUNS);
 }
 
 /// The image of a constant alone, with other constants, targets and code in some rows.
 const ALONE: Written<'static> = Written {
-    result: Kind::Whole,
+    result: WHOLE,
     slots: &[],
+    held: &[],
     constants: &[Constant::Whole(1)],
     targets: &[],
     code: &[Instr::Const(0), Instr::End],
@@ -344,7 +366,7 @@ static FAULTS: [(Written<'static>, &str); 12] = [
     // An outcome of another kind.
     (
         Written {
-            result: Kind::Truth,
+            result: TRUTH,
             ..ALONE
         },
         "WrongKind at 1 of 2",
@@ -375,14 +397,14 @@ static FAULTS: [(Written<'static>, &str); 12] = [
     // A target without a jump, in the code and past it.
     (
         Written {
-            targets: &[(1, &[Kind::Whole])],
+            targets: &[(1, &[WHOLE])],
             ..ALONE
         },
         "BadTarget at 1 of 2",
     ),
     (
         Written {
-            targets: &[(7, &[Kind::Whole])],
+            targets: &[(7, &[WHOLE])],
             ..ALONE
         },
         "BadTarget at 7 of 2",
@@ -407,30 +429,32 @@ static FAULTS: [(Written<'static>, &str); 12] = [
 ];
 
 #[test]
-fn a_fault_is_told_with_its_instruction(rt: HostRuntime) -> Result<(), Fail> {
-    come_to(&rt, rt.alloc(), &FAULTS)
+fn a_fault_is_told_with_its_instruction(rt: HostRuntime) {
+    come_to(&rt, rt.alloc(), &FAULTS);
 }
 
 /// `true ? null : 1` with a type behind it, in front of what a row does with it.
 const MAYBE: Written<'static> = Written {
-    result: Kind::Whole,
+    result: WHOLE,
     slots: &[],
+    held: &[],
     constants: &[Constant::Truth(true), Constant::Null, Constant::Whole(1)],
-    targets: &[(4, &[]), (5, &[Kind::MaybeWhole])],
+    targets: &[(4, &[]), (5, &[MAYBE_WHOLE])],
     code: &[],
 };
 
 /// The same with `true` in place of the number.
 const MAYBE_TRUE: Written<'static> = Written {
-    result: Kind::Truth,
+    result: TRUTH,
     slots: &[],
+    held: &[],
     constants: &[
         Constant::Truth(true),
         Constant::Null,
         Constant::Whole(1),
         Constant::Truth(false),
     ],
-    targets: &[(4, &[]), (5, &[Kind::MaybeTruth])],
+    targets: &[(4, &[]), (5, &[MAYBE_TRUTH])],
     code: &[],
 };
 
@@ -456,7 +480,7 @@ static NULLS: [(Written<'static>, &str); 13] = [
     // `1 + (true ? null : 1)`, where null is on the right.
     (
         Written {
-            targets: &[(5, &[Kind::Whole]), (6, &[Kind::Whole, Kind::MaybeWhole])],
+            targets: &[(5, &[WHOLE]), (6, &[WHOLE, MAYBE_WHOLE])],
             code: &[
                 Instr::Const(2),
                 Instr::Const(0),
@@ -508,7 +532,7 @@ static NULLS: [(Written<'static>, &str); 13] = [
     // `(true ? null : 1) < 1`
     (
         Written {
-            result: Kind::Truth,
+            result: TRUTH,
             code: &[
                 Instr::Const(0),
                 Instr::Cond(4, 5),
@@ -526,7 +550,7 @@ static NULLS: [(Written<'static>, &str); 13] = [
     // `(true ? null : 1) == null`
     (
         Written {
-            result: Kind::Truth,
+            result: TRUTH,
             code: &[
                 Instr::Const(0),
                 Instr::Cond(4, 5),
@@ -560,7 +584,7 @@ static NULLS: [(Written<'static>, &str); 13] = [
     // `(true ? null : true) && false`: a side that is null is an error, and a false one makes up for it.
     (
         Written {
-            targets: &[(4, &[]), (5, &[Kind::MaybeTruth]), (8, &[Kind::Truth])],
+            targets: &[(4, &[]), (5, &[MAYBE_TRUTH]), (8, &[TRUTH])],
             code: &[
                 Instr::Const(0),
                 Instr::Cond(4, 5),
@@ -579,7 +603,7 @@ static NULLS: [(Written<'static>, &str); 13] = [
     // `(true ? null : true) || false`
     (
         Written {
-            targets: &[(4, &[]), (5, &[Kind::MaybeTruth]), (8, &[Kind::Truth])],
+            targets: &[(4, &[]), (5, &[MAYBE_TRUTH]), (8, &[TRUTH])],
             code: &[
                 Instr::Const(0),
                 Instr::Cond(4, 5),
@@ -598,13 +622,8 @@ static NULLS: [(Written<'static>, &str); 13] = [
     // `(true ? null : true) ? 1 : 1`: the condition's error goes behind both branches.
     (
         Written {
-            result: Kind::Whole,
-            targets: &[
-                (4, &[]),
-                (5, &[Kind::MaybeTruth]),
-                (8, &[]),
-                (9, &[Kind::Whole]),
-            ],
+            result: WHOLE,
+            targets: &[(4, &[]), (5, &[MAYBE_TRUTH]), (8, &[]), (9, &[WHOLE])],
             code: &[
                 Instr::Const(0),
                 Instr::Cond(4, 5),
@@ -633,8 +652,8 @@ static NULLS: [(Written<'static>, &str); 13] = [
     // What may be a list that is not plain is compared with null ..
     (
         Written {
-            result: Kind::Truth,
-            targets: &[(4, &[]), (5, &[Kind::MaybeSet])],
+            result: TRUTH,
+            targets: &[(4, &[]), (5, &[MAYBE_SET])],
             code: &[
                 Instr::Const(0),
                 Instr::Cond(4, 5),
@@ -652,12 +671,12 @@ static NULLS: [(Written<'static>, &str); 13] = [
     // .. and not with what may be another.
     (
         Written {
-            result: Kind::Truth,
+            result: TRUTH,
             targets: &[
                 (4, &[]),
-                (5, &[Kind::MaybeSet]),
-                (9, &[Kind::MaybeSet]),
-                (10, &[Kind::MaybeSet, Kind::MaybeSet]),
+                (5, &[MAYBE_SET]),
+                (9, &[MAYBE_SET]),
+                (10, &[MAYBE_SET, MAYBE_SET]),
             ],
             code: &[
                 Instr::Const(0),
@@ -680,8 +699,8 @@ static NULLS: [(Written<'static>, &str); 13] = [
 ];
 
 #[test]
-fn null_is_an_error_where_a_kind_is_asked(rt: HostRuntime) -> Result<(), Fail> {
-    come_to(&rt, rt.alloc(), &NULLS)
+fn null_is_an_error_where_a_kind_is_asked(rt: HostRuntime) {
+    come_to(&rt, rt.alloc(), &NULLS);
 }
 
 static RULES: [(VerifyRule, u8); 7] = [
@@ -701,28 +720,36 @@ fn rules_have_their_numbers(rt: HostRuntime) {
     }
 }
 
-static TAKING: Written<'static> = Written {
-    slots: &[Kind::Whole, Kind::Truth],
+const TAKING: Written<'static> = Written {
+    slots: &[WHOLE, TRUTH],
     ..ALONE
 };
 
-static SLOTS: [(&[Result<Constant, CelError>], &str); 3] = [
+static SLOTS: [(Written<'static>, &str); 3] = [
     (
-        &[Ok(Constant::Whole(1)), Err(CelError::Overflow)],
+        Written {
+            held: &[Ok(Constant::Whole(1)), Err(CelError::Overflow)],
+            ..TAKING
+        },
         "1, charged 0, steps 2, constants 1",
     ),
     (
-        &[Ok(Constant::Whole(1)), Ok(Constant::Whole(1))],
+        Written {
+            held: &[Ok(Constant::Whole(1)), Ok(Constant::Whole(1))],
+            ..TAKING
+        },
         "does not fit",
     ),
-    (&[Ok(Constant::Whole(1))], "does not fit"),
+    (
+        Written {
+            held: &[Ok(Constant::Whole(1))],
+            ..TAKING
+        },
+        "does not fit",
+    ),
 ];
 
 #[test]
-fn slots_hold_values_of_their_types_and_errors(rt: HostRuntime) -> Result<(), Fail> {
-    for (held, ended) in &SLOTS {
-        let own = run_of(rt.alloc(), &TAKING, *held)?;
-        assert_eq!(rt; own.as_str(), *ended);
-    }
-    Ok(())
+fn slots_hold_values_of_their_types_and_errors(rt: HostRuntime) {
+    come_to(&rt, rt.alloc(), &SLOTS);
 }

@@ -11,8 +11,9 @@ pub fn shown(alloc: Global, value: &Value) -> Result<String, AllocError> {
     Ok(out)
 }
 
+/// Writes a value.
 #[cycle(put)]
-fn put(out: &mut String, value: &Value) -> Result<(), AllocError> {
+pub fn put(out: &mut String, value: &Value) -> Result<(), AllocError> {
     match value {
         Value::Null => out.push_str("null"),
         Value::Bool(truth) => write!(out, "{truth}"),
@@ -54,8 +55,9 @@ pub fn shown_type(alloc: Global, cel_type: &CelType) -> Result<String, AllocErro
     Ok(out)
 }
 
+/// Writes a type.
 #[cycle(put_type)]
-fn put_type(out: &mut String, cel_type: &CelType) -> Result<(), AllocError> {
+pub fn put_type(out: &mut String, cel_type: &CelType) -> Result<(), AllocError> {
     match cel_type {
         CelType::Never => out.push_str("never"),
         CelType::Null => out.push_str("null"),
@@ -65,20 +67,31 @@ fn put_type(out: &mut String, cel_type: &CelType) -> Result<(), AllocError> {
         CelType::Text { max } => write!(out, "text<={max}"),
         CelType::List { max, plain, item } => {
             let kind = if *plain { "list" } else { "set" };
-            write!(out, "{kind}<={max} ")?;
-            put_type(out, item.get())
+            let front = write!(out, "{kind}<={max} ");
+            put_behind(out, front, item.get())
         }
         CelType::Map { max, key_max, item } => {
-            write!(out, "map<={max} text<={key_max} ")?;
-            put_type(out, item.get())
+            let front = write!(out, "map<={max} text<={key_max} ");
+            put_behind(out, front, item.get())
         }
         CelType::Object { fields } => put_fields(out, fields.get()),
         CelType::Nullable(item) => {
-            out.push_str("nullable ")?;
-            put_type(out, item.get())
+            let front = out.push_str("nullable ");
+            put_behind(out, front, item.get())
         }
         CelType::Opaque => out.push_str("opaque"),
     }
+}
+
+/// Writes a type behind its front, where that was written.
+#[cycle(put_type)]
+fn put_behind(
+    out: &mut String,
+    front: Result<(), AllocError>,
+    item: &CelType,
+) -> Result<(), AllocError> {
+    front?;
+    put_type(out, item)
 }
 
 #[cycle(put_type)]

@@ -1,9 +1,8 @@
 //! The tokens of texts, and the faults of texts that are not cut.
 
-use crate::asked::{Asked, hold, holds};
+use crate::asked::{Asked, hold, holds, repeated};
 use cel_lex::{Infix, LexError, Token, TokenKind, one_answer, text_closing, text_meaning, tokens};
 use std::alloc::{AllocError, Global};
-use std::test::Fail;
 
 fn infix_name(operator: Infix) -> &'static str {
     match operator {
@@ -44,16 +43,16 @@ fn mark_name(kind: &TokenKind) -> &'static str {
     }
 }
 
-/// What a token with these bytes is, in words.
-fn described(alloc: Global, kind: &TokenKind, word: &str) -> Result<String, AllocError> {
+/// Writes what a token with these bytes is, in words.
+fn put_kind(out: &mut String, kind: &TokenKind, word: &str) -> Result<(), AllocError> {
     match kind {
-        TokenKind::Int(n) => format!(in alloc; "int {n}"),
-        TokenKind::Uint(n) => format!(in alloc; "uint {n}"),
-        TokenKind::Text(text) => format!(in alloc; "text {}", text.as_str()),
-        TokenKind::Name => format!(in alloc; "name {word}"),
-        TokenKind::Reserved => format!(in alloc; "reserved {word}"),
-        TokenKind::Operator(operator) => String::from_str(alloc, infix_name(*operator)),
-        other => String::from_str(alloc, mark_name(other)),
+        TokenKind::Int(n) => write!(out, "int {n}"),
+        TokenKind::Uint(n) => write!(out, "uint {n}"),
+        TokenKind::Text(text) => write!(out, "text {}", text.as_str()),
+        TokenKind::Name => write!(out, "name {word}"),
+        TokenKind::Reserved => write!(out, "reserved {word}"),
+        TokenKind::Operator(operator) => out.push_str(infix_name(*operator)),
+        other => out.push_str(mark_name(other)),
     }
 }
 
@@ -62,8 +61,8 @@ fn cut(alloc: Global, text: &str, found: &[Token]) -> Result<String, AllocError>
     let mut out = String::new(alloc);
     for token in found {
         let word = text.get(token.start..token.end).unwrap_or("");
-        let kind = described(alloc, &token.kind, word)?;
-        write!(out, "{kind} {}..{};", token.start, token.end)?;
+        put_kind(&mut out, &token.kind, word)?;
+        write!(out, " {}..{};", token.start, token.end)?;
     }
     Ok(out)
 }
@@ -97,8 +96,8 @@ const NUMBERS: [(&str, &str); 16] = [
 ];
 
 #[test]
-fn numbers(rt: HostRuntime) -> Result<(), Fail> {
-    hold(&rt, Asked::Tokens, &NUMBERS)
+fn numbers(rt: HostRuntime) {
+    hold(&rt, Asked::Tokens, &NUMBERS);
 }
 
 const WORDS: [(&str, &str); 14] = [
@@ -141,9 +140,9 @@ const WORDS: [(&str, &str); 14] = [
 ];
 
 #[test]
-fn words_and_symbols(rt: HostRuntime) -> Result<(), Fail> {
+fn words_and_symbols(rt: HostRuntime) {
     one_answer();
-    hold(&rt, Asked::Tokens, &WORDS)
+    hold(&rt, Asked::Tokens, &WORDS);
 }
 
 const TEXTS: [(&str, &str); 18] = [
@@ -171,10 +170,10 @@ const TEXTS: [(&str, &str); 18] = [
 ];
 
 #[test]
-fn literal_texts(rt: HostRuntime) -> Result<(), Fail> {
+fn literal_texts(rt: HostRuntime) {
     text_meaning();
     text_closing();
-    hold(&rt, Asked::Tokens, &TEXTS)
+    hold(&rt, Asked::Tokens, &TEXTS);
 }
 
 const FAULTS: [(&str, &str); 25] = [
@@ -206,22 +205,18 @@ const FAULTS: [(&str, &str); 25] = [
 ];
 
 #[test]
-fn faulty_texts(rt: HostRuntime) -> Result<(), Fail> {
-    hold(&rt, Asked::Tokens, &FAULTS)
+fn faulty_texts(rt: HostRuntime) {
+    hold(&rt, Asked::Tokens, &FAULTS);
 }
 
 /// Whether so many spaces are no token, or too long.
 fn is_blank(alloc: Global, count: usize, wanted: &str) -> Result<bool, AllocError> {
-    let mut text = String::new(alloc);
-    for _ in 0..count {
-        text.push(' ')?;
-    }
+    let text = repeated(alloc, count, " ", "", "")?;
     holds(alloc, Asked::Tokens, text.as_str(), wanted)
 }
 
 #[test]
-fn long_texts(rt: HostRuntime) -> Result<(), Fail> {
-    assert!(rt; is_blank(rt.alloc(), 16384, "")?);
-    assert!(rt; is_blank(rt.alloc(), 16385, "TooLong at 0")?);
-    Ok(())
+fn long_texts(rt: HostRuntime) {
+    assert!(rt; matches!(is_blank(rt.alloc(), 16384, ""), Ok(true)));
+    assert!(rt; matches!(is_blank(rt.alloc(), 16385, "TooLong at 0"), Ok(true)));
 }

@@ -1,11 +1,11 @@
 //! The trees of texts. Each is written by hand from the grammar: a node as its label with its place, then the nodes
 //! inside, each behind a space and in brackets.
 
-use cel_parse::{BinaryOperator, Entry, Expr, Loop, Syntax, UnaryOperator, one_expression, parse};
-use plain::Boxed;
+use crate::asked::{Asked, hold, repeated, unreadable};
+use cel_parse::{
+    BinaryOperator, Entry, Expr, Loop, ParseError, Syntax, UnaryOperator, one_expression, parse,
+};
 use std::alloc::{AllocError, Global};
-use std::process::Abort;
-use std::test::Fail;
 
 fn unary_of(operator: UnaryOperator) -> &'static str {
     match operator {
@@ -82,85 +82,91 @@ fn name(form: &Syntax<Expr>) -> &str {
 }
 
 // What a node is called, without what is inside.
-fn label(alloc: Global, expr: &Expr) -> Result<String, AllocError> {
+fn write_label(out: &mut String, expr: &Expr) -> Result<(), AllocError> {
     let place = expr.place;
     match &expr.form {
-        Syntax::Int(value) => format!(in alloc; "{value}@{place}"),
-        Syntax::Uint(value) => format!(in alloc; "{value}u@{place}"),
-        form => format!(in alloc; "{}{}@{place}", front(form), name(form)),
+        Syntax::Int(value) => write!(out, " ({value}@{place}"),
+        Syntax::Uint(value) => write!(out, " ({value}u@{place}"),
+        form => write!(out, " ({}{}@{place}", front(form), name(form)),
     }
 }
 
-fn write_label(out: &mut String, alloc: Global, expr: &Expr) -> Result<(), AllocError> {
-    let name = label(alloc, expr)?;
-    out.push_str(" (")?;
-    out.push_str(name.as_str())
-}
-
 #[cycle(shown)]
-fn write_each(out: &mut String, alloc: Global, items: &[Expr]) -> Result<(), AllocError> {
+fn write_each(out: &mut String, items: &[Expr]) -> Result<(), AllocError> {
     for item in items {
-        write_shown(out, alloc, item)?;
+        write_shown(out, item)?;
     }
     Ok(())
 }
 
+// Writes a node behind what stands before it, where that was written.
 #[cycle(shown)]
-fn write_entries(
+fn write_behind(
     out: &mut String,
-    alloc: Global,
-    entries: &[Entry<Expr>],
+    front: Result<(), AllocError>,
+    expr: &Expr,
 ) -> Result<(), AllocError> {
+    front?;
+    write_shown(out, expr)
+}
+
+#[cycle(shown)]
+fn write_entries(out: &mut String, entries: &[Entry<Expr>]) -> Result<(), AllocError> {
     for entry in entries {
-        write_shown(out, alloc, &entry.key)?;
-        write_shown(out, alloc, &entry.value)?;
+        let key = write_shown(out, &entry.key);
+        write_behind(out, key, &entry.value)?;
     }
     Ok(())
 }
 
 #[cycle(shown)]
-fn write_shown(out: &mut String, alloc: Global, expr: &Expr) -> Result<(), AllocError> {
-    write_label(out, alloc, expr)?;
-    match &expr.form {
+fn write_shown(out: &mut String, expr: &Expr) -> Result<(), AllocError> {
+    write_label(out, expr)?;
+    let inside = match &expr.form {
         Syntax::Null
         | Syntax::Bool(_)
         | Syntax::Int(_)
         | Syntax::Uint(_)
         | Syntax::Text(_)
-        | Syntax::Name(_) => {}
-        Syntax::Select(a, _) | Syntax::Has(a, _) | Syntax::Unary(_, a) => {
-            write_shown(out, alloc, a.get())?;
-        }
-        Syntax::Call(_, items) | Syntax::List(items) => {
-            write_each(out, alloc, items.as_slice())?;
-        }
+        | Syntax::Name(_) => Ok(()),
+        Syntax::Select(a, _) | Syntax::Has(a, _) | Syntax::Unary(_, a) => write_shown(out, a.get()),
+        Syntax::Call(_, items) | Syntax::List(items) => write_each(out, items.as_slice()),
         Syntax::Method(a, _, items) => {
-            write_shown(out, alloc, a.get())?;
-            write_each(out, alloc, items.as_slice())?;
+            write_shown(out, a.get())?;
+            write_each(out, items.as_slice())
         }
-        Syntax::Map(entries) => write_entries(out, alloc, entries.as_slice())?,
+        Syntax::Map(entries) => write_entries(out, entries.as_slice()),
         Syntax::Index(a, b)
         | Syntax::Binary(_, a, b)
         | Syntax::And(a, b)
         | Syntax::Or(a, b)
         | Syntax::Loop(_, a, _, b) => {
-            write_shown(out, alloc, a.get())?;
-            write_shown(out, alloc, b.get())?;
+            let left = write_shown(out, a.get());
+            write_behind(out, left, b.get())
         }
         Syntax::Conditional(a, b, c) | Syntax::MapWhere(a, _, b, c) => {
-            write_shown(out, alloc, a.get())?;
-            write_shown(out, alloc, b.get())?;
-            write_shown(out, alloc, c.get())?;
+            let first = write_shown(out, a.get());
+            let second = write_behind(out, first, b.get());
+            write_behind(out, second, c.get())
         }
-    }
+    };
+    inside?;
     out.push_str(")")
 }
 
-fn shown(alloc: Global, text: &str) -> Result<String, Fail> {
-    let expr = Boxed::new(alloc, parse(alloc, text)?)?;
+fn tree(alloc: Global, expr: &Expr) -> Result<String, AllocError> {
     let mut out = String::new(alloc);
-    write_shown(&mut out, alloc, expr.get())?;
+    write_shown(&mut out, expr)?;
     Ok(out)
+}
+
+/// The tree of a text.
+pub fn shown(alloc: Global, text: &str) -> Result<String, AllocError> {
+    match &parse(alloc, text) {
+        Ok(expr) => tree(alloc, expr),
+        Err(ParseError::Fault(_)) => unreadable(alloc),
+        Err(ParseError::OutOfMemory) => Err(AllocError),
+    }
 }
 
 // How many brackets of a shown tree are open at once, at most: a node has a pair of its own round those inside.
@@ -178,43 +184,13 @@ fn depth(shown: &str) -> usize {
     most
 }
 
-// So many copies of a front, a middle, and as many copies of a back.
-fn repeated(
+fn is_as_deep(
     alloc: Global,
-    count: usize,
-    front: &str,
-    middle: &str,
-    back: &str,
-) -> Result<String, Fail> {
-    let mut text = String::new(alloc);
-    for _i in 0..count {
-        text.push_str(front)?;
-    }
-    text.push_str(middle)?;
-    for _i in 0..count {
-        text.push_str(back)?;
-    }
-    Ok(text)
-}
-
-fn depth_of(
-    alloc: Global,
-    count: usize,
-    front: &str,
-    middle: &str,
-    back: &str,
-) -> Result<usize, Fail> {
-    let text = repeated(alloc, count, front, middle, back)?;
-    let tree = shown(alloc, text.as_str())?;
-    Ok(depth(tree.as_str()))
-}
-
-fn are_shown(rt: &impl Abort, alloc: Global, rows: &[(&str, &str)]) -> Result<(), Fail> {
-    for &(text, tree) in rows {
-        let own = shown(alloc, text)?;
-        assert_eq!(rt; own.as_str(), tree, "{text}");
-    }
-    Ok(())
+    text: Result<String, AllocError>,
+    deep: usize,
+) -> Result<bool, AllocError> {
+    let tree = shown(alloc, text?.as_str())?;
+    Ok(depth(tree.as_str()) == deep)
 }
 
 static TREES: [(&str, &str); 31] = [
@@ -264,8 +240,8 @@ static TREES: [(&str, &str); 31] = [
 ];
 
 #[test]
-fn a_tree_is_the_grammars(rt: HostRuntime) -> Result<(), Fail> {
-    are_shown(&rt, rt.alloc(), &TREES)
+fn a_tree_is_the_grammars(rt: HostRuntime) {
+    hold(&rt, Asked::Tree, &TREES);
 }
 
 static NUMBERS: [(&str, &str); 6] = [
@@ -278,8 +254,8 @@ static NUMBERS: [(&str, &str); 6] = [
 ];
 
 #[test]
-fn a_number_is_one_node(rt: HostRuntime) -> Result<(), Fail> {
-    are_shown(&rt, rt.alloc(), &NUMBERS)
+fn a_number_is_one_node(rt: HostRuntime) {
+    hold(&rt, Asked::Tree, &NUMBERS);
 }
 
 static MACROS: [(&str, &str); 14] = [
@@ -300,8 +276,8 @@ static MACROS: [(&str, &str); 14] = [
 ];
 
 #[test]
-fn macros_are_expanded(rt: HostRuntime) -> Result<(), Fail> {
-    are_shown(&rt, rt.alloc(), &MACROS)
+fn macros_are_expanded(rt: HostRuntime) {
+    hold(&rt, Asked::Tree, &MACROS);
 }
 
 static DEEPEST: [(usize, &str, &str, &str, usize); 17] = [
@@ -326,12 +302,14 @@ static DEEPEST: [(usize, &str, &str, &str, usize); 17] = [
 
 // The texts with one copy more are too deep: they stand in tests/vectors/eval-rows.jsonl.
 #[test]
-fn trees_are_at_most_100_deep(rt: HostRuntime) -> Result<(), Fail> {
+fn trees_are_at_most_100_deep(rt: HostRuntime) {
     for &(count, front, middle, back, deep) in &DEEPEST {
-        let own = depth_of(rt.alloc(), count, front, middle, back)?;
-        assert_eq!(rt; own, deep, "{count} {front}{back}");
+        let text = repeated(rt.alloc(), count, front, middle, back);
+        assert!(rt;
+            matches!(is_as_deep(rt.alloc(), text, deep), Ok(true)),
+            "{count} {front}{back}"
+        );
     }
-    Ok(())
 }
 
 #[test]

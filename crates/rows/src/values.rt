@@ -9,7 +9,6 @@ use cel_value::{
 };
 use serde_json::Value as Json;
 use std::alloc::{AllocError, Global};
-use std::test::Fail;
 use vap_schema::{FitError, fit};
 
 /// The types that are written.
@@ -181,8 +180,8 @@ const WEIGHTS: [(&str, &str); 11] = [
 ];
 
 #[test]
-fn types_allow_their_greatest_weight(rt: HostRuntime) -> Result<(), Fail> {
-    hold(&rt, Asked::Types, &WEIGHTS)
+fn types_allow_their_greatest_weight(rt: HostRuntime) {
+    hold(&rt, Asked::Types, &WEIGHTS);
 }
 
 const JOINS: [(&str, &str); 15] = [
@@ -222,9 +221,9 @@ const JOINS: [(&str, &str); 15] = [
 ];
 
 #[test]
-fn a_join_is_given_by_the_first_rule_that_fits(rt: HostRuntime) -> Result<(), Fail> {
+fn a_join_is_given_by_the_first_rule_that_fits(rt: HostRuntime) {
     join_rules();
-    hold(&rt, Asked::Types, &JOINS)
+    hold(&rt, Asked::Types, &JOINS);
 }
 
 const LISTS: [(&str, &str); 6] = [
@@ -255,8 +254,8 @@ const LISTS: [(&str, &str); 6] = [
 ];
 
 #[test]
-fn a_join_of_lists_is_plain_only_if_both_are(rt: HostRuntime) -> Result<(), Fail> {
-    hold(&rt, Asked::Types, &LISTS)
+fn a_join_of_lists_is_plain_only_if_both_are(rt: HostRuntime) {
+    hold(&rt, Asked::Types, &LISTS);
 }
 
 const OBJECTS: [(&str, &str); 9] = [
@@ -281,8 +280,8 @@ const OBJECTS: [(&str, &str); 9] = [
 ];
 
 #[test]
-fn a_join_of_objects_goes_field_by_field(rt: HostRuntime) -> Result<(), Fail> {
-    hold(&rt, Asked::Types, &OBJECTS)
+fn a_join_of_objects_goes_field_by_field(rt: HostRuntime) {
+    hold(&rt, Asked::Types, &OBJECTS);
 }
 
 const NULLABLES: [(&str, &str); 13] = [
@@ -320,8 +319,8 @@ const NULLABLES: [(&str, &str); 13] = [
 ];
 
 #[test]
-fn a_join_goes_on_inside_nullables(rt: HostRuntime) -> Result<(), Fail> {
-    hold(&rt, Asked::Types, &NULLABLES)
+fn a_join_goes_on_inside_nullables(rt: HostRuntime) {
+    hold(&rt, Asked::Types, &NULLABLES);
 }
 
 const VALUES: [(&str, &str); 18] = [
@@ -391,8 +390,8 @@ const VALUES: [(&str, &str); 18] = [
 ];
 
 #[test]
-fn a_value_weighs_by_code_points_and_fits_within_its_limits(rt: HostRuntime) -> Result<(), Fail> {
-    hold(&rt, Asked::Values, &VALUES)
+fn a_value_weighs_by_code_points_and_fits_within_its_limits(rt: HostRuntime) {
+    hold(&rt, Asked::Values, &VALUES);
 }
 
 const FIELDS: [(&str, &str); 9] = [
@@ -435,8 +434,8 @@ const FIELDS: [(&str, &str); 9] = [
 ];
 
 #[test]
-fn an_object_has_its_required_fields_and_no_others(rt: HostRuntime) -> Result<(), Fail> {
-    hold(&rt, Asked::Values, &FIELDS)
+fn an_object_has_its_required_fields_and_no_others(rt: HostRuntime) {
+    hold(&rt, Asked::Values, &FIELDS);
 }
 
 const EQUALITIES: [(&str, &str); 11] = [
@@ -463,8 +462,8 @@ const EQUALITIES: [(&str, &str); 11] = [
 ];
 
 #[test]
-fn what_is_equal_has_one_kind_and_content(rt: HostRuntime) -> Result<(), Fail> {
-    hold(&rt, Asked::Values, &EQUALITIES)
+fn what_is_equal_has_one_kind_and_content(rt: HostRuntime) {
+    hold(&rt, Asked::Values, &EQUALITIES);
 }
 
 /// The same of the unsigned value 7, which no document has.
@@ -479,9 +478,9 @@ const UNSIGNED: [(&str, &str); 2] = [
 ];
 
 #[test]
-fn an_unsigned_value_is_no_int(rt: HostRuntime) -> Result<(), Fail> {
+fn an_unsigned_value_is_no_int(rt: HostRuntime) {
     assert!(rt; !equal(&Value::Int(7), &Value::Uint(7)));
-    hold(&rt, Asked::Unsigned, &UNSIGNED)
+    hold(&rt, Asked::Unsigned, &UNSIGNED);
 }
 
 #[test]
@@ -508,9 +507,8 @@ fn are_copied_and_joined(alloc: Global) -> Result<bool, AllocError> {
 }
 
 #[test]
-fn copies_and_joins_are_made(rt: HostRuntime) -> Result<(), Fail> {
-    assert!(rt; are_copied_and_joined(rt.alloc())?);
-    Ok(())
+fn copies_and_joins_are_made(rt: HostRuntime) {
+    assert!(rt; matches!(are_copied_and_joined(rt.alloc()), Ok(true)));
 }
 
 #[test]
