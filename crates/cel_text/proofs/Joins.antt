@@ -1,0 +1,79 @@
+-- Texts in a row: what is still to come behind those that stand there, and how long the whole is.
+use Rattle.std.proofs.Common.{◌≡◌, ◌+◌, ◌-◌, ◌*◌, ℕ, suc, List, [], ◌∷◌, ◌++◌, length, ap, sym, ◌∙◌, refl, arith, append_assoc, append-nil, inl, inr, suc-mul, ◌⊎◌}
+use Rattle.std.proofs.Common.{Option, Some, None}
+use Rattle.std.proofs.lemmas.List.Sums.{sum_by-cons}
+use Rattle.std.specs.List.{flat_map, join_by, sum_by}
+use Rattle.std.specs.Option.{option_map}
+use Rattle.cel_value.specs.declared.value.Value.{Value, out-Value}
+use Rattle.cel_value.specs.declared.value.Value.TheOpen.{Value-F}
+use Rattle.cel_value.specs.Value.{code_points, length_of, length_at}
+use Rattle.cel_value.proofs.CodePoints.{code_points-append}
+use Rattle.cel_text.specs.Joined.{text_at, text_of, texts_of, joined}
+
+-- the text that stands there, and the others behind it, each behind a separator
+abbrev pub more : List ℕ → List ℕ → List Value → Option (List ℕ)
+more separator text vs = option_map (λ ts. text ++ flat_map (λ t. separator ++ t) ts) (texts_of vs)
+
+pub joined_first : (separator text : List ℕ) (v : Value) (vs : List Value) → text_of v ≡ Some text → joined separator (v ∷ vs) ≡ more separator text vs
+joined_first separator text v vs e = rw e (by (texts_of vs))
+  where
+    by : (o : Option (List (List ℕ))) → option_map (λ ts. join_by (λ t. t) separator ts) (option_map (λ ts. text ∷ ts) o) ≡ option_map (λ ts. text ++ flat_map (λ t. separator ++ t) ts) o
+    by None = refl
+    by (Some ts) = refl
+
+pub joined_no_text : (separator : List ℕ) (v : Value) (vs : List Value) → text_of v ≡ None → joined separator (v ∷ vs) ≡ None
+joined_no_text separator v vs e = rw e refl
+
+pub more_next : (separator made text : List ℕ) (v : Value) (vs : List Value) → text_of v ≡ Some text → more separator made (v ∷ vs) ≡ more separator ((made ++ separator) ++ text) vs
+more_next separator made text v vs e = rw e (by (texts_of vs))
+  where
+    by : (o : Option (List (List ℕ))) → option_map (λ ts. made ++ flat_map (λ t. separator ++ t) ts) (option_map (λ ts. text ∷ ts) o) ≡ option_map (λ ts. ((made ++ separator) ++ text) ++ flat_map (λ t. separator ++ t) ts) o
+    by None = refl
+    by (Some ts) = ap Some (simp append_assoc)
+
+pub more_no_text : (separator made : List ℕ) (v : Value) (vs : List Value) → text_of v ≡ None → more separator made (v ∷ vs) ≡ None
+more_no_text separator made v vs e = rw e refl
+
+pub more_none : (separator made : List ℕ) → more separator made [] ≡ Some made
+more_none separator made = ap Some (append-nil made)
+
+-- the length of a value that is a text
+length_at_text : (p : Value-F Value) (text : List ℕ) → text_at p ≡ Some text → length_at p ≡ code_points text
+length_at_text (Value-F.Text bs) text e = let same : bs ≡ text = cc in ap code_points same
+length_at_text Value-F.Null text e = absurd (cc)
+length_at_text (Value-F.Bool b) text e = absurd (cc)
+length_at_text (Value-F.Int n) text e = absurd (cc)
+length_at_text (Value-F.Uint n) text e = absurd (cc)
+length_at_text (Value-F.List vs) text e = absurd (cc)
+length_at_text (Value-F.Map es) text e = absurd (cc)
+length_at_text (Value-F.Object es) text e = absurd (cc)
+length_at_text Value-F.Opaque text e = absurd (cc)
+
+option_cases : {A : Type 0} (o : Option A) → (o ≡ None) ⊎ ((x : A) × (o ≡ Some x))
+option_cases None = inl refl
+option_cases (Some x) = inr (x, refl)
+
+more_length : (separator made : List ℕ) (vs : List Value) (text : List ℕ) → more separator made vs ≡ Some text
+    → code_points text ≡ code_points made + (sum_by length_of vs + length vs * code_points separator)
+more_length separator made [] text e =
+    let same : text ≡ made = (let f = more_none separator made in cc) in
+    rw same (omega arith)
+more_length separator made (v ∷ vs) text e = elim (option_cases (text_of v)) [
+  | inl h ↦ absurd (let f = more_no_text separator made v vs h in cc)
+  | inr h ↦
+      let rest = more_length separator ((made ++ separator) ++ h.0) vs text (sym (more_next separator made h.0 v vs h.1) ∙ e) in
+      let long : length_of v ≡ code_points h.0 = length_at_text (out-Value v) h.0 h.1 in
+      omega (arith, rest, long, sum_by-cons length_of v vs, code_points-append (made ++ separator) h.0, code_points-append made separator, suc-mul (length vs) (code_points separator))
+]
+
+pub joined_length : (separator : List ℕ) (vs : List Value) (text : List ℕ) → joined separator vs ≡ Some text
+    → code_points text ≡ sum_by length_of vs + (length vs - 1) * code_points separator
+joined_length separator [] text e = let same : text ≡ [] = cc in rw same (omega arith)
+joined_length separator (v ∷ vs) text e = elim (option_cases (text_of v)) [
+  | inl h ↦ absurd (let f = joined_no_text separator v vs h in cc)
+  | inr h ↦
+      let rest = more_length separator h.0 vs text (sym (joined_first separator h.0 v vs h.1) ∙ e) in
+      let long : length_of v ≡ code_points h.0 = length_at_text (out-Value v) h.0 h.1 in
+      let behind : length (v ∷ vs) - 1 ≡ length vs = omega arith in
+      omega (arith, rest, long, sum_by-cons length_of v vs, ap (λ n. n * code_points separator) behind)
+]
