@@ -1,6 +1,7 @@
 -- Texts in a row: what is still to come behind those that stand there, and how long the whole is.
-use Rattle.std.proofs.Common.{◌≡◌, ◌+◌, ◌-◌, ◌*◌, ℕ, List, [], ◌∷◌, ◌++◌, length, ap, sym, ◌∙◌, refl, arith, append_assoc, append-nil, inl, inr, suc-mul, ◌⊎◌}
+use Rattle.std.proofs.Common.{◌≡◌, ◌+◌, ◌-◌, ◌*◌, ◌<◌, ◌≤◌, ℕ, List, [], ◌∷◌, ◌++◌, length, take, drop, get_or, take_all, ap, sym, ◌∙◌, refl, arith, append_assoc, append-nil, inl, inr, suc-mul, ◌⊎◌}
 use Rattle.std.proofs.Common.{Option, Some, None}
+use Rattle.std.proofs.lemmas.List.{at_drop_more, at_drop_all}
 use Rattle.std.proofs.lemmas.List.Sums.{sum_by-cons}
 use Rattle.std.specs.List.{flat_map, join_by, sum_by}
 use Rattle.std.specs.Option.{option_map}
@@ -36,6 +37,24 @@ more_no_text separator made v vs e = rw e refl
 
 pub more_none : (separator made : List ℕ) → more separator made [] ≡ Some made
 more_none separator made = ap Some (append-nil made)
+
+-- one more text, at a place of those to come
+pub more_step : (separator made next text : List ℕ) (vs : List Value) (i : ℕ) (d : Value) → i < length vs → text_of (get_or vs i d) ≡ Some text
+    → next ≡ (made ++ separator) ++ text → more separator next (drop (i + 1) vs) ≡ more separator made (drop i vs)
+more_step separator made next text vs i d within t e =
+    ap (λ l. more separator l (drop (i + 1) vs)) e ∙ sym (more_next separator made text (get_or vs i d) (drop (i + 1) vs) t) ∙ sym (at_drop_more (more separator made) vs i d within)
+
+-- none are left to come
+pub more_end : (separator made : List ℕ) (vs : List Value) (i : ℕ) → length vs ≤ i → more separator made (drop i vs) ≡ Some made
+more_end separator made vs i past = at_drop_all (more separator made) vs i past ∙ more_none separator made
+
+-- the first text, and those behind it
+pub joined_opened : (separator text : List ℕ) (vs : List Value) (d : Value) → 1 ≤ length vs → text_of (get_or vs 0 d) ≡ Some text
+    → joined separator vs ≡ more separator text (take (length vs - 1) (drop 1 vs))
+joined_opened separator text [] d some t = absurd (omega arith)
+joined_opened separator text (v ∷ vs) d some t =
+    let one_less : length (v ∷ vs) - 1 ≡ length vs = omega arith in
+    joined_first separator text v vs t ∙ ap (more separator text) (sym (ap (λ n. take n vs) one_less ∙ take_all (length vs) vs (omega arith)))
 
 -- the length of a value that is a text
 length_at_text : (p : Value-F Value) (text : List ℕ) → text_at p ≡ Some text → length_at p ≡ code_points text
