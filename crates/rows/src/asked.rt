@@ -1,6 +1,6 @@
 //! Tables of rows, each a question with its answer.
 
-use crate::{containers, images, operands, overloads, schemas, tokens, trees, values};
+use crate::{containers, images, operands, overloads, schemas, texts, tokens, trees, values};
 use cel_check::Operator;
 use std::alloc::{AllocError, Global};
 use std::process::Abort;
@@ -21,6 +21,11 @@ pub enum Asked {
     Schema,
     /// A document at this schema, with the name of its root.
     Document(&'static str, &'static str),
+    Parts,
+    Letters,
+    Read,
+    Printed,
+    Joined,
     Tokens,
     Tree,
     Image,
@@ -71,6 +76,11 @@ fn answer(alloc: Global, asked: Asked, row: &str) -> Result<String, AllocError> 
         Asked::Fields => operands::fields(alloc, row),
         Asked::Schema => schemas::schema(alloc, row),
         Asked::Document(schema, root) => schemas::document(alloc, schema, root, row),
+        Asked::Parts => texts::parts(alloc, row),
+        Asked::Letters => texts::letters(alloc, row),
+        Asked::Read => texts::read(alloc, row),
+        Asked::Printed => texts::printed(alloc, row),
+        Asked::Joined => texts::row_of(alloc, row),
         Asked::Tokens => tokens::shown(alloc, row),
         Asked::Tree => trees::shown(alloc, row),
         Asked::Image => images::image(alloc, row),

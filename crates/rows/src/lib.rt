@@ -30,6 +30,8 @@ mod schemas;
 #[cfg(test)]
 mod shown;
 #[cfg(test)]
+mod texts;
+#[cfg(test)]
 mod tokens;
 #[cfg(test)]
 mod trees;
