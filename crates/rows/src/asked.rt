@@ -1,6 +1,6 @@
 //! Tables of rows, each a question with its answer.
 
-use crate::{containers, names, operands, overloads, schemas, tokens, values};
+use crate::{containers, names, operands, overloads, patterns, schemas, tokens, values};
 use cel_check::Operator;
 use std::alloc::{AllocError, Global};
 use std::process::Abort;
@@ -23,6 +23,9 @@ pub enum Asked {
     /// A document at this schema, with the name of its root.
     Document(&'static str, &'static str),
     Tokens,
+    Finds,
+    Nested,
+    Choice,
     Names,
     Roles,
     /// The type of this operator's answer.
@@ -50,6 +53,9 @@ fn answer(alloc: Global, asked: Asked, row: &str) -> Result<String, AllocError> 
         Asked::Schema => schemas::schema(alloc, row),
         Asked::Document(schema, root) => schemas::document(alloc, schema, root, row),
         Asked::Tokens => tokens::shown(alloc, row),
+        Asked::Finds => patterns::finds(alloc, row),
+        Asked::Nested => patterns::nested(alloc, row),
+        Asked::Choice => patterns::choice(alloc, row),
         Asked::Names => names::names(alloc, row),
         Asked::Roles => overloads::roles(alloc, row),
         Asked::Answered(operator) => overloads::answered(alloc, operator, row),
