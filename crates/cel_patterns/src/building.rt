@@ -5,6 +5,7 @@ ghost use Rattle.regex.specs.Sources.{IsRefusal};
 ghost use Rattle.regex.specs.Failures.{IsRightKind};
 ghost use Rattle.cel_patterns.specs.Meaning.{tree_of};
 ghost use Rattle.cel_patterns.specs.Building.{IsRegexOf, IsProgramOf, IsReason};
+ghost use Rattle.cel_patterns.specs.declared.unbuilt.Unbuilt.TheVariants.{OutOfMemory};
 
 use crate::Unbuilt;
 use regex::{Error, Regex};
@@ -29,7 +30,8 @@ pub fn regex_of(alloc: Global, text: &str) -> Result<Regex, Unbuilt>
 
 /// Why `regex` refused a text.
 fn refused(error: Error) -> Unbuilt
-    ensures { (text : List ℕ) → IsRefusal default_config text error → IsRightKind default_config text error → IsReason text result }
+    ensures memory { result ≡ OutOfMemory → error ≡ Error.OutOfMemory }
+    ensures reason { (text : List ℕ) → IsRefusal default_config text error → IsRightKind default_config text error → IsReason text result }
 {
     match error {
         Error::OutOfMemory => Unbuilt::OutOfMemory,
@@ -63,7 +65,8 @@ pub fn program_of(alloc: Global, text: &str) -> Result<Program, Unbuilt>
 
 /// Why a text was not read.
 fn unread(kind: ErrorKind) -> Unbuilt
-    ensures { (text : List ℕ) → Refuses default_config text kind → IsReason text result }
+    ensures memory { result ≡ OutOfMemory → kind ≡ ErrorKind.OutOfMemory }
+    ensures reason { (text : List ℕ) → Refuses default_config text kind → IsReason text result }
 {
     match kind {
         ErrorKind::OutOfMemory => Unbuilt::OutOfMemory,

@@ -146,7 +146,7 @@ const REFUSED: [(&str, &str); 22] = [
     ("[b-a] on a", "no pattern"),
     ("* on *", "no pattern"),
     ("+a on a", "no pattern"),
-    ("(?) on a", "no pattern"),
+    ("(?-)a on a", "no pattern"),
     ("a|* on a", "no pattern"),
     ("a{2,1} on a", "no pattern"),
     (r"\ on \", "no pattern"),

@@ -7,4 +7,4 @@ returns-in-Ok-clause-refused c =
     c.program_from.ensures.refused text (is_pattern text c.in-Ok.parsed.hir _ (rw c.default.ensures at c.in-Ok.ensures.ok))
 
 pub returns-in-Err-clause-refused : goal.returns-in-Err-clause-refused
-returns-in-Err-clause-refused c = c.unread.ensures c.args.text.now (rw c.default.ensures at c.in-Err.ensures.err)
+returns-in-Err-clause-refused c = c.unread.ensures.reason c.args.text.now (rw c.default.ensures at c.in-Err.ensures.err)

@@ -1,4 +1,4 @@
-use Rattle.cel_patterns.proofs.Kept.{honest}
+use Rattle.cel_patterns.proofs.Asked.{honest}
 use Rattle.cel_patterns.proofs.patterns.Patterns.choice.Goals as goal
 
 pub returns-clause-honours : goal.returns-clause-honours

@@ -2,7 +2,7 @@ use Rattle.std.proofs.Common.{IsSome, string_bytes}
 use Rattle.std.specs.BTreeMap.{get_by_text}
 use Rattle.std.proofs.lemmas.Map.Text.{btree_map_updates_text}
 use Rattle.cel_patterns.specs.Meaning.{tree_of}
-use Rattle.cel_patterns.proofs.Kept.{absent, at_key, either_way, kept_yes, one_more, stays}
+use Rattle.cel_patterns.proofs.Asked.{absent, at_key, either_way, kept_yes, one_more, stays}
 use Rattle.cel_patterns.proofs.patterns.Patterns.keep_built.Goals as goal
 
 pub invariant_of-self : goal.invariant_of-self

@@ -4,7 +4,7 @@ use Rattle.std.specs.Str.{bytes_eq}
 use Rattle.std.proofs.lemmas.Map.Text.{btree_map_updates_text}
 use Rattle.std.proofs.lemmas.List.{map-append}
 use Rattle.std.proofs.lemmas.List.Folds.{list_any-append}
-use Rattle.cel_patterns.proofs.Kept.{absent, kept_no, no_more, stays}
+use Rattle.cel_patterns.proofs.Asked.{absent, kept_no, no_more, stays}
 use Rattle.cel_patterns.proofs.patterns.Patterns.keep_refused.Goals as goal
 
 pub invariant_of-self-2 : goal.invariant_of-self-2
