@@ -23,27 +23,31 @@ fn answer(
     }
 }
 
-/// What matchers answer to questions that are asked one after another, with ";" between them.
-pub fn finds(alloc: Global, row: &str) -> Result<String, AllocError> {
-    let mut matchers = Matchers::new(alloc);
+/// What these matchers answer to questions that are asked one after another.
+fn answers(alloc: Global, matchers: &mut Matchers, questions: &str) -> Result<String, AllocError> {
     let mut out = String::new(alloc);
-    for question in row.split(';') {
+    for question in questions.split(';') {
         let Some((pattern, text)) = question.split_once(" on ") else {
             return unreadable(alloc);
         };
         if !out.is_empty() {
             out.push_str("; ")?;
         }
-        out.push_str(answer(alloc, &mut matchers, pattern, text)?)?;
+        out.push_str(answer(alloc, matchers, pattern, text)?)?;
     }
     Ok(out)
 }
 
+/// What new matchers answer to questions that are asked one after another, with ";" between them.
+pub fn finds(alloc: Global, row: &str) -> Result<String, AllocError> {
+    let mut matchers = Matchers::new(alloc);
+    answers(alloc, &mut matchers, row)
+}
+
 /// What is answered for each of these words, and the choice when all are answered.
-pub fn choice(alloc: Global, row: &str) -> Result<String, AllocError> {
-    let mut patterns = Patterns::new(alloc);
+fn chosen(alloc: Global, patterns: &mut Patterns, words: &str) -> Result<String, AllocError> {
     let mut out = String::new(alloc);
-    for word in row.split(' ') {
+    for word in words.split(' ') {
         out.push_str(if patterns.look_up(alloc, word)? {
             "+"
         } else {
@@ -54,6 +58,12 @@ pub fn choice(alloc: Global, row: &str) -> Result<String, AllocError> {
         write!(out, " {text}")?;
     }
     Ok(out)
+}
+
+/// The same from the beginning.
+pub fn choice(alloc: Global, row: &str) -> Result<String, AllocError> {
+    let mut patterns = Patterns::new(alloc);
+    chosen(alloc, &mut patterns, row)
 }
 
 /// Whether `a` is found in `a` in so many parentheses.
