@@ -22,6 +22,7 @@ TESTS = [
     "containers::containers_grow_or_are_out_of_memory",
     "values::copies_and_joins_are_made_or_out_of_memory",
     "schemas::a_document_is_fitted_or_out_of_memory",
+    "patterns::patterns_are_found_or_out_of_memory",
 ]
 VECTORS = 50
 MOST = 100_000

@@ -1,6 +1,6 @@
 //! Tables of rows, each a question with its answer.
 
-use crate::{containers, images, operands, overloads, schemas, texts, tokens, trees, values};
+use crate::{containers, images, operands, overloads, patterns, schemas, texts, tokens, trees, values};
 use cel_check::Operator;
 use std::alloc::{AllocError, Global};
 use std::process::Abort;
@@ -29,6 +29,9 @@ pub enum Asked {
     Tokens,
     Tree,
     Image,
+    Finds,
+    Nested,
+    Choice,
     Roles,
     /// The type of this operator's answer.
     Answered(Operator),
@@ -84,6 +87,9 @@ fn answer(alloc: Global, asked: Asked, row: &str) -> Result<String, AllocError> 
         Asked::Tokens => tokens::shown(alloc, row),
         Asked::Tree => trees::shown(alloc, row),
         Asked::Image => images::image(alloc, row),
+        Asked::Finds => patterns::finds(alloc, row),
+        Asked::Nested => patterns::nested(alloc, row),
+        Asked::Choice => patterns::choice(alloc, row),
         Asked::Roles => overloads::roles(alloc, row),
         Asked::Answered(operator) => overloads::answered(alloc, operator, row),
     }

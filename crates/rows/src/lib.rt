@@ -24,6 +24,8 @@ mod operands;
 #[cfg(test)]
 mod overloads;
 #[cfg(test)]
+mod patterns;
+#[cfg(test)]
 mod programs;
 #[cfg(test)]
 mod schemas;

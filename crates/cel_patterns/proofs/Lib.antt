@@ -1,0 +1,6 @@
+pub mod Read
+pub mod Alike
+pub mod Places
+pub mod Asked
+pub mod Choices
+pub mod Sent
