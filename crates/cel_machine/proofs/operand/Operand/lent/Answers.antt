@@ -1,0 +1,5 @@
+use Rattle.std.proofs.Common.{rules}
+use Rattle.cel_machine.proofs.operand.Operand.lent.Goals as goal
+
+pub returns : goal.returns
+returns c = search rules
