@@ -1,6 +1,8 @@
 //! Tables of rows, each a question with its answer.
 
-use crate::{containers, images, operands, overloads, patterns, schemas, texts, tokens, trees, values};
+use crate::{
+    containers, images, operands, overloads, patterns, schemas, texts, tokens, trees, values,
+};
 use cel_check::Operator;
 use std::alloc::{AllocError, Global};
 use std::process::Abort;
