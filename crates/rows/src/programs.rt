@@ -118,22 +118,18 @@ fn lend_all<'a>(
     Ok(lent)
 }
 
-fn ended(alloc: Global, program: &Program, slots: &Slots) -> Result<String, AllocError> {
-    let ended = run(alloc, program, slots)?;
-    run_text(alloc, program, &ended)
-}
-
 fn run_with(
     alloc: Global,
     program: &Program,
     values: &[Result<Value, CelError>],
 ) -> Result<String, AllocError> {
     let lent = lend_all(alloc, values)?;
-    if slots_fit(program, &lent) {
-        ended(alloc, program, &Slots::new(program, lent))
-    } else {
-        String::from_str(alloc, "does not fit")
+    if !slots_fit(program, &lent) {
+        return String::from_str(alloc, "does not fit");
     }
+    let slots = Slots::new(program, lent);
+    let ended = run(alloc, program, &slots)?;
+    run_text(alloc, program, &ended)
 }
 
 fn run_program(
