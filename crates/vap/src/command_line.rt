@@ -2,7 +2,7 @@
 
 use crate::problem::Problem;
 use clap::error::ErrorKind;
-use clap::{Arg, Command};
+use clap::{Arg, ArgMatches, Command};
 use std::alloc::{AllocError, Global};
 
 const EVAL_NOTES: &str = "\
@@ -23,35 +23,44 @@ Examples:
   vap eval -- '-7 / 2'";
 
 fn command<'a>(alloc: Global) -> Result<Command<'a>, AllocError> {
-    let expression = Arg::new(alloc, "EXPR")
-        .required(true)
-        .help("A CEL expression of at most 16384 bytes");
-    let eval = Command::new(alloc, "eval")
-        .about("Evaluates a CEL expression and prints its value")
-        .after_help(EVAL_NOTES)
-        .arg(expression)?;
-    Command::new(alloc, "vap")
+    let program = Command::new(alloc, "vap")
         .bin_name("vap")?
         .version("0.1.0")
         .about("An admission engine: ValidatingAdmissionPolicy with verified CEL")
         .subcommand_required(true)
-        .arg_required_else_help(true)
-        .subcommand(eval)
+        .arg_required_else_help(true);
+    program.subcommand(eval(alloc)?)
+}
+
+fn eval<'a>(alloc: Global) -> Result<Command<'a>, AllocError> {
+    let expression = Arg::new(alloc, "EXPR")
+        .required(true)
+        .help("A CEL expression of at most 16384 bytes");
+    Command::new(alloc, "eval")
+        .about("Evaluates a CEL expression and prints its value")
+        .after_help(EVAL_NOTES)
+        .arg(expression)
 }
 
 /// The expression that is to be evaluated.
 pub fn expression<'a>(alloc: Global, words: &'a [String]) -> Result<&'a str, Problem> {
-    let matches = match command(alloc)?.try_get_matches_from(words) {
-        Ok(matches) => matches,
-        Err(error) if error.kind() == ErrorKind::UnknownArgument && begins_with_minus(words) => {
-            return Err(Problem::Minus);
-        }
-        Err(error) => return Err(Problem::from(error)),
-    };
-    let expression = matches
-        .subcommand_matches("eval")
-        .and_then(|eval| eval.get_str("EXPR"));
-    expression.ok_or(Problem::NoExpression)
+    match command(alloc)?.try_get_matches_from(words) {
+        Ok(matches) => expression_in(&matches).ok_or(Problem::NoExpression),
+        Err(error) => Err(mistake(error, words)),
+    }
+}
+
+fn expression_in<'a>(matches: &ArgMatches<'a>) -> Option<&'a str> {
+    matches.subcommand_matches("eval")?.get_str("EXPR")
+}
+
+/// What is wrong with the words.
+fn mistake(error: clap::Error, words: &[String]) -> Problem {
+    if error.kind() == ErrorKind::UnknownArgument && begins_with_minus(words) {
+        Problem::Minus
+    } else {
+        Problem::from(error)
+    }
 }
 
 /// Whether the word behind the command begins with a minus.

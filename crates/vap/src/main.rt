@@ -25,10 +25,15 @@ fn run<R: Env + Print + Eprint + AllocGlobal>(rt: &R) -> Status {
 
 /// Does what the words of the command line ask for.
 fn obey<R: Env + Print + AllocGlobal>(rt: &R) -> Result<Status, Problem> {
-    let words: Vec<String> = env::args(rt)?.collect(rt.alloc())?;
+    let words = words(rt)?;
     let expression = command_line::expression(rt.alloc(), words.as_slice())?;
     let mut out = Counted::new(io::writer(rt));
-    Ok(eval_to(rt.alloc(), expression, &mut out)?)
+    eval_to(rt.alloc(), expression, &mut out).map_err(Problem::from)
+}
+
+/// The words of the command line, the program's name first.
+fn words<R: Env + AllocGlobal>(rt: &R) -> Result<Vec<String>, Problem> {
+    Ok(env::args(rt)?.collect(rt.alloc())?)
 }
 
 /// Prints help, the version or what went wrong. Where that cannot be written to standard error, the status stays.

@@ -10,7 +10,7 @@ use std::io;
 use vap_cli::{EvalError, Status};
 
 /// Why the program prints no answer.
-#[derive(Debug, Drop)]
+#[derive(Drop)]
 pub enum Problem {
     /// A mistake in the words, or a request for help or for the version.
     Words(clap::Error),
