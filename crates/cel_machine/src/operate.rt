@@ -1,8 +1,10 @@
-ghost use Rattle.std.specs.Prelude.{◌≡◌, ◌+◌, ◌-◌, ◌^◌, min, Some, Ok, neg_ℤ, ◌+ℤ◌, ◌-ℤ◌, ◌*ℤ◌, int_div, int_rem};
+ghost use Rattle.std.specs.Prelude.{◌≡◌, ◌+◌, ◌-◌, ◌^◌, min, Some, Ok};
+ghost use Rattle.std.specs.Prelude.{neg_ℤ, ◌+ℤ◌, ◌-ℤ◌, ◌*ℤ◌, int_div, int_rem};
 ghost use Rattle.cel_value.specs.declared.value.Value as value;
 ghost use Rattle.cel_value.specs.declared.value.Value.{out-Value};
 ghost use Rattle.cel_value.specs.Fits.{is_null};
-ghost use Rattle.cel_check.specs.Operators.{row, operands_of, at_one, at_two, int_or_overflow, uint_or_overflow, divided, less as order_of, lesser_weight as weight_of_lesser, makes};
+ghost use Rattle.cel_check.specs.Operators.{row, operands_of, at_one, at_two, makes, int_or_overflow, uint_or_overflow};
+ghost use Rattle.cel_check.specs.Operators.{divided, less as order_of, lesser_weight as weight_of_lesser};
 ghost use Rattle.cel_check.specs.Meaning.{is_there};
 ghost use Rattle.cel_check.specs.declared.operands.Want.TheVariants.{Whole, Natural, Ordered};
 ghost use Rattle.cel_check.specs.Wants.{taken};

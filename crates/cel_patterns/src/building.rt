@@ -31,7 +31,8 @@ pub fn regex_of(alloc: Global, text: &str) -> Result<Regex, Unbuilt>
 /// Why `regex` refused a text.
 fn refused(error: Error) -> Unbuilt
     ensures memory { result ≡ OutOfMemory → error ≡ Error.OutOfMemory }
-    ensures reason { (text : List ℕ) → IsRefusal default_config text error → IsRightKind default_config text error → IsReason text result }
+    ensures reason { (text : List ℕ) → IsRefusal default_config text error → IsRightKind default_config text error
+        → IsReason text result }
 {
     match error {
         Error::OutOfMemory => Unbuilt::OutOfMemory,

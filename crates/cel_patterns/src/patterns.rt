@@ -1,5 +1,6 @@
 //! The answer of `regex` for each text that was asked.
-ghost use Rattle.std.specs.Prelude.{◌≡◌, List, ℕ, [], ◌∷◌, ◌++◌, true, false, IfOk, OnOk, OnErr, IsSome, Some, None, map, string_bytes};
+ghost use Rattle.std.specs.Prelude.{◌≡◌, List, ℕ, [], ◌∷◌, ◌++◌, true, false, map, string_bytes};
+ghost use Rattle.std.specs.Prelude.{IfOk, OnOk, OnErr, IsSome, Some, None};
 ghost use Rattle.std.specs.BTreeMap.{get_by_text};
 ghost use Rattle.cel_patterns.specs.Meaning.{tree_of};
 ghost use Rattle.cel_patterns.specs.Choice.{refuses, says_no, then_answered};

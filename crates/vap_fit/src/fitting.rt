@@ -11,7 +11,8 @@ ghost use Rattle.cel_value.specs.Greatest.{greatest_of};
 ghost use Rattle.cel_value.specs.Value.{code_points, weight_of};
 ghost use Rattle.vap_fit.specs.InStep.{first_under};
 ghost use Rattle.vap_fit.specs.Paths.{path_text};
-ghost use Rattle.vap_fit.specs.Seen.{Answers, Carries, Tells, made, if_all_there, seen, seen_int, seen_text, seen_list, seen_items, seen_map};
+ghost use Rattle.vap_fit.specs.Seen.{Answers, Carries, Tells, made, if_all_there};
+ghost use Rattle.vap_fit.specs.Seen.{seen, seen_int, seen_text, seen_list, seen_items, seen_map};
 ghost use Rattle.vap_fit.specs.Seen.{seen_entries, seen_entry, seen_object, seen_members, seen_member, seen_field};
 ghost use Rattle.vap_fit.specs.Seen.{all_there, misfit, fault, within, reader_of, readers_of, is_absent};
 ghost use Rattle.vap_fit.specs.Entries.{entry_fits};
@@ -332,7 +333,8 @@ fn complete(
     path: &Path<'_>,
 ) -> Result<TextMap<Value>, FitError>
     ensures exact { Carries entries result (if_all_there (readers_of fields.now) (path_text path.now)) }
-    ensures fits { IfOk entries (All (HasItsField fields.now)) → IfOk result (λ es. IsTrue (fits (V.Object es) (ObjectType fields.now))) }
+    ensures fits { IfOk entries (All (HasItsField fields.now))
+        → IfOk result (λ es. IsTrue (fits (V.Object es) (ObjectType fields.now))) }
 {
     let entries = entries?;
     check_all_there(alloc, fields.as_slice(), entries.as_slice(), path)?;

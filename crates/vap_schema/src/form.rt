@@ -115,7 +115,8 @@ fn one_form<'a>(
     max: u32,
     kept: bool,
 ) -> Result<Form<'a>, SchemaFault>
-    ensures { FormIs (λ inner. object_of inner (members_seen properties.entry) (items_view required.now) (entry_seen entry.entry) max kept) result }
+    ensures { FormIs (λ inner.
+        object_of inner (members_seen properties.entry) (items_view required.now) (entry_seen entry.entry) max kept) result }
 {
     match (properties, entry) {
         (Some(properties), None) => Ok(Form::Record {
