@@ -2,7 +2,7 @@
 """Runs what `rt ci` built with its first allocation refused, then with its second, and so on to the last that it makes.
 
 The program is run on the first expression and on vectors of each answer, and then must give its right answer, or end
-with status 4 and nothing on standard output. Of crates/rows the tests of TESTS are run, which take 'out of memory' for
+with status 4 and nothing on standard output. Of crates/value_rows the tests of TESTS are run, which take 'out of memory' for
 an answer and no other wrong one. The last line is 'N passed, M failed', each refused allocation counted.
 """
 import json
@@ -16,7 +16,7 @@ from pathlib import Path
 
 TOP = Path(__file__).resolve().parent.parent
 PROGRAM = TOP / "crates/vap/out/vap"
-ROWS = TOP / "crates/rows/out/rows_tests"
+ROWS = TOP / "crates/value_rows/out/value_rows_tests"
 FIRST = "1 + 2 * 3 == 7 && !(4 < 3)"
 TESTS = [
     "containers::containers_grow_or_are_out_of_memory",

@@ -1,15 +1,18 @@
 -- A typed tree that checking gives is well typed.
-use Rattle.std.proofs.Common.{◌≡◌, ℕ, cond, true, false, ◌&&◌, List, [], ◌∷◌, Option}
-use Rattle.std.proofs.Common.{Some, None, ap, sym, ◌∙◌, subst, refl, inl, inr}
+use Rattle.std.proofs.Common.{◌≡◌, ℕ, suc, ◌+◌, ◌^◌, cond, true, false, ◌&&◌, List, [], ◌∷◌, Option}
+use Rattle.std.proofs.Common.{Some, None, ap, sym, ◌∙◌, subst, refl, inl, inr, arith}
 use Rattle.std.proofs.lemmas.Bool.{and_from, cases_Bool}
-use Rattle.std.specs.Prelude.{Result, Ok, Err, map}
+use Rattle.std.specs.Prelude.{Result, Ok, Err, map, nat_lt, slice_get}
+use Rattle.std.specs.Str.{bytes_eq}
+use Rattle.plain.specs.declared.text.Keyed.{Keyed}
+use Rattle.cel_value.specs.Value.{code_points}
 use Rattle.cel_value.specs.declared.value.Value as value
 use Rattle.cel_value.specs.declared.cel_type.CelType.{CelType}
 use Rattle.cel_value.specs.declared.cel_type.CelType as type
 use Rattle.cel_value.specs.CelType.{assignable, join}
 use Rattle.cel_value.proofs.Above.{IsAbove, join-above}
 use Rattle.cel_value.proofs.Reflexive.{assignable-refl}
-use Rattle.cel_check.proofs.Opened.{bool_fits, int_fits}
+use Rattle.cel_check.proofs.Opened.{bool_fits, int_fits, null_fits, uint_fits, text_fits}
 use Rattle.cel_grammar.specs.declared.tree.Entry.{Entry}
 use Rattle.cel_parse.specs.declared.expr.Expr.{Expr, roll-Expr}
 use Rattle.cel_parse.specs.declared.expr.Expr.TheOpen.{Expr-F}
@@ -17,7 +20,7 @@ use Rattle.cel_parse.specs.declared.expr.Expr.TheFolds.{map-Expr, fold-roll-Expr
 use Rattle.cel_parse.specs.declared.expr.Syntax.{Syntax}
 use Rattle.cel_parse.specs.declared.expr.Syntax.TheVariants as syntax
 use Rattle.cel_check.specs.declared.fault.TypeRule.{TypeRule}
-use Rattle.cel_check.specs.declared.fault.TypeRule.TheVariants.{UnknownName, NoOverload, Mixed, TooLarge}
+use Rattle.cel_check.specs.declared.fault.TypeRule.TheVariants.{NoOverload, TooLarge}
 use Rattle.cel_check.specs.declared.operator.Operator.{Operator}
 use Rattle.cel_check.specs.declared.operator.Overload.{Overload}
 use Rattle.cel_check.specs.declared.scope.Scope.{Scope}
@@ -27,10 +30,15 @@ use Rattle.cel_check.specs.declared.tree.Form.{Form}
 use Rattle.cel_check.specs.declared.tree.Form.TheVariants as form
 use Rattle.cel_check.specs.Outcomes.{Types, types_outside}
 use Rattle.cel_check.specs.Operators.{row, type_of_one, type_of_two}
-use Rattle.cel_check.specs.Meaning.{is_truth, type_of, takes_result, Judged, right_at, judged_step, judged_of, is_right}
+use Rattle.cel_check.specs.Meaning.{is_truth, type_of, takes_result, Judged, right_at, judged_step, judged_of, is_right, types_judged}
+use Rattle.cel_check.specs.Meaning.{each_right as all_right, takes_slot}
+use Rattle.cel_check.specs.Lists.{items_type}
+use Rattle.cel_check.specs.Typing.{Trees, tree_in_front, each_tree, after_items, root_types, typed_by, list_literal}
 use Rattle.cel_check.specs.Typing.{Names, types_in, types_of, names_of, Checked, refused, node, after}
 use Rattle.cel_check.specs.Typing.{after_each, after_entries, unary_overloads, binary_overloads, or_later, first_of, chosen, logic}
-use Rattle.cel_check.specs.Typing.{joined_branches, conditional, checked_at, checked, is_too_large, checked_within}
+use Rattle.cel_check.specs.Typing.{joined_branches, conditional, index_overloads, function_overloads, method_overloads}
+use Rattle.cel_check.specs.Typing.{method_overloads_with, over_one, over_two, called, called_on}
+use Rattle.cel_check.specs.Typing.{checked_at, checked, is_too_large, checked_within, text_literal, slot_from, named}
 
 -- where there is a typed tree, it is well typed
 abbrev pub RightIn : Types → Checked → Type 0
@@ -64,10 +72,8 @@ or_later_from : (f : Operator → Result CelType TypeRule) (op : Operator) (r : 
     → f op ≡ r → FromRow f later → FromRow f (or_later op r later)
 unfolding FromRow
 or_later_from f op (Ok t) later e h = e
-or_later_from f op (Err UnknownName) later e h = tt
 or_later_from f op (Err NoOverload) later e h = h
-or_later_from f op (Err Mixed) later e h = tt
-or_later_from f op (Err TooLarge) later e h = tt
+or_later_from f op (Err _) later e h = tt
 
 first_from : (f : Operator → Result CelType TypeRule) (ops : List Operator) → FromRow f (first_of ops f)
 unfolding FromRow
@@ -83,21 +89,25 @@ chosen_right place g f types (Err e) h k = tt
 chosen_right place g f types (Ok o) h k = k o h
 
 unary_right : (place : ℕ) (ops : List Operator) (a : TypedTree) (types : Types) → is_right a types ≡ true
-    → RightIn types (chosen place (λ o. form.Unary o a) (first_of ops (λ o. type_of_one (row o) (type_of a))))
+    → RightIn types (over_one place ops a)
 unary_right place ops a types h =
     chosen_right place _ (λ o. type_of_one (row o) (type_of a)) types _ (first_from _ ops)
     (λ o e.
     node_right o.cel_type (form.Unary o.operator a) types
-    (and_from _ _ h (ap (λ s. takes_result o.cel_type (type_of_one (row o.operator) s)) (judged-type a) ∙ ap (takes_result o.cel_type) e ∙ assignable-refl o.cel_type)))
+    (and_from _ _ h (ap (λ s. takes_result o.cel_type (type_of_one (row o.operator) s)) (judged-type a)
+    ∙ ap (takes_result o.cel_type) e ∙ assignable-refl o.cel_type)))
 
 binary_right : (place : ℕ) (ops : List Operator) (a b : TypedTree) (types : Types) → is_right a types ≡ true
     → is_right b types ≡ true
-    → RightIn types (chosen place (λ o. form.Binary o a b) (first_of ops (λ o. type_of_two (row o) (type_of a) (type_of b))))
+    → RightIn types (over_two place ops a b)
 binary_right place ops a b types h k =
     chosen_right place _ (λ o. type_of_two (row o) (type_of a) (type_of b)) types _ (first_from _ ops)
     (λ o e.
     node_right o.cel_type (form.Binary o.operator a b) types
-    (and_from _ _ (and_from _ _ h k) (ap (λ s. takes_result o.cel_type (type_of_two (row o.operator) s (judged_of b).type)) (judged-type a) ∙ ap (λ s. takes_result o.cel_type (type_of_two (row o.operator) (type_of a) s)) (judged-type b) ∙ ap (takes_result o.cel_type) e ∙ assignable-refl o.cel_type)))
+    (and_from _ _ (and_from _ _ h k)
+    (ap (λ s. takes_result o.cel_type (type_of_two (row o.operator) s (judged_of b).type)) (judged-type a)
+    ∙ ap (λ s. takes_result o.cel_type (type_of_two (row o.operator) (type_of a) s)) (judged-type b)
+    ∙ ap (takes_result o.cel_type) e ∙ assignable-refl o.cel_type)))
 
 -- both sides are truth values, as they are judged
 sides_right : (a b : TypedTree) → (is_truth (type_of a) && is_truth (type_of b)) ≡ true
@@ -133,7 +143,8 @@ branches_right place c a b types None e y h k l = tt
 branches_right place c a b types (Some t) e y h k l =
     node_right t (form.Conditional c a b) types
     (and_from _ _ (and_from _ _ (and_from _ _ h (ap is_truth (judged-type c) ∙ y)) (and_from _ _ k l))
-    (ap (λ s. assignable s t && assignable (judged_of b).type t) (judged-type a) ∙ ap (λ s. assignable (type_of a) t && assignable s t) (judged-type b) ∙ join_above (type_of a) (type_of b) t e))
+    (ap (λ s. assignable s t && assignable (judged_of b).type t) (judged-type a)
+    ∙ ap (λ s. assignable (type_of a) t && assignable s t) (judged-type b) ∙ join_above (type_of a) (type_of b) t e))
 
 conditional_right : (place : ℕ) (c a b : TypedTree) (types : Types) → is_right c types ≡ true → is_right a types ≡ true
     → is_right b types ≡ true → RightIn types (conditional place c a b)
@@ -141,6 +152,70 @@ conditional_right place c a b types h k l = elim (cases_Bool (is_truth (type_of 
   | inl y ↦ rw y (branches_right place c a b types (join (type_of a) (type_of b)) refl y h k l)
   | inr n ↦ rw n tt
 ]
+
+-- where there are typed trees, each is well typed
+abbrev EachRightIn : Types → Trees → Type 0
+EachRightIn types (Err e) = Unit {0}
+EachRightIn types (Ok ts) = all_right (map judged_of ts) types ≡ true
+
+in_front_right : (types : Types) (c : Checked) (r : Trees) → RightIn types c → EachRightIn types r
+    → EachRightIn types (tree_in_front c r)
+in_front_right types (Err e) r h k = tt
+in_front_right types (Ok t) (Err e) h k = tt
+in_front_right types (Ok t) (Ok ts) h k = and_from (is_right t types) (all_right (map judged_of ts) types) h k
+
+roots : (ts : List TypedTree) → types_judged (map judged_of ts) ≡ root_types ts
+roots [] = refl
+roots (t ∷ ts) = ap (λ s. s ∷ types_judged (map judged_of ts)) (judged-type t) ∙ ap (λ ss. type_of t ∷ ss) (roots ts)
+
+typed_by_right : (place : ℕ) (f : Form TypedTree) (types : Types) (r : Result CelType TypeRule)
+    → ((t : CelType) → r ≡ Ok t → is_right (node t f) types ≡ true) → RightIn types (typed_by place f r)
+typed_by_right place f types (Err e) h = tt
+typed_by_right place f types (Ok t) h = h t refl
+
+items_right : (place : ℕ) (types : Types) (r : Trees) → EachRightIn types r → RightIn types (after_items r (list_literal place))
+items_right place types (Err e) h = tt
+items_right place types (Ok ts) h =
+    typed_by_right place (form.ListOf ts) types (items_type (root_types ts))
+    (λ t e.
+    node_right t (form.ListOf ts) types
+    (and_from _ _ h (ap (λ us. takes_result t (items_type us)) (roots ts) ∙ ap (takes_result t) e ∙ assignable-refl t)))
+
+text_right : (place : ℕ) (bytes : List ℕ) (types : Types) → RightIn types (text_literal place bytes)
+text_right place bytes types = elim (cases_Bool (nat_lt (code_points bytes) (2 ^ 32))) [
+  | inl y ↦ rw y (node_right (type.Text (code_points bytes)) (form.Literal (value.Text bytes)) types (text_fits bytes (code_points bytes) (omega arith)))
+  | inr n ↦ rw n tt
+]
+
+-- where the slots are numbered from i on, the one that is found stands at its number
+SlotThere : ℕ → List (Keyed CelType) → Option (ℕ × CelType) → Type 0
+SlotThere i es None = Unit {0}
+SlotThere i es (Some s) = (k : ℕ) × (s.0 ≡ i + k) × (slice_get (types_in es) k ≡ Some s.1)
+
+slot_later : (i : ℕ) (e : Keyed CelType) (es : List (Keyed CelType)) (o : Option (ℕ × CelType)) → SlotThere (i + 1) es o
+    → SlotThere i (e ∷ es) o
+unfolding SlotThere
+slot_later i e es None h = tt
+slot_later i e es (Some s) h = (suc h.0, omega (arith, h.1), h.2)
+
+slot_there : (i : ℕ) (name : List ℕ) (es : List (Keyed CelType)) → SlotThere i es (slot_from i name es)
+unfolding SlotThere
+slot_there i name [] = tt
+slot_there i name (e ∷ es) = elim (cases_Bool (bytes_eq e.key name)) [
+  | inl y ↦ rw y (0, omega arith, refl)
+  | inr n ↦ rw n (slot_later i e es (slot_from (i + 1) name es) (slot_there (i + 1) name es))
+]
+
+slot_right : (place : ℕ) (names : Names) (o : Option (ℕ × CelType)) → SlotThere 0 names.slots o → RightIn (types_of names) (named place o)
+unfolding SlotThere
+slot_right place names None h = tt
+slot_right place names (Some s) h =
+    let here : s.0 ≡ h.0 = omega (arith, h.1) in
+    node_right s.1 (form.Slot s.0) (types_of names)
+    (ap (λ k. takes_slot s.1 (slice_get (types_in names.slots) k)) here ∙ ap (takes_slot s.1) h.2 ∙ assignable-refl s.1)
+
+name_right : (place : ℕ) (name : List ℕ) (names : Names) → RightIn (types_of names) (named place (slot_from 0 name names.slots))
+name_right place name names = slot_right place names (slot_from 0 name names.slots) (slot_there 0 name names.slots)
 
 -- the induction
 abbrev AllRight : Expr → Type 0
@@ -169,6 +244,11 @@ entries_right p (x ∷ xs) names =
     after_right (types_of names) (checked x.key.0 names) _ (x.key.1 names)
     (λ k h. after_right (types_of names) (checked x.value.0 names) _ (x.value.1 names) (λ v i. entries_right p xs names))
 
+trees_right : (xs : List Such) (names : Names) → EachRightIn (types_of names) (each_tree (map own xs) names)
+trees_right [] names = refl
+trees_right (x ∷ xs) names =
+    in_front_right (types_of names) (checked x.0 names) (each_tree (map own xs) names) (x.1 names) (trees_right xs names)
+
 twice : (xs : List Such) → map checked (map (λ (e : Such). e.0) xs) ≡ map own xs
 twice [] = refl
 twice (x ∷ xs) = ap (λ (cs : List (Names → Checked)). own x ∷ cs) (twice xs)
@@ -178,21 +258,38 @@ twice_entries : (xs : List (Entry Such)) → map (λ (e : Entry Expr). record { 
 twice_entries [] = refl
 twice_entries (x ∷ xs) = ap (λ (cs : List (Entry (Names → Checked))). own_entry x ∷ cs) (twice_entries xs)
 
+-- a function, and a method, by how many arguments they have
+called_right : (p : ℕ) (f : List ℕ) (xs : List Such) (names : Names) → RightIn (types_of names) (called p f (map own xs) names)
+called_right p f [] names = tt
+called_right p f (x ∷ []) names =
+    after_right (types_of names) (checked x.0 names) _ (x.1 names) (λ s h. unary_right p (function_overloads f) s (types_of names) h)
+called_right p f (x ∷ y ∷ xs) names = each_right p (x ∷ y ∷ xs) names
+
+called_on_right : (p : ℕ) (f : List ℕ) (s : TypedTree) (xs : List Such) (names : Names) → is_right s (types_of names) ≡ true
+    → RightIn (types_of names) (called_on p f s (map own xs) names)
+called_on_right p f s [] names h = unary_right p (method_overloads f) s (types_of names) h
+called_on_right p f s (x ∷ []) names h =
+    after_right (types_of names) (checked x.0 names) _ (x.1 names)
+    (λ t k. binary_right p (method_overloads_with f) s t (types_of names) h k)
+called_on_right p f s (x ∷ y ∷ xs) names h = each_right p (x ∷ y ∷ xs) names
+
 level : (p : ℕ) (y : Syntax Such) (names : Names) → RightIn (types_of names) (checked_at p (part (λ e. checked e.0) p y) names)
 level p (syntax.Bool b) names = node_right type.Bool (form.Literal (value.Bool b)) (types_of names) (bool_fits b)
 level p (syntax.Int n) names = node_right type.Int (form.Literal (value.Int n)) (types_of names) (int_fits n)
-level p (syntax.Name n) names = tt
-level p syntax.Null names = tt
-level p (syntax.Uint n) names = tt
-level p (syntax.Text s) names = tt
+level p (syntax.Name n) names = name_right p n names
+level p syntax.Null names = node_right type.Null (form.Literal value.Null) (types_of names) null_fits
+level p (syntax.Uint n) names = node_right type.Uint (form.Literal (value.Uint n)) (types_of names) (uint_fits n)
+level p (syntax.Text s) names = text_right p s (types_of names)
 level p (syntax.Select a f) names = after_right (types_of names) (checked a.0 names) _ (a.1 names) (λ s h. tt)
 level p (syntax.Has a f) names = after_right (types_of names) (checked a.0 names) _ (a.1 names) (λ s h. tt)
-level p (syntax.Call f xs) names = each_right p xs names
-level p (syntax.Method a f xs) names = after_right (types_of names) (checked a.0 names) _ (a.1 names) (λ s h. each_right p xs names)
+level p (syntax.Call f xs) names = called_right p f xs names
+level p (syntax.Method a f xs) names =
+    after_right (types_of names) (checked a.0 names) _ (a.1 names) (λ s h. called_on_right p f s xs names h)
 level p (syntax.Index a b) names =
     after_right (types_of names) (checked a.0 names) _ (a.1 names)
-    (λ s h. after_right (types_of names) (checked b.0 names) _ (b.1 names) (λ t k. tt))
-level p (syntax.List xs) names = each_right p xs names
+    (λ s h.
+    after_right (types_of names) (checked b.0 names) _ (b.1 names) (λ t k. binary_right p index_overloads s t (types_of names) h k))
+level p (syntax.List xs) names = items_right p (types_of names) (each_tree (map own xs) names) (trees_right xs names)
 level p (syntax.Map es) names = entries_right p es names
 level p (syntax.Loop l a x b) names =
     after_right (types_of names) (checked a.0 names) _ (a.1 names)

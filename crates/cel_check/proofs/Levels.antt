@@ -1,11 +1,11 @@
 -- The equations of an expression's value and cost, level by level.
-use Rattle.std.proofs.Common.{◌≡◌, refl, sym, ap, ◌∙◌, subst}
+use Rattle.std.proofs.Common.{◌≡◌, List, [], ◌∷◌, map, refl, sym, ap, ◌∙◌, subst}
 use Rattle.cel_value.specs.declared.cel_type.CelType.{CelType}
 use Rattle.cel_check.specs.declared.tree.TypedTree.{TypedTree, out-TypedTree, roll-TypedTree}
 use Rattle.cel_check.specs.declared.tree.TypedTree.TheOpen.{TypedTree-F}
 use Rattle.cel_check.specs.declared.tree.TypedTree.TheFolds.{map-TypedTree, fold-roll-TypedTree, fold_out-TypedTree, ind-TypedTree}
 use Rattle.cel_check.specs.declared.tree.Form.{Form}
-use Rattle.cel_check.specs.declared.tree.Form.TheVariants.{Literal, Unary, Binary, And, Or, Conditional}
+use Rattle.cel_check.specs.declared.tree.Form.TheVariants.{Literal, Unary, Binary, And, Or, Conditional, ListOf, Slot}
 use Rattle.cel_check.specs.Outcomes.{Env}
 use Rattle.cel_check.specs.Meaning.{Valuation, value_at, value_of, Priced, cost_at, priced_step, priced_of, cost_of, IsForm}
 
@@ -13,15 +13,21 @@ use Rattle.cel_check.specs.Meaning.{Valuation, value_at, value_of, Priced, cost_
 abbrev pub part : {X A : Type 0} → (X → A) → CelType → Form X → Form A
 part f t y = (map-TypedTree _ _ f (record { cel_type = t; form = y })).form
 
+pub map_twice : (X A B : Type 0) (f : A → B) (g : X → A) (xs : List X) → map f (map g xs) ≡ map (λ e. f (g e)) xs
+map_twice X A B f g [] = refl
+map_twice X A B f g (x ∷ xs) = ap (λ ys. f (g x) ∷ ys) (map_twice X A B f g xs)
+
 fused_form : (X A B : Type 0) (f : A → B) (g : X → A) (t : CelType) (y : Form X)
     → map-TypedTree _ _ f (map-TypedTree _ _ g (record { cel_type = t; form = y }))
     ≡ map-TypedTree _ _ (λ e. f (g e)) (record { cel_type = t; form = y })
 fused_form X A B f g t (Literal v) = refl
+fused_form X A B f g t (Slot n) = refl
 fused_form X A B f g t (Unary op a) = refl
 fused_form X A B f g t (Binary op a b) = refl
 fused_form X A B f g t (And a b) = refl
 fused_form X A B f g t (Or a b) = refl
 fused_form X A B f g t (Conditional c a b) = refl
+fused_form X A B f g t (ListOf xs) = ap (λ ys. record { cel_type = t; form = ListOf ys }) (map_twice X A B f g xs)
 
 -- two maps in turn are one
 pub fused : (X A B : Type 0) (f : A → B) (g : X → A) (y : TypedTree-F X)

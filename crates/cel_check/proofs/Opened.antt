@@ -1,7 +1,9 @@
 -- Values and types by their levels.
-use Rattle.std.proofs.Common.{◌≡◌, ℕ, Bool, true, Some, ap, sym, ◌∙◌, refl, rules, true≢false}
+use Rattle.std.proofs.Common.{◌≡◌, ◌≤◌, ℕ, Bool, true, Some, List, length, ap, sym, ◌∙◌, refl, rules, arith, true≢false}
+use Rattle.std.proofs.lemmas.Bool.{and_from, le-leb}
 use Rattle.std.proofs.lemmas.Option.{none-some, same_Some}
-use Rattle.std.specs.Prelude.{ℤ, Ok, Err}
+use Rattle.std.specs.Prelude.{ℤ, Ok, Err, nat_le}
+use Rattle.std.specs.List.{list_all}
 use Rattle.cel_value.specs.declared.value.Value as value
 use Rattle.cel_value.specs.declared.value.Value.{Value, out-Value, roll-Value, the_lemmas as value_lemmas}
 use Rattle.cel_value.specs.declared.value.Value.TheOpen.{Value-F}
@@ -11,6 +13,7 @@ use Rattle.cel_value.specs.declared.cel_type.CelType.{CelType, out-CelType, the_
 use Rattle.cel_value.specs.declared.cel_type.CelType.TheOpen.{CelType-F}
 use Rattle.cel_value.specs.declared.cel_type.CelType.TheFolds.{map-CelType, fold_out-CelType}
 use Rattle.cel_value.specs.Fits.{fits, fits_at, fits_step}
+use Rattle.cel_value.specs.Value.{code_points}
 use Rattle.cel_check.specs.Outcomes.{Outcome, Side}
 use Rattle.cel_check.specs.Wants.{side_of, Truth, taken_at}
 
@@ -32,8 +35,17 @@ out-Bool b = search (rules, value_lemmas)
 pub out-Int : (n : ℤ) → out-Value (value.Int n) ≡ Value-F.Int n
 out-Int n = search (rules, value_lemmas)
 
+pub out-Null : out-Value value.Null ≡ Value-F.Null
+out-Null = search (rules, value_lemmas)
+
 pub out-Uint : (n : ℕ) → out-Value (value.Uint n) ≡ Value-F.Uint n
 out-Uint n = search (rules, value_lemmas)
+
+pub out-Text : (bytes : List ℕ) → out-Value (value.Text bytes) ≡ Value-F.Text bytes
+out-Text bytes = search (rules, value_lemmas)
+
+pub out-List : (vs : List Value) → out-Value (value.List vs) ≡ Value-F.List vs
+out-List vs = search (rules, value_lemmas)
 
 pub out-type-Bool : out-CelType type.Bool ≡ CelType-F.Bool
 out-type-Bool = search (rules, type_lemmas)
@@ -50,6 +62,15 @@ out-type-Uint = search (rules, type_lemmas)
 pub out-type-Never : out-CelType type.Never ≡ CelType-F.Never
 out-type-Never = search (rules, type_lemmas)
 
+pub out-type-Text : (max : ℕ) → out-CelType (type.Text max) ≡ CelType-F.Text max
+out-type-Text max = search (rules, type_lemmas)
+
+pub out-type-List : (max : ℕ) (plain : Bool) (item : CelType) → out-CelType (type.List max plain item) ≡ CelType-F.List max plain item
+out-type-List max plain item = search (rules, type_lemmas)
+
+pub out-type-Nullable : (item : CelType) → out-CelType (type.Nullable item) ≡ CelType-F.Nullable item
+out-type-Nullable item = search (rules, type_lemmas)
+
 pub bool_fits : (b : Bool) → fits (value.Bool b) type.Bool ≡ true
 bool_fits b = fits-levels (value.Bool b) type.Bool (Value-F.Bool b) CelType-F.Bool (out-Bool b) out-type-Bool
 
@@ -58,6 +79,21 @@ int_fits n = fits-levels (value.Int n) type.Int (Value-F.Int n) CelType-F.Int (o
 
 pub uint_fits : (n : ℕ) → fits (value.Uint n) type.Uint ≡ true
 uint_fits n = fits-levels (value.Uint n) type.Uint (Value-F.Uint n) CelType-F.Uint (out-Uint n) out-type-Uint
+
+pub null_fits : fits value.Null type.Null ≡ true
+null_fits = fits-levels value.Null type.Null Value-F.Null CelType-F.Null out-Null out-type-Null
+
+pub text_fits : (bytes : List ℕ) (max : ℕ) → code_points bytes ≤ max → fits (value.Text bytes) (type.Text max) ≡ true
+text_fits bytes max h =
+    fits-levels (value.Text bytes) (type.Text max) (Value-F.Text bytes) (CelType-F.Text max) (out-Text bytes) (out-type-Text max)
+    ∙ le-leb (code_points bytes) max h
+
+pub list_fits : (vs : List Value) (max : ℕ) (plain : Bool) (item : CelType) → length vs ≤ max → list_all (λ v. fits v item) vs ≡ true
+    → fits (value.List vs) (type.List max plain item) ≡ true
+list_fits vs max plain item h k =
+    fits-levels (value.List vs) (type.List max plain item) (Value-F.List vs) (CelType-F.List max plain item) (out-List vs)
+    (out-type-List max plain item)
+    ∙ and_from (nat_le (length vs) max) (list_all (λ v. fits v item) vs) (le-leb (length vs) max h) k
 
 -- no value has the type Never
 pub never_fits : (v : Value) → fits v type.Never ≡ true → ⊥

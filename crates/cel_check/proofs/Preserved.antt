@@ -1,7 +1,9 @@
 -- A well typed expression gives an error or a value of its type.
-use Rattle.std.proofs.Common.{◌≡◌, true, false, ◌&&◌, List, Option, Some, None, refl, sym, ap, ◌∙◌, subst, true≢false}
+use Rattle.std.proofs.Common.{◌≡◌, true, false, ◌&&◌, List, [], ◌∷◌, map, Option, Some, None, refl, sym, ap, ◌∙◌, subst, true≢false, ℕ}
+use Rattle.std.proofs.Common.{zero, suc}
+use Rattle.std.proofs.lemmas.Option.{none-some, same_Some}
 use Rattle.std.proofs.lemmas.Bool.{and_parts, and_from}
-use Rattle.std.specs.Prelude.{Result, Ok, Err}
+use Rattle.std.specs.Prelude.{Result, Ok, Err, slice_get}
 use Rattle.cel_value.specs.declared.cel_type.CelType.{CelType}
 use Rattle.cel_value.specs.declared.cel_type.CelType as type
 use Rattle.cel_value.specs.CelType.{assignable}
@@ -11,15 +13,18 @@ use Rattle.cel_check.specs.declared.tree.TypedTree.{TypedTree, roll-TypedTree}
 use Rattle.cel_check.specs.declared.tree.TypedTree.TheOpen.{TypedTree-F}
 use Rattle.cel_check.specs.declared.tree.TypedTree.TheFolds.{map-TypedTree, fold-roll-TypedTree, fold_out-TypedTree, ind-TypedTree}
 use Rattle.cel_check.specs.declared.tree.Form.{Form}
-use Rattle.cel_check.specs.declared.tree.Form.TheVariants.{Literal, Unary, Binary, And, Or, Conditional}
-use Rattle.cel_check.specs.Outcomes.{Outcome, outcome_fits, Env, Types, slots_fit, env_fits, outside}
+use Rattle.cel_check.specs.declared.tree.Form.TheVariants.{Literal, Unary, Binary, And, Or, Conditional, ListOf, Slot}
+use Rattle.cel_check.specs.Outcomes.{Outcome, outcome_fits, Env, Types, slots_fit, env_fits, outside, locals_fit}
 use Rattle.cel_check.specs.Outcomes.{types_outside, Side, and_of, or_of, and_value, or_value, conditional_value}
 use Rattle.cel_check.specs.Wants.{Truth, limit_of, side_of, taken}
 use Rattle.cel_check.specs.Operators.{row, at_one, at_two, outcome_made, type_of_one, type_of_two}
-use Rattle.cel_check.specs.Meaning.{Valuation, value_at, value_of, type_of, is_there, is_truth}
+use Rattle.cel_check.specs.Meaning.{Valuation, value_at, value_of, type_of, is_there, is_truth, takes_slot}
 use Rattle.cel_check.specs.Meaning.{takes_result, Judged, right_at, judged_step, judged_of, is_right}
 use Rattle.cel_check.proofs.Rows.{Taken, taken_fits, wider, row_right, one_operand, two_operands}
 use Rattle.cel_check.proofs.Opened.{bool_fits}
+use Rattle.cel_check.specs.Meaning.{values_at, types_judged, each_right}
+use Rattle.cel_check.specs.Lists.{each_there, list_where, items_type}
+use Rattle.cel_check.proofs.Literals.{EachFits, literal_made}
 use Rattle.cel_check.proofs.Levels.{part, fused}
 
 and_fits : (x y : Side) → outcome_fits type.Bool (Some (and_of x y)) ≡ true
@@ -81,6 +86,21 @@ taken_result : (t : CelType) (r : Result CelType TypeRule) (P : CelType → Type
 taken_result t (Err e) P h k = absurd (true≢false (sym h))
 taken_result t (Ok s) P h k = k s refl h
 
+-- what a slot holds is of its type
+pub slot_fits : (n : ℕ) (ts : List CelType) (xs : List Outcome) → slots_fit ts xs ≡ true → (s : CelType) → slice_get ts n ≡ Some s
+    → outcome_fits s (slice_get xs n) ≡ true
+slot_fits n [] xs h s e = absurd (none-some s e)
+slot_fits n (t ∷ ts) [] h s e = absurd (true≢false (sym h))
+slot_fits zero (t ∷ ts) (x ∷ xs) h s e =
+    subst (λ u. outcome_fits u (Some x) ≡ true) (same_Some _ _ e) (and_parts (outcome_fits t (Some x)) (slots_fit ts xs) h).0
+slot_fits (suc n) (t ∷ ts) (x ∷ xs) h s e =
+    slot_fits n ts xs (and_parts (outcome_fits t (Some x)) (slots_fit ts xs) h).1 s e
+
+slot_taken : (t : CelType) (o : Option CelType) (x : Option Outcome) → takes_slot t o ≡ true
+    → ((s : CelType) → o ≡ Some s → outcome_fits s x ≡ true) → outcome_fits t x ≡ true
+slot_taken t None x h k = absurd (true≢false (sym h))
+slot_taken t (Some s) x h k = wider s t x h (k s refl)
+
 -- in each fitting environment, an error or a value of the type
 abbrev Good : TypedTree → Type 0
 Good e =
@@ -100,9 +120,19 @@ module _ (types : Types) (env : Env) (h : env_fits types env ≡ true) where
   abbrev good : (e : Such) → is_right e.0 types ≡ true → outcome_fits (judged e).type (valued e env) ≡ true
   good e g = e.1 types env g h
 
+  each_good : (xs : List Such) → each_right (map judged xs) types ≡ true
+      → EachFits (types_judged (map judged xs)) (values_at (map valued xs) env)
+  each_good [] g = tt
+  each_good (a ∷ xs) g =
+      let p = and_parts (is_right a.0 types) (each_right (map judged xs) types) g in
+      (good a p.0, each_good xs p.1)
+
   level : (t : CelType) (y : Form Such) → right_at t (part judged t y) types ≡ true
       → outcome_fits t (value_at (part valued t y) env) ≡ true
   level t (Literal v) g = g
+  level t (Slot n) g =
+      slot_taken t (slice_get types.slots n) (slice_get env.slots n) g
+      (slot_fits n types.slots env.slots (and_parts (slots_fit types.slots env.slots) (locals_fit types.locals env.locals) h).0)
   level t (Unary op a) g =
       let p = and_parts (is_right a.0 types) (takes_result t (type_of_one (row op) (judged a).type)) g in
       taken_result t (type_of_one (row op) (judged a).type)
@@ -148,6 +178,12 @@ module _ (types : Types) (env : Env) (h : env_fits types env ≡ true) where
       conditional_fits t (side_of (valued c env)) (valued a env) (valued b env)
       (side_there (judged c).type (valued c env) _ refl r.1 (good c r.0)) (wider (judged a).type t _ u.0 (good a s.0))
       (wider (judged b).type t _ u.1 (good b s.1))
+  level t (ListOf xs) g =
+      let types_of_items = types_judged (map judged xs) in
+      let p = and_parts (each_right (map judged xs) types) (takes_result t (items_type types_of_items)) g in
+      taken_result t (items_type types_of_items)
+      (λ u. outcome_fits u (outcome_made (list_where (each_there (values_at (map valued xs) env)))) ≡ true) p.1
+      (λ s e w. wider s t _ w (literal_made types_of_items (values_at (map valued xs) env) s e (each_good xs p.0)).0)
 
 step : (y : TypedTree-F Such) → Good (roll-TypedTree (map-TypedTree _ _ (λ e. e.0) y))
 step y = λ types env g h.

@@ -1,4 +1,6 @@
 pub mod Compared
+pub mod Limits
+pub mod Lists
 pub mod Meaning
 pub mod Operators
 pub mod Outcomes

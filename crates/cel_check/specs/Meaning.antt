@@ -1,5 +1,5 @@
 -- The value of a typed expression, and what its evaluation charges (cel-spec, "Evaluation").
-use Rattle.std.specs.Prelude.{◌≡◌, ℕ, ◌+◌, Bool, true, false, ◌&&◌, Option, Some, None, Result, Ok, Err}
+use Rattle.std.specs.Prelude.{◌≡◌, ℕ, ◌+◌, Bool, true, false, ◌&&◌, List, [], ◌∷◌, map, Option, Some, None, Result, Ok, Err, slice_get}
 use Rattle.cel_value.specs.declared.cel_type.CelType.{CelType}
 use Rattle.cel_value.specs.declared.cel_type.CelType as type
 use Rattle.cel_value.specs.CelType.{fits, assignable}
@@ -8,23 +8,31 @@ use Rattle.cel_check.specs.declared.tree.TypedTree.{TypedTree, fold-TypedTree, o
 use Rattle.cel_check.specs.declared.tree.TypedTree.TheOpen.{TypedTree-F}
 use Rattle.cel_check.specs.declared.tree.TypedTree.TheFolds.{map-TypedTree}
 use Rattle.cel_check.specs.declared.tree.Form.{Form}
-use Rattle.cel_check.specs.declared.tree.Form.TheVariants.{Literal, Unary, Binary, And, Or, Conditional}
+use Rattle.cel_check.specs.declared.tree.Form.TheVariants.{Literal, Unary, Binary, And, Or, Conditional, ListOf, Slot}
 use Rattle.cel_check.specs.Outcomes.{Outcome, Env, Types, and_value, or_value, conditional_value, unless_false, unless_true, of_branch}
 use Rattle.cel_check.specs.Wants.{side_of, limit_of, Truth}
+use Rattle.cel_check.specs.Lists.{each_there, list_where, items_type}
 use Rattle.cel_check.specs.Operators.{row, at_one, at_two, outcome_made, charge_made, type_of_one, type_of_two}
 
 -- a value or an error in each environment; None only where something has a kind that cannot stand there
 abbrev pub Valuation : Type 0
 Valuation = Env → Option Outcome
 
+-- what each of several has in an environment
+abbrev pub values_at : List Valuation → Env → List (Option Outcome)
+values_at [] env = []
+values_at (a ∷ xs) env = a env ∷ values_at xs env
+
 -- one level, where each part is its valuation
 abbrev pub value_at : Form Valuation → Valuation
 value_at (Literal v) env = Some (Ok v)
+value_at (Slot n) env = slice_get env.slots n
 value_at (Unary op a) env = outcome_made (at_one (row op) (a env))
 value_at (Binary op a b) env = outcome_made (at_two (row op) (a env) (b env))
 value_at (And a b) env = and_value (side_of (a env)) (side_of (b env))
 value_at (Or a b) env = or_value (side_of (a env)) (side_of (b env))
 value_at (Conditional c a b) env = conditional_value (side_of (c env)) (a env) (b env)
+value_at (ListOf xs) env = outcome_made (list_where (each_there (values_at xs env)))
 
 -- the value or the error of an expression
 abbrev pub value_of : TypedTree → Valuation
@@ -35,14 +43,25 @@ pub record Priced : Type 0 where
   pub value : Valuation
   pub cost : Env → ℕ
 
+-- the values of several
+abbrev pub values_priced : List Priced → List Valuation
+values_priced xs = map (λ x. x.value) xs
+
+-- the sum of their costs
+abbrev pub costs_at : List Priced → Env → ℕ
+costs_at [] env = 0
+costs_at (a ∷ xs) env = a.cost env + costs_at xs env
+
 -- one level: the charges of the nodes that are visited; values are asked only where a visit or a charge depends on them
 abbrev pub cost_at : Form Priced → Env → ℕ
 cost_at (Literal v) env = 0
+cost_at (Slot n) env = 1
 cost_at (Unary op a) env = a.cost env + charge_made (at_one (row op) (a.value env))
 cost_at (Binary op a b) env = (a.cost env + b.cost env) + charge_made (at_two (row op) (a.value env) (b.value env))
 cost_at (And a b) env = (a.cost env + 1) + unless_false (side_of (a.value env)) (b.cost env)
 cost_at (Or a b) env = (a.cost env + 1) + unless_true (side_of (a.value env)) (b.cost env)
 cost_at (Conditional c a b) env = (c.cost env + 1) + of_branch (side_of (c.value env)) (a.cost env) (b.cost env)
+cost_at (ListOf xs) env = costs_at xs env + charge_made (list_where (each_there (values_at (values_priced xs) env)))
 
 -- a node by its value and its cost
 abbrev pub priced_step : TypedTree-F Priced → Priced
@@ -78,19 +97,35 @@ abbrev pub takes_result : CelType → Result CelType TypeRule → Bool
 takes_result t (Err e) = false
 takes_result t (Ok s) = assignable s t
 
+-- whether the type takes what a slot holds, where there is such a slot
+abbrev pub takes_slot : CelType → Option CelType → Bool
+takes_slot t None = false
+takes_slot t (Some s) = assignable s t
+
 -- an expression as its type, and the types of names with which it is well typed
 pub record Judged : Type 0 where
   pub type : CelType
   pub right : Types → Bool
 
+-- the types of several
+abbrev pub types_judged : List Judged → List CelType
+types_judged xs = map (λ x. x.type) xs
+
+-- whether each of several is well typed
+abbrev pub each_right : List Judged → Types → Bool
+each_right [] types = true
+each_right (a ∷ xs) types = a.right types && each_right xs types
+
 -- one level: the node's own type takes what its rule gives
 abbrev pub right_at : CelType → Form Judged → Types → Bool
 right_at t (Literal v) types = fits v t
+right_at t (Slot n) types = takes_slot t (slice_get types.slots n)
 right_at t (Unary op a) types = a.right types && takes_result t (type_of_one (row op) a.type)
 right_at t (Binary op a b) types = (a.right types && b.right types) && takes_result t (type_of_two (row op) a.type b.type)
 right_at t (And a b) types = (a.right types && b.right types) && ((is_truth a.type && is_truth b.type) && assignable type.Bool t)
 right_at t (Or a b) types = (a.right types && b.right types) && ((is_truth a.type && is_truth b.type) && assignable type.Bool t)
 right_at t (Conditional c a b) types = ((c.right types && is_truth c.type) && (a.right types && b.right types)) && (assignable a.type t && assignable b.type t)
+right_at t (ListOf xs) types = each_right xs types && takes_result t (items_type (types_judged xs))
 
 -- a node by its type and where it is well typed
 abbrev pub judged_step : TypedTree-F Judged → Judged

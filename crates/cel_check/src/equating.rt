@@ -1,36 +1,38 @@
 //! Which types `==` takes.
 
-ghost use Rattle.std.specs.Prelude.{◌≡◌, IfOk};
-ghost use Rattle.cel_value.specs.CelType.{join as type_join};
-ghost use Rattle.cel_check.specs.Compared.{every_field, is_comparable, compared_in, is_null_type, is_compared, are_comparable};
+ghost use Rattle.std.specs.Prelude.{◌≡◌};
+ghost use Rattle.cel_check.specs.Compared.{every_field, is_comparable, compared_in, is_null_type, is_all_plain, plain_in};
+ghost use Rattle.cel_check.specs.Compared.{type_compared, compared};
+ghost use Rattle.cel_check.specs.Typing.{Tells};
 
+use crate::fault::{TypeRule, Untyped};
 use cel_value::{CelType, Field, join};
 use plain::TextMap;
-use std::alloc::{AllocError, Global};
+use std::alloc::Global;
 
-/// Whether `==` takes two types: that of null beside any, and two with a join inside which all is compared.
-pub fn are_comparable(alloc: Global, left: &CelType, right: &CelType) -> Result<bool, AllocError>
-    ensures { IfOk result (λ b. b ≡ are_comparable left.now right.now) }
+/// What `==` gives for two types: the type of null is taken beside any, and others with a join inside which all is
+/// compared.
+pub fn compared(alloc: Global, left: &CelType, right: &CelType) -> Result<CelType, Untyped>
+    ensures { Tells result (compared left.now right.now) }
 {
     if is_null(left) || is_null(right) {
-        return Ok(true);
+        return Ok(CelType::Bool);
     }
-    has_comparable_join(alloc, left, right)
+    match join(alloc, left, right)? {
+        Some(both) => type_compared(&both),
+        None => Err(Untyped::Rule(TypeRule::NoOverload)),
+    }
 }
 
-fn has_comparable_join(alloc: Global, left: &CelType, right: &CelType) -> Result<bool, AllocError>
-    ensures { IfOk result (λ b. b ≡ is_compared (type_join left.now right.now)) }
+fn type_compared(both: &CelType) -> Result<CelType, Untyped>
+    ensures { Tells result (type_compared both.now) }
 {
-    let joined = join(alloc, left, right)?;
-    Ok(is_compared(&joined))
-}
-
-fn is_compared(joined: &Option<CelType>) -> bool
-    ensures { result ≡ is_compared joined.now }
-{
-    match joined {
-        Some(cel_type) => is_comparable(cel_type),
-        None => false,
+    if is_comparable(both) {
+        Ok(CelType::Bool)
+    } else if is_all_plain(both) {
+        Err(Untyped::Rule(TypeRule::OpaqueUse))
+    } else {
+        Err(Untyped::Rule(TypeRule::NoOverload))
     }
 }
 
@@ -61,6 +63,32 @@ fn each_comparable(fields: &TextMap<Field<CelType>>) -> bool
 {
     for field in fields.as_slice() {
         if !is_comparable(&field.value.cel_type) {
+            return false;
+        }
+    }
+    true
+}
+
+/// Whether all lists inside a type are plain.
+#[cycle(is_all_plain)]
+pub fn is_all_plain(cel_type: &CelType) -> bool
+    ensures { result ≡ is_all_plain cel_type.now }
+{
+    match cel_type {
+        CelType::List { plain, item, .. } => *plain && is_all_plain(item.get()),
+        CelType::Map { item, .. } => is_all_plain(item.get()),
+        CelType::Object { fields } => each_all_plain(fields.get()),
+        CelType::Nullable(item) => is_all_plain(item.get()),
+        _ => true,
+    }
+}
+
+#[cycle(is_all_plain)]
+fn each_all_plain(fields: &TextMap<Field<CelType>>) -> bool
+    ensures { result ≡ every_field (plain_in fields.now) }
+{
+    for field in fields.as_slice() {
+        if !is_all_plain(&field.value.cel_type) {
             return false;
         }
     }

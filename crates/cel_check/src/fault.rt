@@ -9,13 +9,21 @@ use thiserror::Error;
 /// Which rule of typing an expression breaks.
 #[derive(Clone, Copy, Debug, PartialEq, Eq)]
 pub enum TypeRule {
-    /// No name is known yet.
+    /// No name of the scope is this.
     UnknownName,
+    /// What is selected is no field: of an object that has none of this name, or of what has no fields.
+    NoField,
     /// No operator takes operands of these types; a condition is no truth value.
     NoOverload,
-    /// The branches of a conditional have no type in common.
+    /// The branches of a conditional, or the items of a list or map, have no type in common.
     Mixed,
-    /// The tree is deeper than 100 or has more than 16,384 nodes.
+    /// A value that no operator reads stands where one is read.
+    OpaqueUse,
+    /// The pattern of `matches` is no literal text.
+    PatternNotLiteral,
+    /// `regex` refuses the pattern of `matches`.
+    BadPattern,
+    /// The tree is deeper than 100 or has more than 16,384 nodes, or a limit of a type is past 4,294,967,295.
     TooLarge,
 }
 

@@ -2,17 +2,17 @@
 
 ghost use Rattle.std.specs.Prelude.{◌≡◌, Ok};
 ghost use Rattle.cel_check.specs.declared.tree.Form.TheVariants as form;
-ghost use Rattle.cel_check.specs.Meaning.{type_of};
 ghost use Rattle.cel_check.specs.declared.fault.TypeRule.TheVariants.{UnknownName, NoOverload};
-ghost use Rattle.cel_check.specs.Typing.{node, refused, chosen, overload_of_one, overload_of_two, logic, conditional, Answers, Follows};
+ghost use Rattle.cel_check.specs.Typing.{node, refused, over_one, over_two, logic, conditional, Answers, Follows};
+ghost use Rattle.cel_check.specs.Typing.{named, slot_from, text_literal};
 
 use crate::fault::{CheckError, TypeFault, TypeRule, Untyped};
-use crate::operator::is_truth;
-use crate::overload::{overload_of_one, overload_of_two};
+use crate::limit::is_truth;
+use crate::operator::Operator;
+use crate::overload::{first_of_one, first_of_two};
 use crate::tree::{Form, TypedTree};
-use cel_parse::{BinaryOperator, UnaryOperator};
-use cel_value::{CelType, Value, join};
-use plain::Boxed;
+use cel_value::{CelType, Value, code_points, join};
+use plain::{Boxed, Keyed, Text};
 use std::alloc::Global;
 
 pub fn refused(rule: TypeRule, place: usize) -> CheckError
@@ -21,7 +21,7 @@ pub fn refused(rule: TypeRule, place: usize) -> CheckError
     CheckError::Fault(TypeFault { rule, place })
 }
 
-fn new_node(
+pub fn new_node(
     alloc: Global,
     cel_type: CelType,
     form: Form<TypedTree>,
@@ -41,10 +41,34 @@ pub fn literal(
     new_node(alloc, cel_type, Form::Literal(value))
 }
 
-/// A name: none is known yet.
-pub fn named(place: usize) -> Result<Boxed<TypedTree>, CheckError>
-    ensures { Answers result (λ tree. tree) (refused place UnknownName) }
+/// A literal text. Its own length is the most of its type.
+pub fn text_literal(
+    alloc: Global,
+    place: usize,
+    text: &Text,
+) -> Result<Boxed<TypedTree>, CheckError>
+    ensures { Answers result (λ tree. tree) (text_literal place text.now) }
 {
+    match u32::try_from(code_points(text.as_str())) {
+        Ok(max) => literal(alloc, CelType::Text { max }, Value::Text(text.copy()?)),
+        Err(_) => Err(refused(TypeRule::TooLarge, place)),
+    }
+}
+
+/// A name: the first slot of the name, where there is one.
+pub fn named(
+    alloc: Global,
+    place: usize,
+    name: &str,
+    slots: &[Keyed<CelType>],
+) -> Result<Boxed<TypedTree>, CheckError>
+    ensures { Answers result (λ tree. tree) (named place (slot_from 0 name.now slots.now)) }
+{
+    for (number, slot) in slots.iter().enumerate() {
+        if slot.key.as_str() == name {
+            return new_node(alloc, slot.value.copy()?, Form::Slot(number));
+        }
+    }
     Err(refused(TypeRule::UnknownName, place))
 }
 
@@ -68,17 +92,17 @@ pub fn untyped_behind(
     }
 }
 
+/// The first of these overloads over an operand.
 pub fn unary(
     alloc: Global,
     place: usize,
-    operator: UnaryOperator,
+    overloads: &[Operator],
     operand: Result<Boxed<TypedTree>, CheckError>,
 ) -> Result<Boxed<TypedTree>, CheckError>
-    ensures { Follows operand result
-        (λ s. chosen place (λ o. form.Unary o s) (overload_of_one operator (type_of s))) }
+    ensures { Follows operand result (λ s. over_one place overloads.now s) }
 {
     let operand = operand?;
-    match overload_of_one(operator, &operand.get().cel_type) {
+    match first_of_one(overloads, &operand.get().cel_type) {
         Ok(overload) => new_node(
             alloc,
             overload.cel_type,
@@ -88,18 +112,23 @@ pub fn unary(
     }
 }
 
+/// The first of these overloads over two operands.
 pub fn binary(
     alloc: Global,
     place: usize,
-    operator: BinaryOperator,
+    overloads: &[Operator],
     left: Boxed<TypedTree>,
     right: Result<Boxed<TypedTree>, CheckError>,
 ) -> Result<Boxed<TypedTree>, CheckError>
-    ensures { Follows right result
-        (λ t. chosen place (λ o. form.Binary o left t) (overload_of_two operator (type_of left) (type_of t))) }
+    ensures { Follows right result (λ t. over_two place overloads.now left t) }
 {
     let right = right?;
-    match overload_of_two(alloc, operator, &left.get().cel_type, &right.get().cel_type) {
+    match first_of_two(
+        alloc,
+        overloads,
+        &left.get().cel_type,
+        &right.get().cel_type,
+    ) {
         Ok(overload) => new_node(
             alloc,
             overload.cel_type,

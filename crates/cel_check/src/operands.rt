@@ -13,6 +13,22 @@ pub enum Want {
     Natural,
     /// A value of a kind that has an order.
     Ordered,
+    /// A text.
+    Characters,
+    /// A list.
+    Items,
+    /// A map.
+    Entries,
+    /// A list, from which an item is taken: no value of type Never will do.
+    Indexed,
+    /// A map, likewise.
+    Sought,
+    /// A list of integers.
+    Wholes,
+    /// A list of unsigned integers.
+    Naturals,
+    /// A list of texts.
+    Texts,
 }
 
 /// The operands of an operator: how many, and what each must be.

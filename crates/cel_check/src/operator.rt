@@ -1,16 +1,15 @@
-ghost use Rattle.std.specs.Prelude.{◌≡◌, if◌then◌else◌, Ok, Err};
-ghost use Rattle.cel_value.specs.declared.cel_type.CelType as type;
-ghost use Rattle.cel_check.specs.declared.fault.TypeRule.TheVariants.{NoOverload};
-ghost use Rattle.cel_value.specs.CelType.{join as type_join};
-ghost use Rattle.cel_check.specs.Operators.{row, bool_if, bool_where, code_of, operands_of, operator_of, type_of_one, type_of_two};
-ghost use Rattle.cel_check.specs.Meaning.{is_truth, is_there};
-ghost use Rattle.cel_check.specs.Wants.{Whole, Natural, Ordered, limit_of};
+ghost use Rattle.std.specs.Prelude.{◌≡◌};
+ghost use Rattle.cel_check.specs.Operators.{row, code_of, operands_of, operator_of, type_of_one, type_of_two};
 ghost use Rattle.cel_check.specs.Typing.{Tells};
 
-use crate::equating::are_comparable;
+use crate::answer_type::{
+    in_list, index_list, index_map, joined, list_sum, order, same_text, text_sum, where_both_taken,
+    where_taken,
+};
+use crate::equating::compared;
 use crate::fault::{TypeRule, Untyped};
-use crate::operands::{Operands, Want, without_null};
-use cel_value::{CelError, CelType, Value, join};
+use crate::operands::{Operands, Want};
+use cel_value::{CelError, CelType, Value};
 use std::alloc::Global;
 
 /// An operator at one kind of operands (cel-spec, "List of Standard Definitions").
@@ -20,16 +19,50 @@ pub enum Operator {
     Negate,
     Add,
     AddUint,
+    AddText,
+    AddList,
     Subtract,
+    SubtractUint,
     Multiply,
+    MultiplyUint,
     Divide,
+    DivideUint,
     Remainder,
+    RemainderUint,
     Equal,
     NotEqual,
     Less,
     AtMost,
     Greater,
     AtLeast,
+    InList,
+    InMap,
+    IndexList,
+    IndexMap,
+    SizeText,
+    SizeList,
+    SizeMap,
+    StartsWith,
+    EndsWith,
+    Contains,
+    LowerAscii,
+    UpperAscii,
+    StringOfInt,
+    StringOfUint,
+    StringOfText,
+    IntOfInt,
+    IntOfUint,
+    IntOfText,
+    UintOfInt,
+    UintOfUint,
+    UintOfText,
+    SumInts,
+    SumUints,
+    MinInts,
+    MinUints,
+    MaxInts,
+    MaxUints,
+    Join,
 }
 
 /// An operator that takes certain operands, and the type of its answers.
@@ -56,16 +89,50 @@ impl Operator {
             Operator::Negate => 1,
             Operator::Add => 2,
             Operator::AddUint => 3,
+            Operator::AddText => 4,
+            Operator::AddList => 5,
             Operator::Subtract => 6,
+            Operator::SubtractUint => 7,
             Operator::Multiply => 8,
+            Operator::MultiplyUint => 9,
             Operator::Divide => 10,
+            Operator::DivideUint => 11,
             Operator::Remainder => 12,
+            Operator::RemainderUint => 13,
             Operator::Equal => 14,
             Operator::NotEqual => 15,
             Operator::Less => 16,
             Operator::AtMost => 17,
             Operator::Greater => 18,
             Operator::AtLeast => 19,
+            Operator::InList => 20,
+            Operator::InMap => 21,
+            Operator::IndexList => 22,
+            Operator::IndexMap => 23,
+            Operator::SizeText => 24,
+            Operator::SizeList => 25,
+            Operator::SizeMap => 26,
+            Operator::StartsWith => 27,
+            Operator::EndsWith => 28,
+            Operator::Contains => 29,
+            Operator::LowerAscii => 30,
+            Operator::UpperAscii => 31,
+            Operator::StringOfInt => 32,
+            Operator::StringOfUint => 33,
+            Operator::StringOfText => 34,
+            Operator::IntOfInt => 35,
+            Operator::IntOfUint => 36,
+            Operator::IntOfText => 37,
+            Operator::UintOfInt => 38,
+            Operator::UintOfUint => 39,
+            Operator::UintOfText => 40,
+            Operator::SumInts => 41,
+            Operator::SumUints => 42,
+            Operator::MinInts => 43,
+            Operator::MinUints => 44,
+            Operator::MaxInts => 45,
+            Operator::MaxUints => 46,
+            Operator::Join => 47,
         }
     }
 
@@ -75,17 +142,46 @@ impl Operator {
     {
         match self {
             Operator::Not => Operands::One(Want::Truth),
-            Operator::Negate => Operands::One(Want::Whole),
+            Operator::Negate | Operator::StringOfInt | Operator::IntOfInt | Operator::UintOfInt =>
+                Operands::One(Want::Whole),
+            Operator::StringOfUint | Operator::IntOfUint | Operator::UintOfUint => Operands::One(
+                Want::Natural,
+            ),
+            Operator::SizeText
+            | Operator::LowerAscii
+            | Operator::UpperAscii
+            | Operator::StringOfText
+            | Operator::IntOfText
+            | Operator::UintOfText => Operands::One(Want::Characters),
+            Operator::SizeList => Operands::One(Want::Items),
+            Operator::SizeMap => Operands::One(Want::Entries),
+            Operator::SumInts | Operator::MinInts | Operator::MaxInts => Operands::One(
+                Want::Wholes,
+            ),
+            Operator::SumUints | Operator::MinUints | Operator::MaxUints => Operands::One(
+                Want::Naturals,
+            ),
             Operator::Add
             | Operator::Subtract
             | Operator::Multiply
             | Operator::Divide
             | Operator::Remainder => Operands::Two(Want::Whole, Want::Whole),
-            Operator::AddUint => Operands::Two(Want::Natural, Want::Natural),
+            Operator::AddUint
+            | Operator::SubtractUint
+            | Operator::MultiplyUint
+            | Operator::DivideUint
+            | Operator::RemainderUint => Operands::Two(Want::Natural, Want::Natural),
             Operator::Equal | Operator::NotEqual => Operands::Two(Want::Any, Want::Any),
-            Operator::Less | Operator::AtMost | Operator::Greater | Operator::AtLeast => {
-                Operands::Two(Want::Ordered, Want::Ordered)
-            }
+            Operator::Less | Operator::AtMost | Operator::Greater | Operator::AtLeast =>
+                Operands::Two(Want::Ordered, Want::Ordered),
+            Operator::AddText | Operator::StartsWith | Operator::EndsWith | Operator::Contains =>
+                Operands::Two(Want::Characters, Want::Characters),
+            Operator::AddList => Operands::Two(Want::Items, Want::Items),
+            Operator::InList => Operands::Two(Want::Any, Want::Items),
+            Operator::InMap => Operands::Two(Want::Characters, Want::Entries),
+            Operator::IndexList => Operands::Two(Want::Indexed, Want::Whole),
+            Operator::IndexMap => Operands::Two(Want::Sought, Want::Characters),
+            Operator::Join => Operands::Two(Want::Texts, Want::Characters),
         }
     }
 
@@ -93,9 +189,35 @@ impl Operator {
     pub fn type_of_one(&self, operand: &CelType) -> Result<CelType, TypeRule>
         ensures { result ≡ type_of_one (row self.now) operand.now }
     {
-        match (self, without_null(operand)) {
-            (Operator::Not, CelType::Never | CelType::Bool) => Ok(CelType::Bool),
-            (Operator::Negate, CelType::Never | CelType::Int) => Ok(CelType::Int),
+        match self {
+            Operator::Not => where_taken(Want::Truth, operand, CelType::Bool),
+            Operator::Negate | Operator::IntOfInt => where_taken(
+                Want::Whole,
+                operand,
+                CelType::Int,
+            ),
+            Operator::UintOfInt => where_taken(Want::Whole, operand, CelType::Uint),
+            Operator::StringOfInt => where_taken(Want::Whole, operand, CelType::Text { max: 20 }),
+            Operator::IntOfUint => where_taken(Want::Natural, operand, CelType::Int),
+            Operator::UintOfUint => where_taken(Want::Natural, operand, CelType::Uint),
+            Operator::StringOfUint => {
+                where_taken(Want::Natural, operand, CelType::Text { max: 20 })
+            }
+            Operator::SizeText | Operator::IntOfText => {
+                where_taken(Want::Characters, operand, CelType::Int)
+            }
+            Operator::UintOfText => where_taken(Want::Characters, operand, CelType::Uint),
+            Operator::LowerAscii | Operator::UpperAscii | Operator::StringOfText => {
+                same_text(operand)
+            }
+            Operator::SizeList => where_taken(Want::Items, operand, CelType::Int),
+            Operator::SizeMap => where_taken(Want::Entries, operand, CelType::Int),
+            Operator::SumInts | Operator::MinInts | Operator::MaxInts => {
+                where_taken(Want::Wholes, operand, CelType::Int)
+            }
+            Operator::SumUints | Operator::MinUints | Operator::MaxUints => {
+                where_taken(Want::Naturals, operand, CelType::Uint)
+            }
             _ => Err(TypeRule::NoOverload),
         }
     }
@@ -110,29 +232,43 @@ impl Operator {
         ensures { Tells result (type_of_two (row self.now) left.now right.now) }
     {
         match self {
-            Operator::Not | Operator::Negate => Err(Untyped::Rule(TypeRule::NoOverload)),
             Operator::Add
             | Operator::Subtract
             | Operator::Multiply
             | Operator::Divide
             | Operator::Remainder => {
-                if is_whole(left) && is_whole(right) {
-                    Ok(CelType::Int)
-                } else {
-                    Err(Untyped::Rule(TypeRule::NoOverload))
-                }
+                where_both_taken(Want::Whole, Want::Whole, left, right, CelType::Int)
             }
-            Operator::AddUint => uint_where(is_natural(left) && is_natural(right)),
-            Operator::Equal | Operator::NotEqual => truth_where(are_comparable(
-                alloc, left, right,
-            )?),
-            _ => {
-                if is_ordered(left) && is_ordered(right) {
-                    compared(alloc, without_null(left), without_null(right))
-                } else {
-                    Err(Untyped::Rule(TypeRule::NoOverload))
-                }
+            Operator::AddUint
+            | Operator::SubtractUint
+            | Operator::MultiplyUint
+            | Operator::DivideUint
+            | Operator::RemainderUint => {
+                where_both_taken(Want::Natural, Want::Natural, left, right, CelType::Uint)
             }
+            Operator::Equal | Operator::NotEqual => compared(alloc, left, right),
+            Operator::Less | Operator::AtMost | Operator::Greater | Operator::AtLeast => {
+                order(alloc, left, right)
+            }
+            Operator::StartsWith | Operator::EndsWith | Operator::Contains => {
+                where_both_taken(
+                    Want::Characters,
+                    Want::Characters,
+                    left,
+                    right,
+                    CelType::Bool,
+                )
+            }
+            Operator::AddText => text_sum(left, right),
+            Operator::AddList => list_sum(alloc, left, right),
+            Operator::InList => in_list(alloc, left, right),
+            Operator::InMap => {
+                where_both_taken(Want::Characters, Want::Entries, left, right, CelType::Bool)
+            }
+            Operator::IndexList => index_list(left, right),
+            Operator::IndexMap => index_map(left, right),
+            Operator::Join => joined(left, right),
+            _ => Err(Untyped::Rule(TypeRule::NoOverload)),
         }
     }
 
@@ -141,95 +277,59 @@ impl Operator {
         ensures { result ≡ operator_of code }
     {
         match OPERATORS.get(code) {
-            Some(entry) => *entry,
+            Some(operator) => Some(*operator),
             None => None,
         }
     }
 }
 
-/// Whether a type may stand where a truth value is asked. Null may be one of its values, here and below: it is an error
-/// then, and of no kind.
-pub fn is_truth(cel_type: &CelType) -> bool
-    ensures { result ≡ is_truth cel_type.now }
-{
-    matches!(without_null(cel_type), CelType::Never | CelType::Bool)
-}
-
-/// Whether a type may stand where an integer is asked.
-pub fn is_whole(cel_type: &CelType) -> bool
-    ensures { result ≡ is_there (limit_of Whole cel_type.now) }
-{
-    matches!(without_null(cel_type), CelType::Never | CelType::Int)
-}
-
-/// Whether a type may stand where an unsigned integer is asked.
-pub fn is_natural(cel_type: &CelType) -> bool
-    ensures { result ≡ is_there (limit_of Natural cel_type.now) }
-{
-    matches!(without_null(cel_type), CelType::Never | CelType::Uint)
-}
-
-/// Whether a type may stand where a value that has an order is asked.
-pub fn is_ordered(cel_type: &CelType) -> bool
-    ensures { result ≡ is_there (limit_of Ordered cel_type.now) }
-{
-    matches!(
-        without_null(cel_type),
-        CelType::Never | CelType::Bool | CelType::Int
-    )
-}
-
-/// The type of unsigned integers, where an operator takes its operands.
-fn uint_where(taken: bool) -> Result<CelType, Untyped>
-    ensures { Tells result (if taken then Ok type.Uint else Err NoOverload) }
-{
-    if taken {
-        Ok(CelType::Uint)
-    } else {
-        Err(Untyped::Rule(TypeRule::NoOverload))
-    }
-}
-
-/// The type of truth values, where an operator takes its operands.
-fn truth_where(taken: bool) -> Result<CelType, Untyped>
-    ensures { Tells result (bool_if taken) }
-{
-    if taken {
-        Ok(CelType::Bool)
-    } else {
-        Err(Untyped::Rule(TypeRule::NoOverload))
-    }
-}
-
-/// The type of a comparison of two types, which want a join.
-fn compared(alloc: Global, left: &CelType, right: &CelType) -> Result<CelType, Untyped>
-    ensures { Tells result (bool_where (type_join left.now right.now)) }
-{
-    match join(alloc, left, right)? {
-        Some(_) => Ok(CelType::Bool),
-        None => Err(Untyped::Rule(TypeRule::NoOverload)),
-    }
-}
-
-static OPERATORS: [Option<Operator>; 20] = [
-    Some(Operator::Not),
-    Some(Operator::Negate),
-    Some(Operator::Add),
-    Some(Operator::AddUint),
-    None,
-    None,
-    Some(Operator::Subtract),
-    None,
-    Some(Operator::Multiply),
-    None,
-    Some(Operator::Divide),
-    None,
-    Some(Operator::Remainder),
-    None,
-    Some(Operator::Equal),
-    Some(Operator::NotEqual),
-    Some(Operator::Less),
-    Some(Operator::AtMost),
-    Some(Operator::Greater),
-    Some(Operator::AtLeast),
+static OPERATORS: [Operator; 48] = [
+    Operator::Not,
+    Operator::Negate,
+    Operator::Add,
+    Operator::AddUint,
+    Operator::AddText,
+    Operator::AddList,
+    Operator::Subtract,
+    Operator::SubtractUint,
+    Operator::Multiply,
+    Operator::MultiplyUint,
+    Operator::Divide,
+    Operator::DivideUint,
+    Operator::Remainder,
+    Operator::RemainderUint,
+    Operator::Equal,
+    Operator::NotEqual,
+    Operator::Less,
+    Operator::AtMost,
+    Operator::Greater,
+    Operator::AtLeast,
+    Operator::InList,
+    Operator::InMap,
+    Operator::IndexList,
+    Operator::IndexMap,
+    Operator::SizeText,
+    Operator::SizeList,
+    Operator::SizeMap,
+    Operator::StartsWith,
+    Operator::EndsWith,
+    Operator::Contains,
+    Operator::LowerAscii,
+    Operator::UpperAscii,
+    Operator::StringOfInt,
+    Operator::StringOfUint,
+    Operator::StringOfText,
+    Operator::IntOfInt,
+    Operator::IntOfUint,
+    Operator::IntOfText,
+    Operator::UintOfInt,
+    Operator::UintOfUint,
+    Operator::UintOfText,
+    Operator::SumInts,
+    Operator::SumUints,
+    Operator::MinInts,
+    Operator::MinUints,
+    Operator::MaxInts,
+    Operator::MaxUints,
+    Operator::Join,
 ];

@@ -1,5 +1,6 @@
 ghost use Rattle.std.specs.Prelude.{◌≡◌, Ok, Err};
-ghost use Rattle.cel_check.specs.Typing.{unary_overloads, binary_overloads, overload_of_one, overload_of_two, Tells};
+ghost use Rattle.cel_check.specs.Typing.{unary_overloads, binary_overloads, first_of_one, first_of_two, Tells};
+ghost use Rattle.cel_check.specs.Typing.{index_overloads, function_overloads, method_overloads, method_overloads_with};
 
 use crate::fault::{TypeRule, Untyped};
 use crate::operator::{Operator, Overload};
@@ -7,11 +8,10 @@ use cel_parse::{BinaryOperator, UnaryOperator};
 use cel_value::CelType;
 use std::alloc::Global;
 
-/// The first overload that takes an operand of a type.
-pub fn overload_of_one(operator: UnaryOperator, operand: &CelType) -> Result<Overload, TypeRule>
-    ensures { result ≡ overload_of_one operator operand.now }
+/// The first of these overloads that takes an operand of a type.
+pub fn first_of_one(overloads: &[Operator], operand: &CelType) -> Result<Overload, TypeRule>
+    ensures { result ≡ first_of_one overloads.now operand.now }
 {
-    let overloads = unary_overloads(operator);
     for overload in overloads {
         match overload.type_of_one(operand) {
             Ok(cel_type) => {
@@ -27,16 +27,15 @@ pub fn overload_of_one(operator: UnaryOperator, operand: &CelType) -> Result<Ove
     Err(TypeRule::NoOverload)
 }
 
-/// The first overload that takes operands of two types.
-pub fn overload_of_two(
+/// The first of these overloads that takes operands of two types.
+pub fn first_of_two(
     alloc: Global,
-    operator: BinaryOperator,
+    overloads: &[Operator],
     left: &CelType,
     right: &CelType,
 ) -> Result<Overload, Untyped>
-    ensures { Tells result (overload_of_two operator left.now right.now) }
+    ensures { Tells result (first_of_two overloads.now left.now right.now) }
 {
-    let overloads = binary_overloads(operator);
     for overload in overloads {
         match overload.type_of_two(alloc, left, right) {
             Ok(cel_type) => {
@@ -53,7 +52,7 @@ pub fn overload_of_two(
 }
 
 /// The overloads of an operator in front of one operand, in the order in which they are tried.
-fn unary_overloads(operator: UnaryOperator) -> &'static [Operator]
+pub fn unary_overloads(operator: UnaryOperator) -> &'static [Operator]
     ensures { result.now ≡ unary_overloads operator }
 {
     match operator {
@@ -63,7 +62,7 @@ fn unary_overloads(operator: UnaryOperator) -> &'static [Operator]
 }
 
 /// The overloads of an operator between two operands, likewise.
-fn binary_overloads(operator: BinaryOperator) -> &'static [Operator]
+pub fn binary_overloads(operator: BinaryOperator) -> &'static [Operator]
     ensures { result.now ≡ binary_overloads operator }
 {
     match operator {
@@ -73,11 +72,92 @@ fn binary_overloads(operator: BinaryOperator) -> &'static [Operator]
         BinaryOperator::AtLeast => &[Operator::AtLeast],
         BinaryOperator::Equal => &[Operator::Equal],
         BinaryOperator::NotEqual => &[Operator::NotEqual],
-        BinaryOperator::In => &[],
-        BinaryOperator::Add => &[Operator::Add, Operator::AddUint],
-        BinaryOperator::Subtract => &[Operator::Subtract],
-        BinaryOperator::Multiply => &[Operator::Multiply],
-        BinaryOperator::Divide => &[Operator::Divide],
-        BinaryOperator::Remainder => &[Operator::Remainder],
+        BinaryOperator::In => &[Operator::InList, Operator::InMap],
+        BinaryOperator::Add => &[
+            Operator::Add,
+            Operator::AddUint,
+            Operator::AddText,
+            Operator::AddList,
+        ],
+        BinaryOperator::Subtract => &[Operator::Subtract, Operator::SubtractUint],
+        BinaryOperator::Multiply => &[Operator::Multiply, Operator::MultiplyUint],
+        BinaryOperator::Divide => &[Operator::Divide, Operator::DivideUint],
+        BinaryOperator::Remainder => &[Operator::Remainder, Operator::RemainderUint],
+    }
+}
+
+/// The overloads of an index, likewise.
+pub fn index_overloads() -> &'static [Operator]
+    ensures { result.now ≡ index_overloads }
+{
+    &[Operator::IndexList, Operator::IndexMap]
+}
+
+/// The overloads of a function of one argument, by its name.
+#[tactic(auto, unfolding(crate::specs::Typing::function_overloads))]
+pub fn function_overloads(name: &str) -> &'static [Operator]
+    ensures { result.now ≡ function_overloads name.now }
+{
+    let name = name.as_bytes();
+    if name == b"size".as_slice() {
+        &[Operator::SizeText, Operator::SizeList, Operator::SizeMap]
+    } else if name == b"string".as_slice() {
+        &[
+            Operator::StringOfInt,
+            Operator::StringOfUint,
+            Operator::StringOfText,
+        ]
+    } else if name == b"int".as_slice() {
+        &[Operator::IntOfInt, Operator::IntOfUint, Operator::IntOfText]
+    } else if name == b"uint".as_slice() {
+        &[
+            Operator::UintOfInt,
+            Operator::UintOfUint,
+            Operator::UintOfText,
+        ]
+    } else {
+        &[]
+    }
+}
+
+/// The overloads of a method with no argument, by its name.
+#[tactic(auto, unfolding(crate::specs::Typing::method_overloads))]
+pub fn method_overloads(name: &str) -> &'static [Operator]
+    ensures { result.now ≡ method_overloads name.now }
+{
+    let name = name.as_bytes();
+    if name == b"size".as_slice() {
+        &[Operator::SizeText, Operator::SizeList, Operator::SizeMap]
+    } else if name == b"lowerAscii".as_slice() {
+        &[Operator::LowerAscii]
+    } else if name == b"upperAscii".as_slice() {
+        &[Operator::UpperAscii]
+    } else if name == b"sum".as_slice() {
+        &[Operator::SumInts, Operator::SumUints]
+    } else if name == b"min".as_slice() {
+        &[Operator::MinInts, Operator::MinUints]
+    } else if name == b"max".as_slice() {
+        &[Operator::MaxInts, Operator::MaxUints]
+    } else {
+        &[]
+    }
+}
+
+/// The overloads of a method with one argument, by its name.
+#[tactic(auto, unfolding(crate::specs::Typing::method_overloads_with))]
+pub fn method_overloads_with(name: &str) -> &'static [Operator]
+    ensures { result.now ≡ method_overloads_with name.now }
+{
+    let name = name.as_bytes();
+    if name == b"startsWith".as_slice() {
+        &[Operator::StartsWith]
+    } else if name == b"endsWith".as_slice() {
+        &[Operator::EndsWith]
+    } else if name == b"contains".as_slice() {
+        &[Operator::Contains]
+    } else if name == b"join".as_slice() {
+        &[Operator::Join]
+    } else {
+        &[]
     }
 }

@@ -1,16 +1,20 @@
 use crate::operator::Operator;
 use cel_value::{CelType, Value};
-use plain::Boxed;
+use plain::{Boxed, Items};
 
 /// One level of a typed expression.
 #[derive(Drop)]
 pub enum Form<T> {
     Literal(Value),
+    /// What the slot of a number holds.
+    Slot(usize),
     Unary(Operator, Boxed<T>),
     Binary(Operator, Boxed<T>, Boxed<T>),
     And(Boxed<T>, Boxed<T>),
     Or(Boxed<T>, Boxed<T>),
     Conditional(Boxed<T>, Boxed<T>, Boxed<T>),
+    /// A list of these items.
+    ListOf(Items<T>),
 }
 
 /// An expression whose operators are chosen, each node with its type.

@@ -9,9 +9,11 @@ use Rattle.cel_code.specs.declared.image.Image.{Image}
 use Rattle.cel_code.specs.declared.image.Target.{Target}
 use Rattle.cel_code.specs.declared.instr.Instr.{Instr}
 use Rattle.cel_code.specs.declared.instr.Instr.TheVariants.{Const, AndTest, OrTest, Cond, Jump, End}
-use Rattle.cel_code.specs.Compiled.{IsCompiled, Layout, target, target_at_end, targets_from, layout_of}
+use Rattle.cel_code.specs.Compiled.{IsCompiled, Layout, target, target_at_end, targets_from, layout_of, sizes_of, targets_of}
+use Rattle.cel_code.specs.Drafts.{layouts_of}
 use Rattle.cel_code.specs.Jumps.{Jumps, IsJumpedTo, IsTarget, Rises, TargetsAreJumps}
-use Rattle.cel_code.specs.Placed.{Code, code_in, Has, Stands, literal, unary, binary, both, either, conditional}
+use Rattle.cel_code.specs.Placed.{Code, code_in, Has, Stands, literal, unary, binary, both, either, conditional, items, StandEach}
+use Rattle.cel_code.specs.Placed.{no_items, first_item, slot}
 use Rattle.cel_code.proofs.Written.{laid}
 
 -- one list of targets behind another
@@ -71,62 +73,82 @@ all_go l at to below x e (inr h) =
     (end_target l.joins (at + l.size) x (below ++ l.type ∷ []) h.1 (e ∙ sym h.0))
 
 module _ (code : Code) where
-  sized : (e : TypedTree) (from to : ℕ) → Stands code e from to → from + (layout_of e).size ≡ to
-  sized e from to (literal v f h) = rw (laid e _ f.is) (sym h.next)
-  sized e from to (unary op a m f h i next) = let x = sized a from m h in rw (laid e _ f.is) (omega (arith, x, next))
-  sized e from to (binary op a b m n f h k i next) =
-      let x = sized a from m h in let y = sized b m n k in rw (laid e _ f.is) (omega (arith, x, y, next))
-  sized e from to (both a b m n f h i k j next) =
-      let x = sized a from m h in let y = sized b (m + 1) n k in rw (laid e _ f.is) (omega (arith, x, y, next))
-  sized e from to (either a b m n f h i k j next) =
-      let x = sized a from m h in let y = sized b (m + 1) n k in rw (laid e _ f.is) (omega (arith, x, y, next))
-  sized e from to (conditional c a b m n f h i k j l) =
-      let x = sized c from m h in let y = sized a (m + 1) n k in let z = sized b (n + 1) to l in rw (laid e _ f.is) (omega (arith, x, y, z))
+  mutual
+    sized : (e : TypedTree) (from to : ℕ) → Stands code e from to → from + (layout_of e).size ≡ to
+    sized e from to (literal v f h) = rw (laid e _ f.is) (sym h.next)
+    sized e from to (slot n f h next) = rw (laid e _ f.is) (sym next)
+    sized e from to (unary op a m f h i next) = let x = sized a from m h in rw (laid e _ f.is) (omega (arith, x, next))
+    sized e from to (binary op a b m n f h k i next) =
+        let x = sized a from m h in let y = sized b m n k in rw (laid e _ f.is) (omega (arith, x, y, next))
+    sized e from to (both a b m n f h i k j next) =
+        let x = sized a from m h in let y = sized b (m + 1) n k in rw (laid e _ f.is) (omega (arith, x, y, next))
+    sized e from to (either a b m n f h i k j next) =
+        let x = sized a from m h in let y = sized b (m + 1) n k in rw (laid e _ f.is) (omega (arith, x, y, next))
+    sized e from to (conditional c a b m n f h i k j l) =
+        let x = sized c from m h in let y = sized a (m + 1) n k in let z = sized b (n + 1) to l in rw (laid e _ f.is) (omega (arith, x, y, z))
+    sized e from to (items xs m f hs i after) = let x = sized_each xs from m hs in rw (laid e _ f.is) (omega (arith, x, after))
+
+    sized_each : (xs : List TypedTree) (from to : ℕ) → StandEach code xs from to → from + sizes_of (layouts_of xs) ≡ to
+    sized_each xs from to (no_items none same) = rw none (omega (arith, same))
+    sized_each xs from to (first_item a rest m is h hs) =
+        let x = sized a from m h in let y = sized_each rest m to hs in rw is (omega (arith, x, y))
 
   -- the targets before the end stand behind the first instruction, in increasing order
-  rise : (e : TypedTree) (from to : ℕ) → Stands code e from to → (at : ℕ) → at ≡ from → (below : List CelType)
-      → Rises (from + 1) ((layout_of e).within at below) to
-  rise e from to (literal v f h) at same below = rw (laid e _ f.is) (omega (arith, h.next))
-  rise e from to (unary op a m f h i next) at same below =
-      let x = sized a from m h in
-      rw (laid e _ f.is, next) (all_rise (layout_of a) (from + 1) at m below (omega arith) (rise a from m h at same below))
-  rise e from to (binary op a b m n f h k i next) at same below =
-      let x = sized a from m h in
-      let y = sized b m n k in
-      let p = all_rise (layout_of a) (from + 1) at m below (omega arith) (rise a from m h at same below) in
-      let q =
-      all_rise (layout_of b) (m + 1) (at + (layout_of a).size) n (below ++ (layout_of a).type ∷ []) (omega arith)
-      (rise b m n k _ (omega arith) _) in
-      rw (laid e _ f.is, next) (rises_on _ _ (from + 1) (m + 1) (n + 1) p q)
-  rise e from to (both a b m n f h i k j next) at same below =
-      let x = sized a from m h in
-      let y = sized b (m + 1) n k in
-      let p = all_rise (layout_of a) (from + 1) at m below (omega arith) (rise a from m h at same below) in
-      let q =
-      all_rise (layout_of b) (m + 1 + 1) (at + (layout_of a).size + 1) n (below ++ (layout_of a).type ∷ []) (omega arith)
-      (rise b (m + 1) n k _ (omega arith) _) in
-      rw (laid e _ f.is, next) (rises_on _ _ (from + 1) (m + 1) (n + 1) p (rises_from _ (m + 1) (m + 1 + 1) (n + 1) (omega arith) q))
-  rise e from to (either a b m n f h i k j next) at same below =
-      let x = sized a from m h in
-      let y = sized b (m + 1) n k in
-      let p = all_rise (layout_of a) (from + 1) at m below (omega arith) (rise a from m h at same below) in
-      let q =
-      all_rise (layout_of b) (m + 1 + 1) (at + (layout_of a).size + 1) n (below ++ (layout_of a).type ∷ []) (omega arith)
-      (rise b (m + 1) n k _ (omega arith) _) in
-      rw (laid e _ f.is, next) (rises_on _ _ (from + 1) (m + 1) (n + 1) p (rises_from _ (m + 1) (m + 1 + 1) (n + 1) (omega arith) q))
-  rise e from to (conditional c a b m n f h i k j l) at same below =
-      let x = sized c from m h in
-      let y = sized a (m + 1) n k in
-      let no_at = at + (layout_of c).size + 1 + (layout_of a).size + 1 in
-      let no_is : no_at ≡ n + 1 = omega arith in
-      let p = all_rise (layout_of c) (from + 1) at m below (omega arith) (rise c from m h at same below) in
-      let q =
-      all_rise (layout_of a) (m + 1 + 1) (at + (layout_of c).size + 1) n below (omega arith) (rise a (m + 1) n k _ (omega arith) _) in
-      let r = rise b (n + 1) to l no_at no_is below in
-      rw (laid e _ f.is)
-      (rises_on _ _ (from + 1) (n + 1) to
-      (rises_on _ _ (from + 1) (m + 1) (n + 1) p (rises_from _ (m + 1) (m + 1 + 1) (n + 1) (omega arith) q))
-      (omega arith, rises_from _ (no_at + 1) (n + 1 + 1) to (omega arith) r))
+  mutual
+    rise : (e : TypedTree) (from to : ℕ) → Stands code e from to → (at : ℕ) → at ≡ from → (below : List CelType)
+        → Rises (from + 1) ((layout_of e).within at below) to
+    rise e from to (literal v f h) at same below = rw (laid e _ f.is) (omega (arith, h.next))
+    rise e from to (slot n f h next) at same below = rw (laid e _ f.is) (omega (arith, next))
+    rise e from to (unary op a m f h i next) at same below =
+        let x = sized a from m h in
+        rw (laid e _ f.is, next) (all_rise (layout_of a) (from + 1) at m below (omega arith) (rise a from m h at same below))
+    rise e from to (binary op a b m n f h k i next) at same below =
+        let x = sized a from m h in
+        let y = sized b m n k in
+        let p = all_rise (layout_of a) (from + 1) at m below (omega arith) (rise a from m h at same below) in
+        let q =
+        all_rise (layout_of b) (m + 1) (at + (layout_of a).size) n (below ++ (layout_of a).type ∷ []) (omega arith)
+        (rise b m n k _ (omega arith) _) in
+        rw (laid e _ f.is, next) (rises_on _ _ (from + 1) (m + 1) (n + 1) p q)
+    rise e from to (both a b m n f h i k j next) at same below =
+        let x = sized a from m h in
+        let y = sized b (m + 1) n k in
+        let p = all_rise (layout_of a) (from + 1) at m below (omega arith) (rise a from m h at same below) in
+        let q =
+        all_rise (layout_of b) (m + 1 + 1) (at + (layout_of a).size + 1) n (below ++ (layout_of a).type ∷ []) (omega arith)
+        (rise b (m + 1) n k _ (omega arith) _) in
+        rw (laid e _ f.is, next) (rises_on _ _ (from + 1) (m + 1) (n + 1) p (rises_from _ (m + 1) (m + 1 + 1) (n + 1) (omega arith) q))
+    rise e from to (either a b m n f h i k j next) at same below =
+        let x = sized a from m h in
+        let y = sized b (m + 1) n k in
+        let p = all_rise (layout_of a) (from + 1) at m below (omega arith) (rise a from m h at same below) in
+        let q =
+        all_rise (layout_of b) (m + 1 + 1) (at + (layout_of a).size + 1) n (below ++ (layout_of a).type ∷ []) (omega arith)
+        (rise b (m + 1) n k _ (omega arith) _) in
+        rw (laid e _ f.is, next) (rises_on _ _ (from + 1) (m + 1) (n + 1) p (rises_from _ (m + 1) (m + 1 + 1) (n + 1) (omega arith) q))
+    rise e from to (conditional c a b m n f h i k j l) at same below =
+        let x = sized c from m h in
+        let y = sized a (m + 1) n k in
+        let no_at = at + (layout_of c).size + 1 + (layout_of a).size + 1 in
+        let no_is : no_at ≡ n + 1 = omega arith in
+        let p = all_rise (layout_of c) (from + 1) at m below (omega arith) (rise c from m h at same below) in
+        let q =
+        all_rise (layout_of a) (m + 1 + 1) (at + (layout_of c).size + 1) n below (omega arith) (rise a (m + 1) n k _ (omega arith) _) in
+        let r = rise b (n + 1) to l no_at no_is below in
+        rw (laid e _ f.is)
+        (rises_on _ _ (from + 1) (n + 1) to
+        (rises_on _ _ (from + 1) (m + 1) (n + 1) p (rises_from _ (m + 1) (m + 1 + 1) (n + 1) (omega arith) q))
+        (omega arith, rises_from _ (no_at + 1) (n + 1 + 1) to (omega arith) r))
+    rise e from to (items xs m f hs i after) at same below = rw (laid e _ f.is, after) (rise_each xs from m hs at same below)
+
+    rise_each : (xs : List TypedTree) (from to : ℕ) → StandEach code xs from to → (at : ℕ) → at ≡ from → (below : List CelType)
+        → Rises (from + 1) (targets_of (layouts_of xs) at below) (to + 1)
+    rise_each xs from to (no_items none same') at same below = rw none (omega (arith, same'))
+    rise_each xs from to (first_item a rest m is h hs) at same below =
+        let x = sized a from m h in
+        let p = all_rise (layout_of a) (from + 1) at m below (omega arith) (rise a from m h at same below) in
+        let q = rise_each rest m to hs (at + (layout_of a).size) (omega arith) (below ++ (layout_of a).type ∷ []) in
+        rw is (rises_on _ _ (from + 1) (m + 1) (to + 1) p q)
 
   -- what an instruction does, the instruction does that stands there
   here : (k m : ℕ) (i j : Instr) → Has code k i → Has code m j → m ≡ k → (x : ℕ) → Jumps i x → Jumps j x
@@ -135,107 +157,130 @@ module _ (code : Code) where
       let is : i ≡ j = cc in
       subst (λ z. Jumps z x) is h
 
-  go : (e : TypedTree) (from to : ℕ) → Stands code e from to → (at : ℕ) → at ≡ from → (below : List CelType) → (s : ℕ)
-      → from ≤ s → s < to → (instr : Instr) → Has code s instr → (x : ℕ) → Jumps instr x
-      → Goes (layout_of e) at to below x
-  go e from to (literal v f h) at same below s le lt instr has x j =
-      absurd (here s from instr (Const h.number) has h.instr (omega (arith, h.next)) x j)
-  go e from to (unary op a m f h i next) at same below s le lt instr has x j =
-      let u = sized a from m h in
-      rw (laid e _ f.is) (elim (cases_lt s m) [
-        | inl less ↦ inl (all_go (layout_of a) at m below x (omega arith) (go a from m h at same below s le less instr has x j))
-        | inr more ↦ absurd (here s m instr _ has i (omega arith) x j)
-      ])
-  go e from to (binary op a b m n f h k i next) at same below s le lt instr has x j =
-      let u = sized a from m h in
-      let v = sized b m n k in
-      rw (laid e _ f.is) (elim (cases_lt s m) [
-        | inl less ↦
-            inl (target_left _ _ x (all_go (layout_of a) at m below x (omega arith) (go a from m h at same below s le less instr has x j)))
-        | inr more ↦ elim (cases_lt s n) [
+  mutual
+    go : (e : TypedTree) (from to : ℕ) → Stands code e from to → (at : ℕ) → at ≡ from → (below : List CelType) → (s : ℕ)
+        → from ≤ s → s < to → (instr : Instr) → Has code s instr → (x : ℕ) → Jumps instr x
+        → Goes (layout_of e) at to below x
+    go e from to (literal v f h) at same below s le lt instr has x j =
+        absurd (here s from instr (Const h.number) has h.instr (omega (arith, h.next)) x j)
+    go e from to (slot n f h next) at same below s le lt instr has x j =
+        absurd (here s from instr _ has h (omega (arith, next)) x j)
+    go e from to (unary op a m f h i next) at same below s le lt instr has x j =
+        let u = sized a from m h in
+        rw (laid e _ f.is) (elim (cases_lt s m) [
+          | inl less ↦ inl (all_go (layout_of a) at m below x (omega arith) (go a from m h at same below s le less instr has x j))
+          | inr more ↦ absurd (here s m instr _ has i (omega arith) x j)
+        ])
+    go e from to (binary op a b m n f h k i next) at same below s le lt instr has x j =
+        let u = sized a from m h in
+        let v = sized b m n k in
+        rw (laid e _ f.is) (elim (cases_lt s m) [
+          | inl less ↦
+              inl (target_left _ _ x (all_go (layout_of a) at m below x (omega arith) (go a from m h at same below s le less instr has x j)))
+          | inr more ↦ elim (cases_lt s n) [
+            | inl less ↦
+                inl
+                (target_right (targets_from (layout_of a) at below) _ x
+                (all_go (layout_of b) _ n _ x (omega arith) (go b m n k _ (omega arith) _ s more less instr has x j)))
+            | inr last ↦ absurd (here s n instr _ has i (omega arith) x j)
+          ]
+        ])
+    go e from to (both a b m n f h i k j' next) at same below s le lt instr has x j =
+        let u = sized a from m h in
+        let v = sized b (m + 1) n k in
+        rw (laid e _ f.is) (elim (cases_lt s m) [
+          | inl less ↦
+              inl (target_left _ _ x (all_go (layout_of a) at m below x (omega arith) (go a from m h at same below s le less instr has x j)))
+          | inr more ↦ elim (cases_lt s (m + 1)) [
+            | inl less ↦ inr (sym (here s m instr (AndTest to) has i (omega arith) x j), refl)
+            | inr right ↦ elim (cases_lt s n) [
+              | inl less ↦
+                  inl
+                  (target_right (targets_from (layout_of a) at below) _ x
+                  (all_go (layout_of b) _ n _ x (omega arith) (go b (m + 1) n k _ (omega arith) _ s right less instr has x j)))
+              | inr last ↦ absurd (here s n instr _ has j' (omega arith) x j)
+            ]
+          ]
+        ])
+    go e from to (either a b m n f h i k j' next) at same below s le lt instr has x j =
+        let u = sized a from m h in
+        let v = sized b (m + 1) n k in
+        rw (laid e _ f.is) (elim (cases_lt s m) [
+          | inl less ↦
+              inl (target_left _ _ x (all_go (layout_of a) at m below x (omega arith) (go a from m h at same below s le less instr has x j)))
+          | inr more ↦ elim (cases_lt s (m + 1)) [
+            | inl less ↦ inr (sym (here s m instr (OrTest to) has i (omega arith) x j), refl)
+            | inr right ↦ elim (cases_lt s n) [
+              | inl less ↦
+                  inl
+                  (target_right (targets_from (layout_of a) at below) _ x
+                  (all_go (layout_of b) _ n _ x (omega arith) (go b (m + 1) n k _ (omega arith) _ s right less instr has x j)))
+              | inr last ↦ absurd (here s n instr _ has j' (omega arith) x j)
+            ]
+          ]
+        ])
+    go e from to (conditional c a b m n f h i k j' l) at same below s le lt instr has x j =
+        let u = sized c from m h in
+        let v = sized a (m + 1) n k in
+        let no_at = at + (layout_of c).size + 1 + (layout_of a).size + 1 in
+        let no_is : no_at ≡ n + 1 = omega arith in
+        let first = targets_from (layout_of c) at below in
+        let second = targets_from (layout_of a) (at + (layout_of c).size + 1) below in
+        rw (laid e _ f.is) (elim (cases_lt s m) [
           | inl less ↦
               inl
-              (target_right (targets_from (layout_of a) at below) _ x
-              (all_go (layout_of b) _ n _ x (omega arith) (go b m n k _ (omega arith) _ s more less instr has x j)))
-          | inr last ↦ absurd (here s n instr _ has i (omega arith) x j)
-        ]
-      ])
-  go e from to (both a b m n f h i k j' next) at same below s le lt instr has x j =
-      let u = sized a from m h in
-      let v = sized b (m + 1) n k in
-      rw (laid e _ f.is) (elim (cases_lt s m) [
-        | inl less ↦
-            inl (target_left _ _ x (all_go (layout_of a) at m below x (omega arith) (go a from m h at same below s le less instr has x j)))
-        | inr more ↦ elim (cases_lt s (m + 1)) [
-          | inl less ↦ inr (sym (here s m instr (AndTest to) has i (omega arith) x j), refl)
-          | inr right ↦ elim (cases_lt s n) [
-            | inl less ↦
-                inl
-                (target_right (targets_from (layout_of a) at below) _ x
-                (all_go (layout_of b) _ n _ x (omega arith) (go b (m + 1) n k _ (omega arith) _ s right less instr has x j)))
-            | inr last ↦ absurd (here s n instr _ has j' (omega arith) x j)
-          ]
-        ]
-      ])
-  go e from to (either a b m n f h i k j' next) at same below s le lt instr has x j =
-      let u = sized a from m h in
-      let v = sized b (m + 1) n k in
-      rw (laid e _ f.is) (elim (cases_lt s m) [
-        | inl less ↦
-            inl (target_left _ _ x (all_go (layout_of a) at m below x (omega arith) (go a from m h at same below s le less instr has x j)))
-        | inr more ↦ elim (cases_lt s (m + 1)) [
-          | inl less ↦ inr (sym (here s m instr (OrTest to) has i (omega arith) x j), refl)
-          | inr right ↦ elim (cases_lt s n) [
-            | inl less ↦
-                inl
-                (target_right (targets_from (layout_of a) at below) _ x
-                (all_go (layout_of b) _ n _ x (omega arith) (go b (m + 1) n k _ (omega arith) _ s right less instr has x j)))
-            | inr last ↦ absurd (here s n instr _ has j' (omega arith) x j)
-          ]
-        ]
-      ])
-  go e from to (conditional c a b m n f h i k j' l) at same below s le lt instr has x j =
-      let u = sized c from m h in
-      let v = sized a (m + 1) n k in
-      let no_at = at + (layout_of c).size + 1 + (layout_of a).size + 1 in
-      let no_is : no_at ≡ n + 1 = omega arith in
-      let first = targets_from (layout_of c) at below in
-      let second = targets_from (layout_of a) (at + (layout_of c).size + 1) below in
-      rw (laid e _ f.is) (elim (cases_lt s m) [
-        | inl less ↦
-            inl
-            (target_left (first ++ second) _ x
-            (target_left first second x
-            (all_go (layout_of c) at m below x (omega arith) (go c from m h at same below s le less instr has x j))))
-        | inr more ↦ elim (cases_lt s (m + 1)) [
-          | inl less ↦ elim (here s m instr (Cond (n + 1) to) has i (omega arith) x j) [
-            | inl on_false ↦ inl (target_right (first ++ second) _ x (inl (no_is ∙ on_false)))
-            | inr on_error ↦ inr (sym on_error, refl)
-          ]
-          | inr later ↦ elim (cases_lt s n) [
-            | inl less ↦
-                inl
-                (target_left (first ++ second) _ x
-                (target_right first second x
-                (all_go (layout_of a) _ n below x (omega arith) (go a (m + 1) n k _ (omega arith) below s later less instr has x j))))
-            | inr jump ↦ elim (cases_lt s (n + 1)) [
-              | inl less ↦ inr (sym (here s n instr (Jump to) has j' (omega arith) x j), refl)
-              | inr no_branch ↦ elim (go b (n + 1) to l no_at no_is below s no_branch lt instr has x j) [
-                | inl t ↦ inl (target_right (first ++ second) _ x (inr t))
-                | inr t ↦ inr (t.0, refl)
+              (target_left (first ++ second) _ x
+              (target_left first second x
+              (all_go (layout_of c) at m below x (omega arith) (go c from m h at same below s le less instr has x j))))
+          | inr more ↦ elim (cases_lt s (m + 1)) [
+            | inl less ↦ elim (here s m instr (Cond (n + 1) to) has i (omega arith) x j) [
+              | inl on_false ↦ inl (target_right (first ++ second) _ x (inl (no_is ∙ on_false)))
+              | inr on_error ↦ inr (sym on_error, refl)
+            ]
+            | inr later ↦ elim (cases_lt s n) [
+              | inl less ↦
+                  inl
+                  (target_left (first ++ second) _ x
+                  (target_right first second x
+                  (all_go (layout_of a) _ n below x (omega arith) (go a (m + 1) n k _ (omega arith) below s later less instr has x j))))
+              | inr jump ↦ elim (cases_lt s (n + 1)) [
+                | inl less ↦ inr (sym (here s n instr (Jump to) has j' (omega arith) x j), refl)
+                | inr no_branch ↦ elim (go b (n + 1) to l no_at no_is below s no_branch lt instr has x j) [
+                  | inl t ↦ inl (target_right (first ++ second) _ x (inr t))
+                  | inr t ↦ inr (t.0, refl)
+                ]
               ]
             ]
           ]
-        ]
-      ])
+        ])
+    go e from to (items xs m f hs i after) at same below s le lt instr' has x j =
+        rw (laid e _ f.is) (elim (cases_lt s m) [
+          | inl less ↦ inl (go_each xs from m hs at same below s le less instr' has x j)
+          | inr more ↦ absurd (here s m instr' _ has i (omega arith) x j)
+        ])
+
+    go_each : (xs : List TypedTree) (from to : ℕ) → StandEach code xs from to → (at : ℕ) → at ≡ from → (below : List CelType) → (s : ℕ)
+        → from ≤ s → s < to → (instr : Instr) → Has code s instr → (x : ℕ) → Jumps instr x
+        → IsTarget (targets_of (layouts_of xs) at below) x
+    go_each xs from to (no_items none same') at same below s le lt i has x j = absurd (omega (arith, same'))
+    go_each xs from to (first_item a rest m is h hs) at same below s le lt i has x j =
+        let u = sized a from m h in
+        rw is (elim (cases_lt s m) [
+          | inl less ↦ target_left _ _ x (all_go (layout_of a) at m below x (omega arith) (go a from m h at same below s le less i has x j))
+          | inr more ↦
+              target_right (targets_from (layout_of a) at below) _ x
+              (go_each rest m to hs (at + (layout_of a).size) (omega arith) (below ++ (layout_of a).type ∷ []) s more lt i has x j)
+        ])
 
   -- an end is jumped to where the layout says so
   come_end : (e : TypedTree) (from to : ℕ) → Stands code e from to → (layout_of e).joins ≡ true → IsJumpedTo code.instrs to
   come_end e from to (literal v f h) q = let no_join : false ≡ true = rw (laid e _ f.is) at q in cc
+  come_end e from to (slot n f h next) q = let no_join : false ≡ true = rw (laid e _ f.is) at q in cc
   come_end e from to (unary op a m f h i next) q = let no_join : false ≡ true = rw (laid e _ f.is) at q in cc
   come_end e from to (binary op a b m n f h k i next) q = let no_join : false ≡ true = rw (laid e _ f.is) at q in cc
   come_end e from to (both a b m n f h i k j next) q = record { from = m; instr = AndTest to; stands = i.is; jumps = refl }
   come_end e from to (either a b m n f h i k j next) q = record { from = m; instr = OrTest to; stands = i.is; jumps = refl }
+  come_end e from to (items xs m f hs i after) q = let no_join : false ≡ true = rw (laid e _ f.is) at q in cc
   come_end e from to (conditional c a b m n f h i k j l) q = record { from = n; instr = Jump to; stands = j.is; jumps = refl }
 
   all_come : (l : Layout) (at to : ℕ) (below : List CelType) (x : ℕ) → at + l.size ≡ to
@@ -246,62 +291,76 @@ module _ (code : Code) where
     | inr p ↦ let q = end_is l.joins (at + l.size) x (below ++ l.type ∷ []) p in subst (IsJumpedTo code.instrs) (sym e ∙ q.1) (g q.0)
   ]
 
-  come : (e : TypedTree) (from to : ℕ) → Stands code e from to → (at : ℕ) → at ≡ from → (below : List CelType) → (x : ℕ)
-      → IsTarget ((layout_of e).within at below) x → IsJumpedTo code.instrs x
-  come e from to (literal v f h) at same below x t = absurd (rw (laid e _ f.is) at t)
-  come e from to (unary op a m f h i next) at same below x t =
-      let u = sized a from m h in
-      all_come (layout_of a) at m below x (omega arith) (come a from m h at same below x) (come_end a from m h) (rw (laid e _ f.is) at t)
-  come e from to (binary op a b m n f h k i next) at same below x t =
-      let u = sized a from m h in
-      let v = sized b m n k in
-      let under = below ++ (layout_of a).type ∷ [] in
-      elim (target_cases (targets_from (layout_of a) at below) (targets_from (layout_of b) (at + (layout_of a).size) under) x (rw (laid e _ f.is) at t)) [
-        | inl p ↦ all_come (layout_of a) at m below x (omega arith) (come a from m h at same below x) (come_end a from m h) p
-        | inr p ↦
-            all_come (layout_of b) _ n under x (omega arith) (come b m n k (at + (layout_of a).size) (omega arith) under x)
-            (come_end b m n k) p
-      ]
-  come e from to (both a b m n f h i k j next) at same below x t =
-      let u = sized a from m h in
-      let v = sized b (m + 1) n k in
-      let under = below ++ (layout_of a).type ∷ [] in
-      elim (target_cases (targets_from (layout_of a) at below) (targets_from (layout_of b) (at + (layout_of a).size + 1) under) x (rw (laid e _ f.is) at t)) [
-        | inl p ↦ all_come (layout_of a) at m below x (omega arith) (come a from m h at same below x) (come_end a from m h) p
-        | inr p ↦
-            all_come (layout_of b) _ n under x (omega arith) (come b (m + 1) n k (at + (layout_of a).size + 1) (omega arith) under x)
-            (come_end b (m + 1) n k) p
-      ]
-  come e from to (either a b m n f h i k j next) at same below x t =
-      let u = sized a from m h in
-      let v = sized b (m + 1) n k in
-      let under = below ++ (layout_of a).type ∷ [] in
-      elim (target_cases (targets_from (layout_of a) at below) (targets_from (layout_of b) (at + (layout_of a).size + 1) under) x (rw (laid e _ f.is) at t)) [
-        | inl p ↦ all_come (layout_of a) at m below x (omega arith) (come a from m h at same below x) (come_end a from m h) p
-        | inr p ↦
-            all_come (layout_of b) _ n under x (omega arith) (come b (m + 1) n k (at + (layout_of a).size + 1) (omega arith) under x)
-            (come_end b (m + 1) n k) p
-      ]
-  come e from to (conditional c a b m n f h i k j l) at same below x t =
-      let u = sized c from m h in
-      let v = sized a (m + 1) n k in
-      let yes_at = at + (layout_of c).size + 1 in
-      let no_at = yes_at + (layout_of a).size + 1 in
-      let no_is : no_at ≡ n + 1 = omega arith in
-      let first = targets_from (layout_of c) at below in
-      let second = targets_from (layout_of a) yes_at below in
-      elim (target_cases (first ++ second) (target no_at below ∷ (layout_of b).within no_at below) x (rw (laid e _ f.is) at t)) [
-        | inl p ↦ elim (target_cases first second x p) [
-          | inl q ↦ all_come (layout_of c) at m below x (omega arith) (come c from m h at same below x) (come_end c from m h) q
-          | inr q ↦
-              all_come (layout_of a) yes_at n below x (omega arith) (come a (m + 1) n k yes_at (omega arith) below x)
-              (come_end a (m + 1) n k) q
+  mutual
+    come : (e : TypedTree) (from to : ℕ) → Stands code e from to → (at : ℕ) → at ≡ from → (below : List CelType) → (x : ℕ)
+        → IsTarget ((layout_of e).within at below) x → IsJumpedTo code.instrs x
+    come e from to (literal v f h) at same below x t = absurd (rw (laid e _ f.is) at t)
+    come e from to (slot n f h next) at same below x t = absurd (rw (laid e _ f.is) at t)
+    come e from to (unary op a m f h i next) at same below x t =
+        let u = sized a from m h in
+        all_come (layout_of a) at m below x (omega arith) (come a from m h at same below x) (come_end a from m h) (rw (laid e _ f.is) at t)
+    come e from to (binary op a b m n f h k i next) at same below x t =
+        let u = sized a from m h in
+        let v = sized b m n k in
+        let under = below ++ (layout_of a).type ∷ [] in
+        elim (target_cases (targets_from (layout_of a) at below) (targets_from (layout_of b) (at + (layout_of a).size) under) x (rw (laid e _ f.is) at t)) [
+          | inl p ↦ all_come (layout_of a) at m below x (omega arith) (come a from m h at same below x) (come_end a from m h) p
+          | inr p ↦
+              all_come (layout_of b) _ n under x (omega arith) (come b m n k (at + (layout_of a).size) (omega arith) under x)
+              (come_end b m n k) p
         ]
-        | inr p ↦ elim p [
-          | inl q ↦ record { from = m; instr = Cond (n + 1) to; stands = i.is; jumps = inl (sym no_is ∙ q) }
-          | inr q ↦ come b (n + 1) to l no_at no_is below x q
+    come e from to (both a b m n f h i k j next) at same below x t =
+        let u = sized a from m h in
+        let v = sized b (m + 1) n k in
+        let under = below ++ (layout_of a).type ∷ [] in
+        elim (target_cases (targets_from (layout_of a) at below) (targets_from (layout_of b) (at + (layout_of a).size + 1) under) x (rw (laid e _ f.is) at t)) [
+          | inl p ↦ all_come (layout_of a) at m below x (omega arith) (come a from m h at same below x) (come_end a from m h) p
+          | inr p ↦
+              all_come (layout_of b) _ n under x (omega arith) (come b (m + 1) n k (at + (layout_of a).size + 1) (omega arith) under x)
+              (come_end b (m + 1) n k) p
         ]
-      ]
+    come e from to (either a b m n f h i k j next) at same below x t =
+        let u = sized a from m h in
+        let v = sized b (m + 1) n k in
+        let under = below ++ (layout_of a).type ∷ [] in
+        elim (target_cases (targets_from (layout_of a) at below) (targets_from (layout_of b) (at + (layout_of a).size + 1) under) x (rw (laid e _ f.is) at t)) [
+          | inl p ↦ all_come (layout_of a) at m below x (omega arith) (come a from m h at same below x) (come_end a from m h) p
+          | inr p ↦
+              all_come (layout_of b) _ n under x (omega arith) (come b (m + 1) n k (at + (layout_of a).size + 1) (omega arith) under x)
+              (come_end b (m + 1) n k) p
+        ]
+    come e from to (conditional c a b m n f h i k j l) at same below x t =
+        let u = sized c from m h in
+        let v = sized a (m + 1) n k in
+        let yes_at = at + (layout_of c).size + 1 in
+        let no_at = yes_at + (layout_of a).size + 1 in
+        let no_is : no_at ≡ n + 1 = omega arith in
+        let first = targets_from (layout_of c) at below in
+        let second = targets_from (layout_of a) yes_at below in
+        elim (target_cases (first ++ second) (target no_at below ∷ (layout_of b).within no_at below) x (rw (laid e _ f.is) at t)) [
+          | inl p ↦ elim (target_cases first second x p) [
+            | inl q ↦ all_come (layout_of c) at m below x (omega arith) (come c from m h at same below x) (come_end c from m h) q
+            | inr q ↦
+                all_come (layout_of a) yes_at n below x (omega arith) (come a (m + 1) n k yes_at (omega arith) below x)
+                (come_end a (m + 1) n k) q
+          ]
+          | inr p ↦ elim p [
+            | inl q ↦ record { from = m; instr = Cond (n + 1) to; stands = i.is; jumps = inl (sym no_is ∙ q) }
+            | inr q ↦ come b (n + 1) to l no_at no_is below x q
+          ]
+        ]
+    come e from to (items xs m f hs i after) at same below x t = come_each xs from m hs at same below x (rw (laid e _ f.is) at t)
+
+    come_each : (xs : List TypedTree) (from to : ℕ) → StandEach code xs from to → (at : ℕ) → at ≡ from → (below : List CelType) → (x : ℕ)
+        → IsTarget (targets_of (layouts_of xs) at below) x → IsJumpedTo code.instrs x
+    come_each xs from to (no_items none same') at same below x t = absurd (rw none at t)
+    come_each xs from to (first_item a rest m is h hs) at same below x t =
+        let u = sized a from m h in
+        let under = below ++ (layout_of a).type ∷ [] in
+        elim (target_cases (targets_from (layout_of a) at below) (targets_of (layouts_of rest) (at + (layout_of a).size) under) x (rw is at t)) [
+          | inl p ↦ all_come (layout_of a) at m below x (omega arith) (come a from m h at same below x) (come_end a from m h) p
+          | inr p ↦ come_each rest m to hs (at + (layout_of a).size) (omega arith) under x p
+        ]
 
 within_list : {X : Type 0} (xs : List X) (k : ℕ) (x : X) → slice_get xs k ≡ Some x → k < length xs
 within_list [] k x h = cc

@@ -1,4 +1,5 @@
 pub mod Numbering
+pub mod Texts
 pub mod OneRun
 pub mod Place
 pub mod Runs
@@ -6,3 +7,5 @@ mod WorkedRows
 pub mod Jumped
 pub mod Unique
 pub mod Written
+pub mod Leaving
+pub mod Taking

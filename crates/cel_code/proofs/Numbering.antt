@@ -75,7 +75,7 @@ still_numbered constants old new v number is fresh notes =
           );
     }
 
-last_or_before : (xs : Values) (y x : Value) (k : ℕ) → slice_get (xs ++ y ∷ []) k ≡ Some x
+pub last_or_before : (xs : Values) (y x : Value) (k : ℕ) → slice_get (xs ++ y ∷ []) k ≡ Some x
     → (slice_get xs k ≡ Some x) ⊎ (x ≡ y)
 last_or_before [] y x zero h = inr (sym (same_Some _ _ h))
 last_or_before [] y x (suc k) h = cc

@@ -8,10 +8,12 @@ use Rattle.cel_check.specs.declared.operator.Operator.{Operator}
 use Rattle.cel_check.specs.declared.tree.TypedTree.{TypedTree, out-TypedTree}
 use Rattle.cel_check.specs.declared.tree.Form.TheVariants as form
 use Rattle.cel_code.specs.declared.instr.Instr.{Instr}
-use Rattle.cel_code.specs.declared.instr.Instr.TheVariants.{Const, Op, AndTest, OrTest, And, Or, Cond, Jump, End}
+use Rattle.cel_code.specs.declared.instr.Instr.TheVariants.{Const, Slot, Op, AndTest, OrTest, And, Or, Cond, Jump, End}
 use Rattle.cel_check.specs.Operators.{code_of}
-use Rattle.cel_code.specs.Placed.{Code, with_instr, patched, Interns, Has, Pushes, Stands, literal}
+use Rattle.cel_code.specs.Placed.{Code, with_instr, patched, Interns, Has, Pushes, Stands, literal, slot}
 use Rattle.cel_code.specs.Placed.{unary, binary, both, either, conditional, Same, Keeps, Emits}
+use Rattle.cel_code.specs.Placed.{items, StandEach, no_items, first_item, EmitsEach}
+use Rattle.cel_code.specs.declared.instr.Instr.TheVariants as instr
 
 -- one element more
 pub get_before : {X : Type 0} (xs : List X) (y : X) (i : ℕ) → i < length xs → slice_get (xs ++ y ∷ []) i ≡ slice_get xs i
@@ -63,14 +65,21 @@ same_after : (c : Code) (m n : ℕ) (i : Instr) → Same c (patched c m i) (m + 
 same_after c m n i = record { instr = λ k p q. get_beside c.instrs m i k (λ e. omega arith); constant = λ k v h. h }
 
 -- an expression has at least one instruction
-stands_lt : (code : Code) (e : TypedTree) (from to : ℕ) → Stands code e from to → from < to
-stands_lt code e from to (literal v f h) = omega (arith, h.next)
-stands_lt code e from to (unary op a m f h i n) = omega (arith, stands_lt code a from m h, n)
-stands_lt code e from to (binary op a b m n f h k i l) = omega (arith, stands_lt code a from m h, stands_lt code b m n k, l)
-stands_lt code e from to (both a b m n f h i k j l) = omega (arith, stands_lt code a from m h, stands_lt code b (m + 1) n k, l)
-stands_lt code e from to (either a b m n f h i k j l) = omega (arith, stands_lt code a from m h, stands_lt code b (m + 1) n k, l)
-stands_lt code e from to (conditional c a b m n f h i k j l) =
-    omega (arith, stands_lt code c from m h, stands_lt code a (m + 1) n k, stands_lt code b (n + 1) to l)
+mutual
+  stands_lt : (code : Code) (e : TypedTree) (from to : ℕ) → Stands code e from to → from < to
+  stands_lt code e from to (literal v f h) = omega (arith, h.next)
+  stands_lt code e from to (slot n f h next) = omega (arith, next)
+  stands_lt code e from to (unary op a m f h i n) = omega (arith, stands_lt code a from m h, n)
+  stands_lt code e from to (binary op a b m n f h k i l) = omega (arith, stands_lt code a from m h, stands_lt code b m n k, l)
+  stands_lt code e from to (both a b m n f h i k j l) = omega (arith, stands_lt code a from m h, stands_lt code b (m + 1) n k, l)
+  stands_lt code e from to (either a b m n f h i k j l) = omega (arith, stands_lt code a from m h, stands_lt code b (m + 1) n k, l)
+  stands_lt code e from to (conditional c a b m n f h i k j l) =
+      omega (arith, stands_lt code c from m h, stands_lt code a (m + 1) n k, stands_lt code b (n + 1) to l)
+  stands_lt code e from to (items xs m f hs i after) = omega (arith, stands_le code xs from m hs, after)
+
+  stands_le : (code : Code) (xs : List TypedTree) (from to : ℕ) → StandEach code xs from to → from ≤ to
+  stands_le code xs from to (no_items none same) = omega (arith, same)
+  stands_le code xs from to (first_item a rest m is h hs) = omega (arith, stands_lt code a from m h, stands_le code rest m to hs)
 
 module _ (old new : Code) where
   has_moved : (i : Instr) (at from to : ℕ) → Has old at i → Same old new from to → from ≤ at → at < to → Has new at i
@@ -81,41 +90,55 @@ module _ (old new : Code) where
       record { number = p.number; instr = has_moved _ from from to p.instr s (omega arith) (omega (arith, p.next)); constant = s.constant _ v p.constant; next = p.next }
 
   -- an expression's instructions stand in each code that has the same ones there
-  moved : (e : TypedTree) (from to : ℕ) → Stands old e from to → Same old new from to → Stands new e from to
-  moved e from to (literal v f h) s = literal v f (push_moved v from to h s)
-  moved e from to (unary op a m f h i l) s =
-      let x = stands_lt old a from m h in
-      unary op a m f (moved a from m h (narrow old new from to _ _ s (omega arith) (omega (arith, l))))
-      (has_moved _ m from to i s (omega arith) (omega (arith, l))) l
-  moved e from to (binary op a b m n f h k i l) s =
-      let x = stands_lt old a from m h in
-      let y = stands_lt old b m n k in
-      binary op a b m n f (moved a from m h (narrow old new from to _ _ s (omega arith) (omega (arith, l))))
-      (moved b m n k (narrow old new from to _ _ s (omega arith) (omega (arith, l))))
-      (has_moved _ n from to i s (omega arith) (omega (arith, l))) l
-  moved e from to (both a b m n f h i k j l) s =
-      let x = stands_lt old a from m h in
-      let y = stands_lt old b (m + 1) n k in
-      both a b m n f (moved a from m h (narrow old new from to _ _ s (omega arith) (omega (arith, l))))
-      (has_moved _ m from to i s (omega arith) (omega (arith, l)))
-      (moved b (m + 1) n k (narrow old new from to _ _ s (omega arith) (omega (arith, l))))
-      (has_moved _ n from to j s (omega arith) (omega (arith, l))) l
-  moved e from to (either a b m n f h i k j l) s =
-      let x = stands_lt old a from m h in
-      let y = stands_lt old b (m + 1) n k in
-      either a b m n f (moved a from m h (narrow old new from to _ _ s (omega arith) (omega (arith, l))))
-      (has_moved _ m from to i s (omega arith) (omega (arith, l)))
-      (moved b (m + 1) n k (narrow old new from to _ _ s (omega arith) (omega (arith, l))))
-      (has_moved _ n from to j s (omega arith) (omega (arith, l))) l
-  moved e from to (conditional c a b m n f h i k j l) s =
-      let x = stands_lt old c from m h in
-      let y = stands_lt old a (m + 1) n k in
-      let z = stands_lt old b (n + 1) to l in
-      conditional c a b m n f (moved c from m h (narrow old new from to _ _ s (omega arith) (omega arith)))
-      (has_moved _ m from to i s (omega arith) (omega arith))
-      (moved a (m + 1) n k (narrow old new from to _ _ s (omega arith) (omega arith)))
-      (has_moved _ n from to j s (omega arith) (omega arith))
-      (moved b (n + 1) to l (narrow old new from to _ _ s (omega arith) (omega arith)))
+  mutual
+    moved : (e : TypedTree) (from to : ℕ) → Stands old e from to → Same old new from to → Stands new e from to
+    moved e from to (literal v f h) s = literal v f (push_moved v from to h s)
+    moved e from to (slot n f h next) s = slot n f (has_moved _ from from to h s (omega arith) (omega (arith, next))) next
+    moved e from to (unary op a m f h i l) s =
+        let x = stands_lt old a from m h in
+        unary op a m f (moved a from m h (narrow old new from to _ _ s (omega arith) (omega (arith, l))))
+        (has_moved _ m from to i s (omega arith) (omega (arith, l))) l
+    moved e from to (binary op a b m n f h k i l) s =
+        let x = stands_lt old a from m h in
+        let y = stands_lt old b m n k in
+        binary op a b m n f (moved a from m h (narrow old new from to _ _ s (omega arith) (omega (arith, l))))
+        (moved b m n k (narrow old new from to _ _ s (omega arith) (omega (arith, l))))
+        (has_moved _ n from to i s (omega arith) (omega (arith, l))) l
+    moved e from to (both a b m n f h i k j l) s =
+        let x = stands_lt old a from m h in
+        let y = stands_lt old b (m + 1) n k in
+        both a b m n f (moved a from m h (narrow old new from to _ _ s (omega arith) (omega (arith, l))))
+        (has_moved _ m from to i s (omega arith) (omega (arith, l)))
+        (moved b (m + 1) n k (narrow old new from to _ _ s (omega arith) (omega (arith, l))))
+        (has_moved _ n from to j s (omega arith) (omega (arith, l))) l
+    moved e from to (either a b m n f h i k j l) s =
+        let x = stands_lt old a from m h in
+        let y = stands_lt old b (m + 1) n k in
+        either a b m n f (moved a from m h (narrow old new from to _ _ s (omega arith) (omega (arith, l))))
+        (has_moved _ m from to i s (omega arith) (omega (arith, l)))
+        (moved b (m + 1) n k (narrow old new from to _ _ s (omega arith) (omega (arith, l))))
+        (has_moved _ n from to j s (omega arith) (omega (arith, l))) l
+    moved e from to (conditional c a b m n f h i k j l) s =
+        let x = stands_lt old c from m h in
+        let y = stands_lt old a (m + 1) n k in
+        let z = stands_lt old b (n + 1) to l in
+        conditional c a b m n f (moved c from m h (narrow old new from to _ _ s (omega arith) (omega arith)))
+        (has_moved _ m from to i s (omega arith) (omega arith))
+        (moved a (m + 1) n k (narrow old new from to _ _ s (omega arith) (omega arith)))
+        (has_moved _ n from to j s (omega arith) (omega arith))
+        (moved b (n + 1) to l (narrow old new from to _ _ s (omega arith) (omega arith)))
+    moved e from to (items xs m f hs i after) s =
+        let x = stands_le old xs from m hs in
+        items xs m f (each_moved xs from m hs (narrow old new from to _ _ s (omega arith) (omega (arith, after))))
+        (has_moved _ m from to i s (omega arith) (omega (arith, after))) after
+
+    each_moved : (xs : List TypedTree) (from to : ℕ) → StandEach old xs from to → Same old new from to → StandEach new xs from to
+    each_moved xs from to (no_items none same) s = no_items none same
+    each_moved xs from to (first_item a rest m is h hs) s =
+        let x = stands_lt old a from m h in
+        let y = stands_le old rest m to hs in
+        first_item a rest m is (moved a from m h (narrow old new from to _ _ s (omega arith) (omega arith)))
+        (each_moved rest m to hs (narrow old new from to _ _ s (omega arith) (omega arith)))
 
 length_put : (c : Code) (i : Instr) → length (with_instr c i).instrs ≡ length c.instrs + 1
 length_put c i = omega (arith, length-append c.instrs (i ∷ []))
@@ -155,6 +178,12 @@ emits_literal old c1 new e v k is n put =
     rw put
     (record { stands = literal v (record { is = is }) (record { number = k; instr = here; constant = n.constant; next = grown }); keeps = keeps_on old c1 _ (keeps_interned old c1 v k n) (keeps_put c1 (Const k)) })
 
+pub emits_slot : (old new : Code) (e : TypedTree) (n : ℕ) → (out-TypedTree e).form ≡ form.Slot n
+    → new ≡ with_instr old (Slot n) → Emits old new e
+emits_slot old new e n is put =
+    rw put
+    (record { stands = slot n (record { is = is }) (has_put old (Slot n)) (length_put old (Slot n)); keeps = keeps_put old (Slot n) })
+
 pub emits_unary : (old c1 new : Code) (e : TypedTree) (op : Operator) (a a' : TypedTree) (k : ℕ)
     → (out-TypedTree e).form ≡ form.Unary op a → a' ≡ a → Emits old c1 a' → k ≡ code_of op → new ≡ with_instr c1 (Op k)
     → Emits old new e
@@ -176,6 +205,38 @@ emits_binary old c1 c2 new e op a b a' b' k is sa sb ea eb ek put =
     same_on c1 c2 _ 0 _ eb.keeps.same (narrow c2 _ 0 _ 0 _ p (omega arith) eb.keeps.grows) in
     rw (put, ek)
     (record { stands = binary op a b (length c1.instrs) (length c2.instrs) (record { is = is }) (moved c1 (with_instr c2 i) a _ _ ea.stands (narrow c1 _ 0 _ _ _ s1 (omega arith) (omega arith))) (moved c2 (with_instr c2 i) b _ _ eb.stands (narrow c2 _ 0 _ _ _ p (omega arith) (omega arith))) (has_put c2 i) (length_put c2 i); keeps = keeps_on old c1 _ ea.keeps (keeps_on c1 c2 _ eb.keeps (keeps_put c2 i)) })
+
+pub emits_none : (old new : Code) → new ≡ old → EmitsEach old new []
+emits_none old new same =
+    rw same
+    (record {
+      stands = no_items refl refl;
+      keeps = record { grows = omega arith; same = record { instr = λ i p q. refl; constant = λ k v h. h } };
+    })
+
+-- an expression in front of others
+pub emits_first : (old c1 new : Code) (a : TypedTree) (rest : List TypedTree) → Emits old c1 a → EmitsEach c1 new rest
+    → EmitsEach old new (a ∷ rest)
+emits_first old c1 new a rest ea er =
+    let s1 : Same c1 new (length old.instrs) (length c1.instrs) = narrow c1 new 0 _ _ _ er.keeps.same (omega arith) (omega arith) in
+    record {
+      stands = first_item a rest (length c1.instrs) refl (moved c1 new a _ _ ea.stands s1) er.stands;
+      keeps = keeps_on old c1 new ea.keeps er.keeps;
+    }
+
+pub emits_items : (old c1 c2 new : Code) (e : TypedTree) (xs ys : List TypedTree) (n : ℕ) → (out-TypedTree e).form ≡ form.ListOf xs
+    → ys ≡ xs → EmitsEach old c1 ys → c2 ≡ c1 → n ≡ length xs → new ≡ with_instr c2 (instr.List n) → Emits old new e
+emits_items old c1 c2 new e xs ys n is same ex left long put =
+    let i = instr.List (length xs) in
+    let ex : EmitsEach old c1 xs = rw (sym same) ex in
+    rw (put, left, long)
+    (record {
+      stands =
+          items xs (length c1.instrs) (record { is = is })
+          (each_moved c1 (with_instr c1 i) xs _ _ ex.stands (narrow c1 _ 0 _ _ _ (same_put c1 i) (omega arith) (omega arith)))
+          (has_put c1 i) (length_put c1 i);
+      keeps = keeps_on old c1 _ ex.keeps (keeps_put c1 i);
+    })
 
 -- where both sides of `&&` or `||` stand, with the jump patched
 record TwoSides (new : Code) (a b : TypedTree) (j : ℕ → Instr) (last : Instr) (from : ℕ) : Type 0 where

@@ -1,24 +1,67 @@
 -- The machine does what the expression says.
-use Rattle.std.proofs.Common.{◌≡◌, ℕ, ◌+◌, Bool, true, false, List, [], ◌∷◌, Option, Some, None, refl, sym, ap, ◌∙◌, subst, arith}
-use Rattle.std.specs.Prelude.{Result, Ok, Err}
+use Rattle.std.proofs.Common.{◌≡◌, ℕ, zero, suc, ◌+◌, Bool, true, false, List, [], ◌∷◌, ◌++◌, length, map, Option, Some, None, refl}
+use Rattle.std.proofs.Common.{sym, ap, ◌∙◌, subst, arith}
+use Rattle.std.proofs.lemmas.List.{append-nil}
+use Rattle.std.specs.Prelude.{Result, Ok, Err, slice_get}
 use Rattle.cel_value.specs.declared.value.Value.{Value}
 use Rattle.cel_check.specs.declared.operator.Operator.{Operator}
 use Rattle.cel_check.specs.declared.tree.TypedTree.{TypedTree}
 use Rattle.cel_code.specs.declared.instr.Instr.{Instr}
-use Rattle.cel_code.specs.declared.instr.Instr.TheVariants.{Const, Op, AndTest, OrTest, And, Or, Cond, Jump, End}
+use Rattle.cel_code.specs.declared.instr.Instr.TheVariants.{Const, Slot, Op, AndTest, OrTest, And, Or, Cond, Jump, End}
 use Rattle.cel_code.specs.declared.image.Image.{Image}
 use Rattle.cel_check.specs.Outcomes.{Outcome, Env, Side, and_of, or_of, both_sides, and_value, or_value, conditional_value, unless_false, unless_true, of_branch, outside}
 use Rattle.cel_value.specs.declared.cel_error.CelError.{CelError}
 use Rattle.cel_check.specs.Wants.{side_of, taken}
 use Rattle.cel_check.specs.declared.operator.Made.{Made}
 use Rattle.cel_check.specs.Operators.{Row, One, Two, row, code_of, makes, two, at_one, at_two, outcome_made, charge_made}
-use Rattle.cel_check.specs.Meaning.{value_of, priced_of, cost_of}
-use Rattle.cel_code.specs.Machine.{Frame, State, on, Goes, Ends, push, constant, made, operate, operate_by, and_test, or_test, branch, joined, join, act, act_at, inputs_of, step, Gets, Stays, Moves, Run}
-use Rattle.cel_code.specs.Placed.{Code, code_in, Has, Pushes, Stands, literal, unary, binary, both, either, conditional}
+use Rattle.cel_check.specs.Meaning.{value_of, priced_of, cost_of, values_at, values_priced, costs_at}
+use Rattle.cel_check.specs.Lists.{in_front, each_there, list_made, list_where}
+use Rattle.cel_code.specs.Machine.{taken_off, listed, Frame, State, on, Goes, Ends, push, constant, made, operate, operate_by, and_test}
+use Rattle.cel_code.specs.Machine.{or_test, branch, joined, join, act, act_at, inputs_of, step, Gets, Stays, Moves, Run}
+use Rattle.cel_code.specs.Machine.{slot as read_slot}
+use Rattle.cel_code.specs.Placed.{Code, code_in, Has, Pushes, Stands, literal, unary, binary, both, either, conditional, items}
+use Rattle.cel_code.specs.Placed.{StandEach, no_items, first_item, slot}
+use Rattle.cel_code.specs.declared.instr.Instr.TheVariants as instr
 use Rattle.cel_code.specs.Correct.{Computes}
 use Rattle.cel_check.proofs.Opened.{outcome_of, side_of_outcome, side_is}
 use Rattle.cel_check.proofs.Levels.{value_is, value_level, cost_level}
 use Rattle.cel_check.proofs.Numbers.{operator_of-code_of}
+
+-- outcomes one after another on a stack, the last one on top
+abbrev over : List Outcome → List Outcome → List Outcome
+over [] stack = stack
+over (x ∷ xs) stack = over xs (x ∷ stack)
+
+taken_over : (xs taken stack : List Outcome) (k m : ℕ) → k ≡ length xs + m
+    → taken_off k taken (over xs stack) ≡ taken_off m (xs ++ taken) stack
+taken_over [] taken stack k m e = let same : k ≡ m = omega (arith, e) in ap (λ n. taken_off n taken stack) same
+taken_over (x ∷ xs) taken stack k m e = taken_over xs taken (x ∷ stack) k (suc m) (omega (arith, e))
+
+all_taken : (xs stack : List Outcome) (n : ℕ) → n ≡ length xs → taken_off n [] (over xs stack) ≡ Some (xs, stack)
+all_taken xs stack n e = taken_over xs [] stack n zero (omega (arith, e)) ∙ ap (λ ys. Some (ys, stack)) (append-nil xs)
+
+-- so many, where they are there
+abbrev LongOf : ℕ → Option (List Outcome) → Type 0
+LongOf n None = Unit {0}
+LongOf n (Some xs) = length xs ≡ n
+
+front_long : (o : Option Outcome) (os : Option (List Outcome)) (n : ℕ) → LongOf n os → LongOf (suc n) (in_front o os)
+front_long None os n h = tt
+front_long (Some x) None n h = tt
+front_long (Some x) (Some xs) n h = ap suc h
+
+there_long : (os : List (Option Outcome)) → LongOf (length os) (each_there os)
+there_long [] = refl
+there_long (o ∷ os) = front_long o (each_there os) (length os) (there_long os)
+
+values_long : (xs : List TypedTree) (env : Env) → length (values_at (map value_of xs) env) ≡ length xs
+values_long [] env = refl
+values_long (x ∷ xs) env = ap suc (values_long xs env)
+
+-- the values that costs ask for
+all_asked : (xs : List TypedTree) → values_priced (map priced_of xs) ≡ map value_of xs
+all_asked [] = refl
+all_asked (x ∷ xs) = ap (λ v. v ∷ values_priced (map priced_of xs)) (value_is x) ∙ ap (λ vs. value_of x ∷ vs) (all_asked xs)
 
 module _ (image : Image) (slots : List Outcome) where
   abbrev code : Code
@@ -60,6 +103,14 @@ module _ (image : Image) (slots : List Outcome) where
     push_runs : (v : Value) (from to : ℕ) (stack : List Outcome) → Pushes code from to v → Leads (on from stack frames) (on to (Ok v ∷ stack) frames) 0
     push_runs v from to stack p =
         rw p.next (one_step _ _ 0 (at_instr from (Const p.number) stack p.instr ∙ ap (λ o. push (constant o) from stack frames) p.constant))
+
+    -- what a slot holds
+    slot_by : (n from : ℕ) (stack : List Outcome) (o : Option Outcome) → step image slots (on from stack frames) ≡ read_slot o from stack frames → Gives from stack (from + 1) o 1
+    slot_by n from stack None e = tt
+    slot_by n from stack (Some x) e = one_step _ _ 1 e
+
+    slot_runs : (n from : ℕ) (stack : List Outcome) → Has code from (Slot n) → Gives from stack (from + 1) (slice_get slots n) 1
+    slot_runs n from stack h = slot_by n from stack (slice_get slots n) (at_instr from (Slot n) stack h)
 
     -- an operator's instruction
     made_runs : (o : Option Made) (from m : ℕ) (stack s : List Outcome) (c : ℕ) → Leads (on from stack frames) (on m s frames) c → step image slots (on m s frames) ≡ made o m stack frames → Gives from stack (m + 1) (outcome_made o) (c + charge_made o)
@@ -164,6 +215,25 @@ module _ (image : Image) (slots : List Outcome) where
     conditional_runs None oa ob from m n to stack c d e hm hn lc la lb = tt
     conditional_runs (Some x) oa ob from m n to stack c d e hm hn lc la lb = conditional_by x (side_of (Some x)) oa ob from m n to stack c d e refl hm hn lc la lb
 
+    -- what the code of several does: their values or errors on the stack, the last one on top
+    abbrev GivesEach : ℕ → List Outcome → ℕ → Option (List Outcome) → ℕ → Type 0
+    GivesEach from stack to None cost = Unit {0}
+    GivesEach from stack to (Some xs) cost = Leads (on from stack frames) (on to (over xs stack) frames) cost
+
+    front_runs : (o : Option Outcome) (os : Option (List Outcome)) (from m to : ℕ) (stack : List Outcome) (c d : ℕ)
+        → Gives from stack m o c → ((s : List Outcome) → GivesEach m s to os d) → GivesEach from stack to (in_front o os) (c + d)
+    front_runs None os from m to stack c d l r = tt
+    front_runs (Some x) None from m to stack c d l r = tt
+    front_runs (Some x) (Some xs) from m to stack c d l r = leads_on _ _ _ c d l (r (x ∷ stack))
+
+    list_runs : (n : ℕ) (os : Option (List Outcome)) (from m : ℕ) (stack : List Outcome) (c : ℕ) → LongOf n os
+        → Has code m (instr.List n) → GivesEach from stack m os c
+        → Gives from stack (m + 1) (outcome_made (list_where os)) (c + charge_made (list_where os))
+    list_runs n None from m stack c long h l = tt
+    list_runs n (Some xs) from m stack c long h l =
+        leads_on _ _ _ c (list_made xs).charge l
+        (one_step _ _ _ (at_instr m (instr.List n) (over xs stack) h ∙ ap (λ p. listed p m frames) (all_taken xs stack n (sym long))))
+
     op_step : (op : Operator) (at : ℕ) (s : List Outcome) → Has code at (Op (code_of op)) → step image slots (on at s frames) ≡ operate (row op) at s frames
     op_step op at s h = at_instr at _ s h ∙ ap (λ o. operate_by o at s frames) (operator_of-code_of op)
 
@@ -171,31 +241,48 @@ module _ (image : Image) (slots : List Outcome) where
     gives_as : (from n to : ℕ) (stack : List Outcome) (o p : Option Outcome) (c d : ℕ) → to ≡ n → p ≡ o → d ≡ c → Gives from stack n o c → Gives from stack to p d
     gives_as from n to stack o p c d e f g l = rw (e, f, g) l
 
-    module _ (env : Env) where
+    module _ (env : Env) (slots_are : env.slots ≡ slots) where
       -- the value that a cost asks for
       asked : (a : TypedTree) → (priced_of a).value env ≡ value_of a env
       asked a = ap (λ v. v env) (value_is a)
 
-      tree_runs : (e : TypedTree) (from to : ℕ) (stack : List Outcome) → Stands code e from to → Gives from stack to (value_of e env) (cost_of e env)
-      tree_runs e from to stack (literal v f p) =
-          gives_as from to to stack _ _ _ _ refl (value_level e _ env f) (cost_level e _ env f) (push_runs v from to stack p)
-      tree_runs e from to stack (unary op a m f h i next) =
-          gives_as from (m + 1) to stack _ _ _ _ next (value_level e _ env f) (cost_level e _ env f ∙ ap (λ o. cost_of a env + charge_made (at_one (row op) o)) (asked a))
-          (unary_runs (row op) (value_of a env) from m stack (cost_of a env) (λ s. op_step op m s i) (tree_runs a from m stack h))
-      tree_runs e from to stack (binary op a b m n f h k i next) =
-          gives_as from (n + 1) to stack _ _ _ _ next (value_level e _ env f) (cost_level e _ env f ∙ ap (λ o. (cost_of a env + cost_of b env) + charge_made (at_two (row op) o ((priced_of b).value env))) (asked a) ∙ ap (λ o. (cost_of a env + cost_of b env) + charge_made (at_two (row op) (value_of a env) o)) (asked b))
-          (binary_runs (row op) (value_of a env) (value_of b env) from m n stack (cost_of a env) (cost_of b env) (λ s. op_step op n s i) (tree_runs a from m stack h) (λ s. tree_runs b m n s k))
-      tree_runs e from to stack (both a b m n f h i k j next) =
-          let test : Has code m (AndTest (n + 1)) = rw (sym next) i in
-          gives_as from (n + 1) to stack _ _ _ _ next (value_level e _ env f) (cost_level e _ env f ∙ ap (λ o. (cost_of a env + 1) + unless_false (side_of o) (cost_of b env)) (asked a))
-          (and_runs (value_of a env) (value_of b env) from m n stack (cost_of a env) (cost_of b env) test j (tree_runs a from m stack h) (λ s. tree_runs b (m + 1) n s k))
-      tree_runs e from to stack (either a b m n f h i k j next) =
-          let test : Has code m (OrTest (n + 1)) = rw (sym next) i in
-          gives_as from (n + 1) to stack _ _ _ _ next (value_level e _ env f) (cost_level e _ env f ∙ ap (λ o. (cost_of a env + 1) + unless_true (side_of o) (cost_of b env)) (asked a))
-          (or_runs (value_of a env) (value_of b env) from m n stack (cost_of a env) (cost_of b env) test j (tree_runs a from m stack h) (λ s. tree_runs b (m + 1) n s k))
-      tree_runs e from to stack (conditional c a b m n f h i k j l) =
-          gives_as from to to stack _ _ _ _ refl (value_level e _ env f) (cost_level e _ env f ∙ ap (λ o. (cost_of c env + 1) + of_branch (side_of o) (cost_of a env) (cost_of b env)) (asked c))
-          (conditional_runs (value_of c env) (value_of a env) (value_of b env) from m n to stack (cost_of c env) (cost_of a env) (cost_of b env) i j (tree_runs c from m stack h) (tree_runs a (m + 1) n stack k) (tree_runs b (n + 1) to stack l))
+      mutual
+        tree_runs : (e : TypedTree) (from to : ℕ) (stack : List Outcome) → Stands code e from to → Gives from stack to (value_of e env) (cost_of e env)
+        tree_runs e from to stack (literal v f p) =
+            gives_as from to to stack _ _ _ _ refl (value_level e _ env f) (cost_level e _ env f) (push_runs v from to stack p)
+        tree_runs e from to stack (slot n f h next) =
+            gives_as from (from + 1) to stack _ _ _ _ next (value_level e _ env f ∙ ap (λ xs. slice_get xs n) slots_are) (cost_level e _ env f) (slot_runs n from stack h)
+        tree_runs e from to stack (unary op a m f h i next) =
+            gives_as from (m + 1) to stack _ _ _ _ next (value_level e _ env f) (cost_level e _ env f ∙ ap (λ o. cost_of a env + charge_made (at_one (row op) o)) (asked a))
+            (unary_runs (row op) (value_of a env) from m stack (cost_of a env) (λ s. op_step op m s i) (tree_runs a from m stack h))
+        tree_runs e from to stack (binary op a b m n f h k i next) =
+            gives_as from (n + 1) to stack _ _ _ _ next (value_level e _ env f) (cost_level e _ env f ∙ ap (λ o. (cost_of a env + cost_of b env) + charge_made (at_two (row op) o ((priced_of b).value env))) (asked a) ∙ ap (λ o. (cost_of a env + cost_of b env) + charge_made (at_two (row op) (value_of a env) o)) (asked b))
+            (binary_runs (row op) (value_of a env) (value_of b env) from m n stack (cost_of a env) (cost_of b env) (λ s. op_step op n s i) (tree_runs a from m stack h) (λ s. tree_runs b m n s k))
+        tree_runs e from to stack (both a b m n f h i k j next) =
+            let test : Has code m (AndTest (n + 1)) = rw (sym next) i in
+            gives_as from (n + 1) to stack _ _ _ _ next (value_level e _ env f) (cost_level e _ env f ∙ ap (λ o. (cost_of a env + 1) + unless_false (side_of o) (cost_of b env)) (asked a))
+            (and_runs (value_of a env) (value_of b env) from m n stack (cost_of a env) (cost_of b env) test j (tree_runs a from m stack h) (λ s. tree_runs b (m + 1) n s k))
+        tree_runs e from to stack (either a b m n f h i k j next) =
+            let test : Has code m (OrTest (n + 1)) = rw (sym next) i in
+            gives_as from (n + 1) to stack _ _ _ _ next (value_level e _ env f) (cost_level e _ env f ∙ ap (λ o. (cost_of a env + 1) + unless_true (side_of o) (cost_of b env)) (asked a))
+            (or_runs (value_of a env) (value_of b env) from m n stack (cost_of a env) (cost_of b env) test j (tree_runs a from m stack h) (λ s. tree_runs b (m + 1) n s k))
+        tree_runs e from to stack (conditional c a b m n f h i k j l) =
+            gives_as from to to stack _ _ _ _ refl (value_level e _ env f) (cost_level e _ env f ∙ ap (λ o. (cost_of c env + 1) + of_branch (side_of o) (cost_of a env) (cost_of b env)) (asked c))
+            (conditional_runs (value_of c env) (value_of a env) (value_of b env) from m n to stack (cost_of c env) (cost_of a env) (cost_of b env) i j (tree_runs c from m stack h) (tree_runs a (m + 1) n stack k) (tree_runs b (n + 1) to stack l))
+        tree_runs e from to stack (items xs m f hs i after) =
+            gives_as from (m + 1) to stack _ _ _ _ after (value_level e _ env f)
+            (cost_level e _ env f ∙ ap (λ vs. costs_at (map priced_of xs) env + charge_made (list_where (each_there (values_at vs env)))) (all_asked xs))
+            (list_runs (length xs) (each_there (values_at (map value_of xs) env)) from m stack (costs_at (map priced_of xs) env)
+            (subst (λ n. LongOf n (each_there (values_at (map value_of xs) env))) (values_long xs env) (there_long (values_at (map value_of xs) env)))
+            i (each_runs xs from m stack hs))
+
+        each_runs : (xs : List TypedTree) (from to : ℕ) (stack : List Outcome) → StandEach code xs from to
+            → GivesEach from stack to (each_there (values_at (map value_of xs) env)) (costs_at (map priced_of xs) env)
+        each_runs xs from to stack (no_items none same) = rw (none, same) (record { steps = 0; gets = Stays refl refl refl })
+        each_runs xs from to stack (first_item a rest m is h hs) =
+            rw is
+            (front_runs (value_of a env) (each_there (values_at (map value_of rest) env)) from m to stack (cost_of a env) (costs_at (map priced_of rest) env)
+            (tree_runs a from m stack h) (λ s. each_runs rest m to s hs))
 
   computes_from : (to : ℕ) (o : Option Outcome) (c : ℕ) → Has code to End → Gives [] 0 [] to o c → (x : Outcome) → o ≡ Some x → (steps : ℕ) × Run image slots x c steps
   computes_from to None c h l x e = cc
@@ -204,7 +291,7 @@ module _ (image : Image) (slots : List Outcome) where
       (l.steps + 1, record { last = on to (y ∷ []) []; before = l.steps; gets = l.gets; ends = at_instr [] to End (y ∷ []) h ∙ ap Ends same; count = refl })
 
   pub runs : (e : TypedTree) (to : ℕ) → Stands code e 0 to → Has code to End → (x : Outcome) → value_of e (outside slots) ≡ Some x → (steps : ℕ) × Run image slots x (cost_of e (outside slots)) steps
-  runs e to h end x q = computes_from to (value_of e (outside slots)) (cost_of e (outside slots)) end (tree_runs [] (outside slots) e 0 to [] h) x q
+  runs e to h end x q = computes_from to (value_of e (outside slots)) (cost_of e (outside slots)) end (tree_runs [] (outside slots) refl e 0 to [] h) x q
 
 pub computes : (image : Image) (e : TypedTree) (to : ℕ) → Stands (code_in image) e 0 to → Has (code_in image) to End → Computes image e
 computes image e to h end = λ slots x q. runs image slots e to h end x q

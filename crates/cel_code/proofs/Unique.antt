@@ -10,10 +10,12 @@ use Rattle.cel_check.specs.declared.tree.Form.{Form}
 use Rattle.cel_check.specs.declared.tree.Form.TheVariants as form
 use Rattle.cel_code.specs.declared.image.Image.{Image}
 use Rattle.cel_code.specs.declared.instr.Instr.{Instr}
-use Rattle.cel_code.specs.declared.instr.Instr.TheVariants.{Const, Op, AndTest, OrTest, And, Or, Cond, Jump}
+use Rattle.cel_code.specs.declared.instr.Instr.TheVariants.{Const, Slot, Op, AndTest, OrTest, And, Or, Cond, Jump}
 use Rattle.cel_code.specs.Compiled.{EachOnce, nothing, first, again, IsCompiled, layout_of}
 use Rattle.cel_check.specs.Operators.{code_of}
-use Rattle.cel_code.specs.Placed.{Code, code_in, Has, Pushes, Stands, literal, unary, binary, both, either, conditional}
+use Rattle.cel_code.specs.Placed.{Code, code_in, Has, Pushes, Stands, literal, unary, binary, both, either, conditional, items}
+use Rattle.cel_code.specs.Placed.{StandEach, no_items, first_item, slot}
+use Rattle.cel_code.specs.declared.instr.Instr.TheVariants as instr
 use Rattle.cel_code.proofs.Place.{contains_at, get_last}
 
 -- a list that ends with an element is not empty, and has one front and one last element
@@ -100,6 +102,7 @@ one_place vs us (first vs' us' w once fresh e f) v m n h k =
 -- the parts of what stands, by its form
 abbrev Parts : Code → Form TypedTree → ℕ → ℕ → Type 0
 Parts code (form.Literal v) from to = Pushes code from to v
+Parts code (form.Slot n) from to = Has code from (Slot n) × (to ≡ from + 1)
 Parts code (form.Unary op a) from to = (m : ℕ) × Stands code a from m × Has code m (Op (code_of op)) × (to ≡ m + 1)
 Parts code (form.Binary op a b) from to =
     (m n : ℕ) × Stands code a from m × Stands code b m n × Has code n (Op (code_of op)) × (to ≡ n + 1)
@@ -110,15 +113,27 @@ Parts code (form.Or a b) from to =
 Parts code (form.Conditional c a b) from to =
     (m n : ℕ) × Stands code c from m × Has code m (Cond (n + 1) to) × Stands code a (m + 1) n × Has code n (Jump to)
     × Stands code b (n + 1) to
+Parts code (form.ListOf xs) from to = (m : ℕ) × StandEach code xs from m × Has code m (instr.List (length xs)) × (to ≡ m + 1)
+
+-- the parts of what stands one after another, by the list
+abbrev EachPart : Code → List TypedTree → ℕ → ℕ → Type 0
+EachPart code [] from to = to ≡ from
+EachPart code (a ∷ rest) from to = (m : ℕ) × Stands code a from m × StandEach code rest m to
+
+each_part : (code : Code) (xs ys : List TypedTree) (from to : ℕ) → xs ≡ ys → StandEach code xs from to → EachPart code ys from to
+each_part code xs ys from to e (no_items none same) = subst (λ z. EachPart code z from to) (sym none ∙ e) same
+each_part code xs ys from to e (first_item a rest m is h hs) = subst (λ z. EachPart code z from to) (sym is ∙ e) (m, h, hs)
 
 parts : (code : Code) (e : TypedTree) (f : Form TypedTree) (from to : ℕ) → (out-TypedTree e).form ≡ f → Stands code e from to
     → Parts code f from to
 parts code e f from to is (literal v g h) = subst (λ x. Parts code x from to) (sym g.is ∙ is) h
+parts code e f from to is (slot n g h i) = subst (λ x. Parts code x from to) (sym g.is ∙ is) (h, i)
 parts code e f from to is (unary op a m g h i n) = subst (λ x. Parts code x from to) (sym g.is ∙ is) (m, h, i, n)
 parts code e f from to is (binary op a b m n g h k i l) = subst (λ x. Parts code x from to) (sym g.is ∙ is) (m, n, h, k, i, l)
 parts code e f from to is (both a b m n g h i k j l) = subst (λ x. Parts code x from to) (sym g.is ∙ is) (m, n, h, i, k, j, l)
 parts code e f from to is (either a b m n g h i k j l) = subst (λ x. Parts code x from to) (sym g.is ∙ is) (m, n, h, i, k, j, l)
 parts code e f from to is (conditional c a b m n g h i k j l) = subst (λ x. Parts code x from to) (sym g.is ∙ is) (m, n, h, i, k, j, l)
+parts code e f from to is (items xs m g hs i n) = subst (λ x. Parts code x from to) (sym g.is ∙ is) (m, hs, i, n)
 
 module _ (c d : Code) where
   -- the same instructions from one place up to another
@@ -141,44 +156,62 @@ module _ (c d : Code) where
 
   module _ (same : c.constants ≡ d.constants)
       (once : (v : Value) (m n : ℕ) → slice_get d.constants m ≡ Some v → slice_get d.constants n ≡ Some v → m ≡ n) where
-    twins : (e : TypedTree) (from to to' : ℕ) → Stands c e from to → Stands d e from to' → Twins from to to'
-    twins e from to to' (literal v f h) s =
-        let p = parts d e (form.Literal v) from to' f.is s in
-        let there : slice_get d.constants h.number ≡ Some v = rw (sym same) h.constant in
-        record { ends = p.next ∙ sym h.next; alike = rw h.next (one from _ _ h.instr p.instr (ap Const (once v h.number p.number there p.constant))) }
-    twins e from to to' (unary op a m f h i next) s =
-        let p = parts d e (form.Unary op a) from to' f.is s in
-        let t = twins a from m p.0 h p.1 in
-        record { ends = omega (arith, next, p.3, t.ends); alike = rw next (on from m (m + 1) t.alike (one m _ _ i (rw t.ends at p.2) refl)) }
-    twins e from to to' (binary op a b m n f h k i next) s =
-        let p = parts d e (form.Binary op a b) from to' f.is s in
-        let t = twins a from m p.0 h p.2 in
-        let u = twins b m n p.1 k (rw t.ends at p.3) in
-        record { ends = omega (arith, next, p.5, u.ends); alike = rw next (on from n (n + 1) (on from m n t.alike u.alike) (one n _ _ i (rw u.ends at p.4) refl)) }
-    twins e from to to' (both a b m n f h i k j next) s =
-        let p = parts d e (form.And a b) from to' f.is s in
-        let t = twins a from m p.0 h p.2 in
-        let u = twins b (m + 1) n p.1 k (rw t.ends at p.4) in
-        let ends : to' ≡ to = omega (arith, next, p.6, u.ends) in
-        let left = on from m (m + 1) t.alike (one m _ _ i (rw t.ends at p.3) (ap AndTest (sym ends))) in
-        record { ends = ends; alike = rw next (on from n (n + 1) (on from (m + 1) n left u.alike) (one n _ _ j (rw u.ends at p.5) refl)) }
-    twins e from to to' (either a b m n f h i k j next) s =
-        let p = parts d e (form.Or a b) from to' f.is s in
-        let t = twins a from m p.0 h p.2 in
-        let u = twins b (m + 1) n p.1 k (rw t.ends at p.4) in
-        let ends : to' ≡ to = omega (arith, next, p.6, u.ends) in
-        let left = on from m (m + 1) t.alike (one m _ _ i (rw t.ends at p.3) (ap OrTest (sym ends))) in
-        record { ends = ends; alike = rw next (on from n (n + 1) (on from (m + 1) n left u.alike) (one n _ _ j (rw u.ends at p.5) refl)) }
-    twins e from to to' (conditional a b c' m n f h i k j l) s =
-        let p = parts d e (form.Conditional a b c') from to' f.is s in
-        let t = twins a from m p.0 h p.2 in
-        let u = twins b (m + 1) n p.1 k (rw t.ends at p.4) in
-        let w = twins c' (n + 1) to to' l (rw u.ends at p.6) in
-        let test =
-        on from m (m + 1) t.alike
-        (one m _ _ i (rw t.ends at p.3) (ap (λ x. Cond (x + 1) to) (sym u.ends) ∙ ap (λ x. Cond (p.1 + 1) x) (sym w.ends))) in
-        let jump = on from n (n + 1) (on from (m + 1) n test u.alike) (one n _ _ j (rw u.ends at p.5) (ap Jump (sym w.ends))) in
-        record { ends = w.ends; alike = on from (n + 1) to jump w.alike }
+    mutual
+      twins : (e : TypedTree) (from to to' : ℕ) → Stands c e from to → Stands d e from to' → Twins from to to'
+      twins e from to to' (literal v f h) s =
+          let p = parts d e (form.Literal v) from to' f.is s in
+          let there : slice_get d.constants h.number ≡ Some v = rw (sym same) h.constant in
+          record { ends = p.next ∙ sym h.next; alike = rw h.next (one from _ _ h.instr p.instr (ap Const (once v h.number p.number there p.constant))) }
+      twins e from to to' (slot n f h next) s =
+          let p = parts d e (form.Slot n) from to' f.is s in
+          record { ends = p.1 ∙ sym next; alike = rw next (one from _ _ h p.0 refl) }
+      twins e from to to' (unary op a m f h i next) s =
+          let p = parts d e (form.Unary op a) from to' f.is s in
+          let t = twins a from m p.0 h p.1 in
+          record { ends = omega (arith, next, p.3, t.ends); alike = rw next (on from m (m + 1) t.alike (one m _ _ i (rw t.ends at p.2) refl)) }
+      twins e from to to' (binary op a b m n f h k i next) s =
+          let p = parts d e (form.Binary op a b) from to' f.is s in
+          let t = twins a from m p.0 h p.2 in
+          let u = twins b m n p.1 k (rw t.ends at p.3) in
+          record { ends = omega (arith, next, p.5, u.ends); alike = rw next (on from n (n + 1) (on from m n t.alike u.alike) (one n _ _ i (rw u.ends at p.4) refl)) }
+      twins e from to to' (both a b m n f h i k j next) s =
+          let p = parts d e (form.And a b) from to' f.is s in
+          let t = twins a from m p.0 h p.2 in
+          let u = twins b (m + 1) n p.1 k (rw t.ends at p.4) in
+          let ends : to' ≡ to = omega (arith, next, p.6, u.ends) in
+          let left = on from m (m + 1) t.alike (one m _ _ i (rw t.ends at p.3) (ap AndTest (sym ends))) in
+          record { ends = ends; alike = rw next (on from n (n + 1) (on from (m + 1) n left u.alike) (one n _ _ j (rw u.ends at p.5) refl)) }
+      twins e from to to' (either a b m n f h i k j next) s =
+          let p = parts d e (form.Or a b) from to' f.is s in
+          let t = twins a from m p.0 h p.2 in
+          let u = twins b (m + 1) n p.1 k (rw t.ends at p.4) in
+          let ends : to' ≡ to = omega (arith, next, p.6, u.ends) in
+          let left = on from m (m + 1) t.alike (one m _ _ i (rw t.ends at p.3) (ap OrTest (sym ends))) in
+          record { ends = ends; alike = rw next (on from n (n + 1) (on from (m + 1) n left u.alike) (one n _ _ j (rw u.ends at p.5) refl)) }
+      twins e from to to' (conditional a b c' m n f h i k j l) s =
+          let p = parts d e (form.Conditional a b c') from to' f.is s in
+          let t = twins a from m p.0 h p.2 in
+          let u = twins b (m + 1) n p.1 k (rw t.ends at p.4) in
+          let w = twins c' (n + 1) to to' l (rw u.ends at p.6) in
+          let test =
+          on from m (m + 1) t.alike
+          (one m _ _ i (rw t.ends at p.3) (ap (λ x. Cond (x + 1) to) (sym u.ends) ∙ ap (λ x. Cond (p.1 + 1) x) (sym w.ends))) in
+          let jump = on from n (n + 1) (on from (m + 1) n test u.alike) (one n _ _ j (rw u.ends at p.5) (ap Jump (sym w.ends))) in
+          record { ends = w.ends; alike = on from (n + 1) to jump w.alike }
+      twins e from to to' (items xs m f hs i after) s =
+          let p = parts d e (form.ListOf xs) from to' f.is s in
+          let t = each_twins xs from m p.0 hs p.1 in
+          record { ends = omega (arith, after, p.3, t.ends); alike = rw after (on from m (m + 1) t.alike (one m _ _ i (rw t.ends at p.2) refl)) }
+
+      each_twins : (xs : List TypedTree) (from to to' : ℕ) → StandEach c xs from to → StandEach d xs from to' → Twins from to to'
+      each_twins xs from to to' (no_items none same') s =
+          let p = each_part d xs [] from to' none s in
+          record { ends = p ∙ sym same'; alike = record { each = λ k le lt. absurd (omega (arith, same')) } }
+      each_twins xs from to to' (first_item a rest m is h hs) s =
+          let p = each_part d xs (a ∷ rest) from to' is s in
+          let t = twins a from m p.0 h p.1 in
+          let u = each_twins rest m to to' hs (rw t.ends at p.2) in
+          record { ends = u.ends; alike = on from m to t.alike u.alike }
 
 same_list : {X : Type 0} (xs ys : List X) → length xs ≡ length ys
     → ((k : ℕ) → k < length xs → slice_get xs k ≡ slice_get ys k) → xs ≡ ys

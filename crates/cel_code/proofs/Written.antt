@@ -16,7 +16,9 @@ use Rattle.cel_code.specs.declared.image.Target.{Target}
 use Rattle.cel_code.specs.declared.image.Image.{Image}
 use Rattle.cel_code.specs.declared.instr.Instr.TheVariants.{End}
 use Rattle.cel_code.specs.Compiled.{EachOnce, nothing, first, again, IsCompiled, Layout, target, targets_from, layout_step, layout_of}
-use Rattle.cel_code.specs.Drafts.{drafted, Grows, WritesWithin, Writes}
+use Rattle.cel_code.specs.Compiled.{sizes_of, literals_of, targets_of}
+use Rattle.cel_check.specs.Typing.{root_types}
+use Rattle.cel_code.specs.Drafts.{drafted, Grows, WritesWithin, Writes, WritesEach, layouts_of}
 use Rattle.cel_check.specs.Meaning.{type_of}
 use Rattle.cel_code.specs.Placed.{code_in, with_instr, Emits}
 use Rattle.cel_code.proofs.Place.{contains_at, placed}
@@ -133,6 +135,56 @@ writes_conditional old d1 d2 d3 d4 d5 d6 d7 new e c a b is wc gc wa ga gt wb gp 
     let all = grows_on old d5 d6 _ _ _ _ _ _ (grows_on old d4 d5 _ _ _ _ _ _ jump begins) no_branch in
     let patched = grows_code old d7 new _ _ _ _ (grows_code old d6 d7 _ _ _ _ all gp) gq in
     record { grows = rw (laid e _ is) (grows_as _ _ _ _ _ _ _ _ (omega arith) (rw (append-nil ((layout_of c).literals ++ (layout_of a).literals)) refl) (sym (append_snoc _ _ _)) patched) }
+
+pub writes_none : (old new : Draft) → new ≡ old → WritesEach old new []
+writes_none old new same =
+    rw same
+    (record {
+      size = omega arith;
+      constants = λ before once. subst (λ l. EachOnce l old.constants) (sym (append-nil before)) once;
+      targets = sym (append-nil old.targets);
+      below = sym (append-nil old.below);
+    })
+
+-- an expression in front of others, whose type is put on those below
+pub writes_first : (old d1 d2 new : Draft) (a : TypedTree) (rest : List TypedTree) → Writes old d1 a old.below
+    → drafted d2 ≡ drafted d1 → d2.targets ≡ d1.targets → d2.below ≡ d1.below ++ type_of a ∷ [] → WritesEach d2 new rest
+    → WritesEach old new (a ∷ rest)
+writes_first old d1 d2 new a rest wa code targets under w =
+    let code_is : d2.code ≡ d1.code = ap (λ c. c.instrs) code in
+    let constants_are : d2.constants ≡ d1.constants = ap (λ c. c.constants) code in
+    let here : length d2.code ≡ length old.code + (layout_of a).size = ap length code_is ∙ wa.grows.size in
+    let under_is : d2.below ≡ old.below ++ (layout_of a).type ∷ [] =
+    under ∙ ap (λ b. b ++ type_of a ∷ []) wa.grows.below ∙ ap (λ t. old.below ++ t ∷ []) (sym (type_laid a)) in
+    let below_is : d2.below ≡ old.below ++ type_of a ∷ [] = under ∙ ap (λ b. b ++ type_of a ∷ []) wa.grows.below in
+    let ts = targets_from (layout_of a) (length old.code) old.below in
+    record {
+      size = omega (arith, here, w.size);
+      constants = λ before once.
+          subst (λ l. EachOnce l new.constants) (append_assoc before (layout_of a).literals (literals_of (layouts_of rest)))
+          (w.constants (before ++ (layout_of a).literals) (subst (λ cs. EachOnce (before ++ (layout_of a).literals) cs) (sym constants_are) (wa.grows.constants before once)));
+      targets =
+          w.targets
+          ∙ ap (λ us. us ++ targets_of (layouts_of rest) (length d2.code) d2.below) (targets ∙ wa.grows.targets)
+          ∙ ap (λ n. (old.targets ++ ts) ++ targets_of (layouts_of rest) n d2.below) here
+          ∙ ap (λ b. (old.targets ++ ts) ++ targets_of (layouts_of rest) (length old.code + (layout_of a).size) b) under_is
+          ∙ append_assoc old.targets ts _;
+      below = w.below ∙ ap (λ b. b ++ root_types rest) below_is ∙ append_assoc old.below (type_of a ∷ []) (root_types rest);
+    }
+
+pub writes_items : (old d1 d2 new : Draft) (e : TypedTree) (xs ys : List TypedTree) → (out-TypedTree e).form ≡ form.ListOf xs
+    → ys ≡ xs → WritesEach old d1 ys → drafted d2 ≡ drafted d1 → d2.targets ≡ d1.targets → d2.below ≡ old.below
+    → Grows d2 new 1 [] [] → WritesWithin old new e old.below
+writes_items old d1 d2 new e xs ys is same w code targets under g =
+    let w : WritesEach old d1 xs = rw (sym same) w in
+    let all : Grows old d2 (sizes_of (layouts_of xs)) (literals_of (layouts_of xs)) (targets_of (layouts_of xs) (length old.code) old.below) =
+    record {
+      size = ap (λ c. length c.instrs) code ∙ w.size;
+      constants = λ before once. subst (λ cs. EachOnce (before ++ literals_of (layouts_of xs)) cs) (sym (ap (λ c. c.constants) code)) (w.constants before once);
+      targets = targets ∙ w.targets;
+      below = under;
+    } in
+    record { grows = rw (laid e _ is) (grows_code old d2 new _ _ _ _ all g) }
 
 -- what was written from nothing on, and END
 pub compiled : (start draft all : Draft) (image : Image) (e tree : TypedTree) (types : List CelType) → e ≡ tree

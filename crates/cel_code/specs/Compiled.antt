@@ -6,7 +6,7 @@ use Rattle.cel_value.specs.declared.value.Value.{Value}
 use Rattle.cel_check.specs.declared.tree.TypedTree.{TypedTree, fold-TypedTree}
 use Rattle.cel_check.specs.declared.tree.TypedTree.TheOpen.{TypedTree-F}
 use Rattle.cel_check.specs.declared.tree.Form.{Form}
-use Rattle.cel_check.specs.declared.tree.Form.TheVariants.{Literal, Unary, Binary, And, Or, Conditional}
+use Rattle.cel_check.specs.declared.tree.Form.TheVariants.{Literal, Unary, Binary, And, Or, Conditional, ListOf, Slot}
 use Rattle.cel_code.specs.declared.instr.Instr.TheVariants.{End}
 use Rattle.cel_code.specs.declared.image.Image.{Image}
 use Rattle.cel_code.specs.declared.image.Target.{Target}
@@ -32,23 +32,37 @@ pub record Layout : Type 0 where
   pub joins : Bool
   pub within : ℕ → List CelType → List Target
 
+-- how many instructions several have
+abbrev pub sizes_of : List Layout → ℕ
+sizes_of [] = 0
+sizes_of (a ∷ xs) = a.size + sizes_of xs
+
 -- how many instructions a level has
 abbrev pub size_at : Form Layout → ℕ
 size_at (Literal v) = 1
+size_at (Slot n) = 1
 size_at (Unary op a) = a.size + 1
 size_at (Binary op a b) = a.size + b.size + 1
 size_at (And a b) = a.size + 1 + b.size + 1
 size_at (Or a b) = a.size + 1 + b.size + 1
 size_at (Conditional c a b) = c.size + 1 + a.size + 1 + b.size
+size_at (ListOf xs) = sizes_of xs + 1
+
+-- the literals of several, from left to right
+abbrev pub literals_of : List Layout → List Value
+literals_of [] = []
+literals_of (a ∷ xs) = a.literals ++ literals_of xs
 
 -- the literals of a level, from left to right
 abbrev pub literals_at : Form Layout → List Value
 literals_at (Literal v) = v ∷ []
+literals_at (Slot n) = []
 literals_at (Unary op a) = a.literals
 literals_at (Binary op a b) = a.literals ++ b.literals
 literals_at (And a b) = a.literals ++ b.literals
 literals_at (Or a b) = a.literals ++ b.literals
 literals_at (Conditional c a b) = c.literals ++ a.literals ++ b.literals
+literals_at (ListOf xs) = literals_of xs
 
 -- whether jumps of a level go to its end
 abbrev pub joins_at : {A : Type 0} → Form A → Bool
@@ -69,6 +83,11 @@ target_at_end e from below = if e.joins then target (from + e.size) (below ++ e.
 abbrev pub targets_from : Layout → ℕ → List CelType → List Target
 targets_from e from below = e.within from below ++ target_at_end e from below
 
+-- the targets of several one after another, each over those before it
+abbrev pub targets_of : List Layout → ℕ → List CelType → List Target
+targets_of [] from below = []
+targets_of (a ∷ xs) from below = targets_from a from below ++ targets_of xs (from + a.size) (below ++ a.type ∷ [])
+
 -- the targets of a second branch: where it begins, with nothing more on the stack, and those before its end. It ends where
 -- the conditional does, and there the type of the conditional counts
 abbrev pub second_branch : Layout → ℕ → List CelType → List Target
@@ -77,12 +96,14 @@ second_branch e from below = target from below ∷ e.within from below
 -- the targets of a level before its end, from left to right; a right operand stands over the left one
 abbrev pub within_at : Form Layout → ℕ → List CelType → List Target
 within_at (Literal v) from below = []
+within_at (Slot n) from below = []
 within_at (Unary op a) from below = targets_from a from below
 within_at (Binary op a b) from below = targets_from a from below ++ targets_from b (from + a.size) (below ++ a.type ∷ [])
 within_at (And a b) from below = targets_from a from below ++ targets_from b (from + a.size + 1) (below ++ a.type ∷ [])
 within_at (Or a b) from below = targets_from a from below ++ targets_from b (from + a.size + 1) (below ++ a.type ∷ [])
 within_at (Conditional c a b) from below =
     targets_from c from below ++ targets_from a (from + c.size + 1) below ++ second_branch b (from + c.size + 1 + a.size + 1) below
+within_at (ListOf xs) from below = targets_of xs from below
 
 -- a node by the layouts of its parts
 abbrev pub layout_step : TypedTree-F Layout → Layout

@@ -1,14 +1,16 @@
 -- What the machine does with an image, one instruction at a time.
-use Rattle.std.specs.Prelude.{◌≡◌, ℕ, ◌+◌, true, false, List, [], ◌∷◌, Option, Some, None, Ok, Err, slice_get}
+use Rattle.std.specs.Prelude.{◌≡◌, ℕ, zero, suc, ◌+◌, true, false, List, [], ◌∷◌, Option, Some, None, Ok, Err, slice_get}
 use Rattle.cel_value.specs.declared.value.Value.{Value}
 use Rattle.cel_check.specs.declared.operator.Operator.{Operator}
 use Rattle.cel_code.specs.declared.instr.Instr.{Instr}
-use Rattle.cel_code.specs.declared.instr.Instr.TheVariants.{Const, Op, AndTest, OrTest, And, Or, Cond, Jump, End}
+use Rattle.cel_code.specs.declared.instr.Instr.TheVariants.{Const, Op, AndTest, OrTest, And, Or, Cond, Jump, End, Slot}
+use Rattle.cel_code.specs.declared.instr.Instr.TheVariants as instr
 use Rattle.cel_code.specs.declared.image.Image.{Image}
 use Rattle.cel_check.specs.Outcomes.{Outcome, Side, and_of, or_of, both_sides}
 use Rattle.cel_check.specs.Wants.{side_of}
 use Rattle.cel_check.specs.declared.operator.Made.{Made}
 use Rattle.cel_check.specs.Operators.{Row, One, Two, row, operator_of, at_one, at_two}
+use Rattle.cel_check.specs.Lists.{list_made}
 
 -- an open loop: where it begins and where it leads, and the items of its range, the present one first
 pub record Frame : Type 0 where
@@ -32,7 +34,7 @@ pub record Inputs : Type 0 where
   pub slots : List Outcome
 
 -- a step goes on for a charge, or ends with an outcome; it is stuck where an operand is missing or of a kind that the
--- instruction does not take, where a constant is missing, or where there is no instruction
+-- instruction does not take, where a constant or a slot is missing, or where there is no instruction
 pub data Next : Type 0 where
   Goes : (charge : ℕ) → (to : State) → Next
   Ends : (outcome : Outcome) → Next
@@ -47,6 +49,11 @@ push (Some x) at stack frames = Goes 0 (on (at + 1) (x ∷ stack) frames)
 abbrev pub constant : Option Value → Option Outcome
 constant None = None
 constant (Some v) = Some (Ok v)
+
+-- what a slot holds, for a charge of 1
+abbrev pub slot : Option Outcome → ℕ → List Outcome → List Frame → Next
+slot None at stack frames = Stuck
+slot (Some x) at stack frames = Goes 1 (on (at + 1) (x ∷ stack) frames)
 
 -- an operator's answer, for its charge
 abbrev pub made : Option Made → ℕ → List Outcome → List Frame → Next
@@ -63,6 +70,17 @@ operate _ at _ frames = Stuck
 abbrev pub operate_by : Option Operator → ℕ → List Outcome → List Frame → Next
 operate_by None at stack frames = Stuck
 operate_by (Some op) at stack frames = operate (row op) at stack frames
+
+-- so many off the top of a stack, in front of those that were taken before, and what is below; None where there are fewer
+abbrev pub taken_off : {A : Type 0} → ℕ → List A → List A → Option (List A × List A)
+taken_off zero taken stack = Some (taken, stack)
+taken_off (suc n) taken [] = None
+taken_off (suc n) taken (x ∷ stack) = taken_off n (x ∷ taken) stack
+
+-- the list of what was taken, on what is below
+abbrev pub listed : Option (List Outcome × List Outcome) → ℕ → List Frame → Next
+listed None at frames = Stuck
+listed (Some p) at frames = made (Some (list_made p.0)) at p.1 frames
 
 -- a false left of `&&` jumps; the stack stays
 abbrev pub and_test : Option Side → ℕ → ℕ → List Outcome → List Frame → Next
@@ -98,7 +116,9 @@ branch (Some (Err e)) if_false if_error at stack frames = Goes 1 (on if_error (E
 -- one instruction
 abbrev pub act : Inputs → Instr → ℕ → List Outcome → List Frame → Next
 act inputs (Const k) at stack frames = push (constant (slice_get inputs.constants k)) at stack frames
+act inputs (Slot n) at stack frames = slot (slice_get inputs.slots n) at stack frames
 act inputs (Op o) at stack frames = operate_by (operator_of o) at stack frames
+act inputs (instr.List n) at stack frames = listed (taken_off n [] stack) at frames
 act inputs (AndTest to) at (x ∷ stack) frames = and_test (side_of (Some x)) to at (x ∷ stack) frames
 act inputs (OrTest to) at (x ∷ stack) frames = or_test (side_of (Some x)) to at (x ∷ stack) frames
 act inputs And at (y ∷ x ∷ stack) frames = joined (join and_of (side_of (Some x)) (side_of (Some y))) at stack frames

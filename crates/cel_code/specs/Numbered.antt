@@ -1,8 +1,9 @@
--- Constants that are found by what tells them apart.
+-- Constants that are found by what tells them apart: a key of numbers, or a text.
 use Rattle.std.specs.Prelude.{◌≡◌, ◌≢◌, ℕ, pos, negsuc, suc, true, false, List, slice_get, Option, Some, None}
 use Rattle.std.specs.declared.cmp.Ordering.{Ordering}
 use Rattle.std.specs.Ordering.{nat_cmp, ordering_then}
 use Rattle.std.specs.BTreeMap.{BTreeMap, get}
+use Rattle.cel_value.specs.declared.value.Value as value
 use Rattle.cel_value.specs.declared.value.Value.{Value, out-Value}
 use Rattle.cel_value.specs.declared.value.Value.TheOpen.{Value-F}
 
@@ -32,6 +33,15 @@ key_cmp p q = ordering_then (nat_cmp p.0 q.0) (nat_cmp p.1 q.1)
 -- each constant that has a key stands under the number that its key has
 pub record IsNumbered (constants : Values) (numbers : BTreeMap (ℕ × ℕ) ℕ) : Type 0 where
   pub each : (k : ℕ) (v : Value) (q : ℕ × ℕ) → slice_get constants k ≡ Some v → key_of v ≡ Some q → (n : ℕ) × (get key_cmp numbers q ≡ Some n) × (slice_get constants n ≡ Some v)
+
+-- each text that stands among the constants stands under the number that the text has
+pub record AreTextsNumbered (constants : Values) (number_of : List ℕ → Option ℕ) : Type 0 where
+  pub each : (k : ℕ) (text : List ℕ) → slice_get constants k ≡ Some (value.Text text) → (n : ℕ) × (number_of text ≡ Some n) × (slice_get constants n ≡ Some (value.Text text))
+
+-- where the value is a text, this has the number, and other texts keep theirs
+pub record NotesText (old new : List ℕ → Option ℕ) (v : Value) (number : ℕ) : Type 0 where
+  pub own : (text : List ℕ) → v ≡ value.Text text → new text ≡ Some number
+  pub others : (text : List ℕ) → v ≢ value.Text text → new text ≡ old text
 
 -- the key of a value has this number, and what is under other keys stays
 pub record Notes (old new : BTreeMap (ℕ × ℕ) ℕ) (v : Value) (number : ℕ) : Type 0 where

@@ -6,7 +6,8 @@ use Rattle.cel_check.specs.declared.operator.Operator.{Operator}
 use Rattle.cel_check.specs.declared.tree.TypedTree.{TypedTree}
 use Rattle.cel_check.specs.declared.tree.Form.TheVariants as form
 use Rattle.cel_code.specs.declared.instr.Instr.{Instr}
-use Rattle.cel_code.specs.declared.instr.Instr.TheVariants.{Const, Op, AndTest, OrTest, And, Or, Cond, Jump}
+use Rattle.cel_code.specs.declared.instr.Instr.TheVariants.{Const, Op, AndTest, OrTest, And, Or, Cond, Jump, Slot}
+use Rattle.cel_code.specs.declared.instr.Instr.TheVariants as instr
 use Rattle.cel_code.specs.declared.image.Image.{Image}
 use Rattle.cel_check.specs.Meaning.{IsForm}
 use Rattle.cel_check.specs.Operators.{code_of}
@@ -45,14 +46,22 @@ pub record Pushes (code : Code) (from to : ℕ) (v : Value) : Type 0 where
   pub constant : slice_get code.constants number ≡ Some v
   pub next : to ≡ from + 1
 
--- the instructions of an expression stand from one place up to another
-pub data Stands (code : Code) : TypedTree → ℕ → ℕ → Type 0 where
-  literal : {e : TypedTree} {from to : ℕ} (v : Value) → IsForm e (form.Literal v) → Pushes code from to v → Stands code e from to
-  unary : {e : TypedTree} {from to : ℕ} (op : Operator) (a : TypedTree) (m : ℕ) → IsForm e (form.Unary op a) → Stands code a from m → Has code m (Op (code_of op)) → to ≡ m + 1 → Stands code e from to
-  binary : {e : TypedTree} {from to : ℕ} (op : Operator) (a b : TypedTree) (m n : ℕ) → IsForm e (form.Binary op a b) → Stands code a from m → Stands code b m n → Has code n (Op (code_of op)) → to ≡ n + 1 → Stands code e from to
-  both : {e : TypedTree} {from to : ℕ} (a b : TypedTree) (m n : ℕ) → IsForm e (form.And a b) → Stands code a from m → Has code m (AndTest to) → Stands code b (m + 1) n → Has code n And → to ≡ n + 1 → Stands code e from to
-  either : {e : TypedTree} {from to : ℕ} (a b : TypedTree) (m n : ℕ) → IsForm e (form.Or a b) → Stands code a from m → Has code m (OrTest to) → Stands code b (m + 1) n → Has code n Or → to ≡ n + 1 → Stands code e from to
-  conditional : {e : TypedTree} {from to : ℕ} (c a b : TypedTree) (m n : ℕ) → IsForm e (form.Conditional c a b) → Stands code c from m → Has code m (Cond (n + 1) to) → Stands code a (m + 1) n → Has code n (Jump to) → Stands code b (n + 1) to → Stands code e from to
+mutual
+  -- the instructions of an expression stand from one place up to another
+  pub data Stands (code : Code) : TypedTree → ℕ → ℕ → Type 0 where
+    literal : {e : TypedTree} {from to : ℕ} (v : Value) → IsForm e (form.Literal v) → Pushes code from to v → Stands code e from to
+    slot : {e : TypedTree} {from to : ℕ} (n : ℕ) → IsForm e (form.Slot n) → Has code from (Slot n) → to ≡ from + 1 → Stands code e from to
+    unary : {e : TypedTree} {from to : ℕ} (op : Operator) (a : TypedTree) (m : ℕ) → IsForm e (form.Unary op a) → Stands code a from m → Has code m (Op (code_of op)) → to ≡ m + 1 → Stands code e from to
+    binary : {e : TypedTree} {from to : ℕ} (op : Operator) (a b : TypedTree) (m n : ℕ) → IsForm e (form.Binary op a b) → Stands code a from m → Stands code b m n → Has code n (Op (code_of op)) → to ≡ n + 1 → Stands code e from to
+    both : {e : TypedTree} {from to : ℕ} (a b : TypedTree) (m n : ℕ) → IsForm e (form.And a b) → Stands code a from m → Has code m (AndTest to) → Stands code b (m + 1) n → Has code n And → to ≡ n + 1 → Stands code e from to
+    either : {e : TypedTree} {from to : ℕ} (a b : TypedTree) (m n : ℕ) → IsForm e (form.Or a b) → Stands code a from m → Has code m (OrTest to) → Stands code b (m + 1) n → Has code n Or → to ≡ n + 1 → Stands code e from to
+    conditional : {e : TypedTree} {from to : ℕ} (c a b : TypedTree) (m n : ℕ) → IsForm e (form.Conditional c a b) → Stands code c from m → Has code m (Cond (n + 1) to) → Stands code a (m + 1) n → Has code n (Jump to) → Stands code b (n + 1) to → Stands code e from to
+    items : {e : TypedTree} {from to : ℕ} (xs : List TypedTree) (m : ℕ) → IsForm e (form.ListOf xs) → StandEach code xs from m → Has code m (instr.List (length xs)) → to ≡ m + 1 → Stands code e from to
+
+  -- the instructions of several expressions stand one after another
+  pub data StandEach (code : Code) : List TypedTree → ℕ → ℕ → Type 0 where
+    no_items : {xs : List TypedTree} {from to : ℕ} → xs ≡ [] → to ≡ from → StandEach code xs from to
+    first_item : {xs : List TypedTree} {from to : ℕ} (a : TypedTree) (rest : List TypedTree) (m : ℕ) → xs ≡ a ∷ rest → Stands code a from m → StandEach code rest m to → StandEach code xs from to
 
 -- from one place up to another the same instructions stand in both, and no constant is lost
 pub record Same (old new : Code) (from to : ℕ) : Type 0 where
@@ -67,4 +76,9 @@ pub record Keeps (old new : Code) : Type 0 where
 -- what is written for an expression stands behind what stood before
 pub record Emits (old new : Code) (e : TypedTree) : Type 0 where
   pub stands : Stands new e (length old.instrs) (length new.instrs)
+  pub keeps : Keeps old new
+
+-- what is written for several expressions stands behind what stood before
+pub record EmitsEach (old new : Code) (xs : List TypedTree) : Type 0 where
+  pub stands : StandEach new xs (length old.instrs) (length new.instrs)
   pub keeps : Keeps old new

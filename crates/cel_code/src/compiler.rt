@@ -1,10 +1,11 @@
-ghost use Rattle.std.specs.Prelude.{◌≡◌, ◌+◌, ◌<◌, [], ◌∷◌, ◌++◌, length, IfOk, OnOk, Some};
+ghost use Rattle.std.specs.Prelude.{◌≡◌, ◌+◌, ◌<◌, List, [], ◌∷◌, ◌++◌, length, IfOk, OnOk, Some};
+ghost use Rattle.cel_value.specs.declared.cel_type.CelType.{CelType};
 ghost use Rattle.cel_code.specs.declared.image.Image.{Image};
 ghost use Rattle.cel_check.specs.Meaning.{IsForm, type_of};
-ghost use Rattle.cel_code.specs.Placed.{with_instr, patched, Interns, Emits};
+ghost use Rattle.cel_code.specs.Placed.{with_instr, patched, Interns, Emits, EmitsEach};
 ghost use Rattle.cel_check.specs.declared.tree.Form.TheVariants as form;
 ghost use Rattle.cel_code.specs.Compiled.{IsCompiled, joins_at, target};
-ghost use Rattle.cel_code.specs.Drafts.{drafted, Grows, Writes, WritesWithin};
+ghost use Rattle.cel_code.specs.Drafts.{drafted, Grows, Writes, WritesWithin, WritesEach};
 ghost use Rattle.cel_code.specs.Correct.{Computes, Preserves};
 ghost use Rattle.cel_code.specs.Jumps.{TargetsAreJumps};
 
@@ -118,6 +119,17 @@ impl Draft {
         Ok(number)
     }
 
+    /// Leaves so many types where the code goes on.
+    fn leave(&mut self, count: usize)
+        ensures code { drafted self.new ≡ drafted self.old }
+        ensures targets { self.new.targets ≡ self.old.targets }
+        ensures below { (below types : List CelType) → self.old.below ≡ below ++ types → count ≡ length below → self.new.below ≡ below }
+    {
+        while self.below.len() > count {
+            self.below.pop();
+        }
+    }
+
     /// Jumps arrive at the next instruction, over nothing more on the stack.
     fn arrive(&mut self) -> Result<(), AllocError>
         ensures code { OnOk result (drafted self.new ≡ drafted self.old) }
@@ -165,6 +177,7 @@ impl Draft {
                 let number = self.intern(value)?;
                 self.put(Instr::Const(number))
             }
+            Form::Slot(number) => self.put(Instr::Slot(*number)),
             Form::Unary(operator, operand) => {
                 self.emit(operand.get())?;
                 self.put(Instr::Op(operator.code()))
@@ -195,6 +208,7 @@ impl Draft {
             Form::Conditional(condition, yes, no) => {
                 self.emit_conditional(tree, condition.get(), yes.get(), no.get())
             }
+            Form::ListOf(items) => self.emit_list(tree, items),
         }
     }
 
@@ -223,6 +237,32 @@ impl Draft {
         let end = self.len();
         self.patch(test, Instr::Cond(jump + 1, end));
         self.patch(jump, Instr::Jump(end));
+        Ok(())
+    }
+
+    /// The instructions of items, and of their list.
+    #[cycle(emit)]
+    fn emit_list(&mut self, tree: &TypedTree, items: &Items<TypedTree>) -> Result<(), AllocError>
+        requires { IsForm tree.now (form.ListOf items.now) }
+        ensures stands { OnOk result (Emits (drafted self.old) (drafted self.new) tree.now) }
+        ensures writes { OnOk result (WritesWithin self.old self.new tree.now self.old.below) }
+    {
+        let below = self.below.len();
+        self.emit_each(items.as_slice())?;
+        self.leave(below);
+        self.put(Instr::List(items.len()))
+    }
+
+    /// The instructions of expressions one after another, each over the types of those before it, which stay.
+    #[cycle(emit)]
+    fn emit_each(&mut self, trees: &[TypedTree]) -> Result<(), AllocError>
+        ensures stands { OnOk result (EmitsEach (drafted self.old) (drafted self.new) trees.now) }
+        ensures writes { OnOk result (WritesEach self.old self.new trees.now) }
+    {
+        for tree in trees {
+            self.emit(tree)?;
+            self.below.push(tree.cel_type.copy()?)?;
+        }
         Ok(())
     }
 

@@ -1,6 +1,7 @@
 ghost use Rattle.std.specs.Prelude.{◌≡◌, [], ◌∷◌, ◌++◌, length, slice_get, Contains, MatchOption, OnOk, OnErr, Some};
-ghost use Rattle.std.specs.BTreeMap.{IsUnchanged};
-ghost use Rattle.cel_code.specs.Numbered.{key_of, IsNumbered, Notes};
+ghost use Rattle.std.specs.BTreeMap.{IsUnchanged, get_by_text};
+ghost use Rattle.cel_value.specs.declared.value.Value.TheVariants.{Text as text_value};
+ghost use Rattle.cel_code.specs.Numbered.{key_of, IsNumbered, Notes, AreTextsNumbered, NotesText};
 
 use cel_value::{Value, equal};
 use plain::Items;
@@ -8,18 +9,20 @@ use std::alloc::{AllocError, Global};
 use std::collections::BTreeMap;
 use std::marker::Model;
 
-/// The constants of an image that is being written, which contracts see as the list of them. A constant that has a key
-/// is found by it, and not by going through all.
+/// The constants of an image that is being written, which contracts see as the list of them. A text, and a constant that
+/// has a key, is found by it, and not by going through all.
 #[derive(Drop)]
 pub struct Constants {
     values: Items<Value>,
     numbers: BTreeMap<(u8, u64), usize>,
+    texts: BTreeMap<String, usize>,
 }
 
 impl Model for Constants {
     ghost use Rattle.std.specs.Coded.{codes};
     ghost use Rattle.cel_value.specs.contracts.value.Value as cel_value;
-    ghost use Rattle.cel_code.specs.Numbered.{Values, IsNumbered};
+    ghost use Rattle.std.specs.BTreeMap.{get_by_text};
+    ghost use Rattle.cel_code.specs.Numbered.{Values, IsNumbered, AreTextsNumbered};
 
     ghost Value = { Values };
 
@@ -27,7 +30,7 @@ impl Model for Constants {
 
     ghost view = { λ c. c.values };
 
-    ghost invariant = { λ c. IsNumbered c.values c.numbers };
+    ghost invariant = { λ c. IsNumbered c.values c.numbers × AreTextsNumbered c.values (get_by_text c.texts) };
 }
 
 impl Constants {
@@ -37,6 +40,7 @@ impl Constants {
         Constants {
             values: Items::new(alloc),
             numbers: BTreeMap::new(alloc),
+            texts: BTreeMap::new(alloc),
         }
     }
 
@@ -50,6 +54,9 @@ impl Constants {
     pub fn number_of(&self, value: &Value) -> Option<usize>
         ensures { MatchOption result (¬ Contains self.now value.now) (λ k. slice_get self.now k ≡ Some value.now) }
     {
+        if let Value::Text(text) = value {
+            return find_text(self.values.as_slice(), &self.texts, text.as_str(), value);
+        }
         match key(value) {
             Some(key) => find_by(self.values.as_slice(), &self.numbers, key, value),
             None => find(self.values.as_slice(), value),
@@ -62,6 +69,7 @@ impl Constants {
         ensures { OnOk result (self.new ≡ self.old ++ value.now ∷ []) }
     {
         note(&mut self.numbers, value, self.values.len())?;
+        note_text(alloc, &mut self.texts, value, self.values.len())?;
         self.values.push(value.copy(alloc)?)
     }
 
@@ -69,12 +77,16 @@ impl Constants {
     pub fn into_items(self) -> Items<Value>
         ensures { result ≡ self }
     {
-        let Constants { values, numbers: _ } = self;
+        let Constants {
+            values,
+            numbers: _,
+            texts: _,
+        } = self;
         values
     }
 }
 
-// What tells a constant from all others: its kind and its content.
+// What tells a constant that is no text from all others: its kind and its content.
 fn key(value: &Value) -> Option<(u8, u64)>
     ensures { result ≡ key_of value.now }
 {
@@ -103,6 +115,40 @@ fn note(
         numbers.insert(key, number)?;
     }
     Ok(())
+}
+
+// The number of a text, where the value is one.
+fn note_text(
+    alloc: Global,
+    numbers: &mut BTreeMap<String, usize>,
+    value: &Value,
+    number: usize,
+) -> Result<(), AllocError>
+    ensures ok { OnOk result (NotesText (get_by_text numbers.old) (get_by_text numbers.new) value.now number) }
+    ensures err { OnErr result (IsUnchanged numbers.old numbers.new) }
+{
+    if let Value::Text(text) = value {
+        numbers.insert(String::from_str(alloc, text.as_str())?, number)?;
+    }
+    Ok(())
+}
+
+// A text among the constants. As with a key, what stands under its number is looked at.
+fn find_text(
+    constants: &[Value],
+    numbers: &BTreeMap<String, usize>,
+    text: &str,
+    value: &Value,
+) -> Option<usize>
+    requires numbered { AreTextsNumbered constants.now (get_by_text numbers.now) }
+    requires text { value.now ≡ text_value text.now }
+    ensures { MatchOption result (¬ Contains constants.now value.now) (λ k. slice_get constants.now k ≡ Some value.now) }
+{
+    let number = *numbers.get(text)?;
+    if equal(constants.get(number)?, value) {
+        return Some(number);
+    }
+    None
 }
 
 // A constant by its key. A number may be noted for a value that was not put, where memory was wanting, so what stands

@@ -4,8 +4,12 @@
 pub enum Instr {
     /// Pushes a constant.
     Const(usize),
+    /// Pushes what a slot holds.
+    Slot(usize),
     /// Pops an operator's operands and pushes its answer.
     Op(usize),
+    /// Pops so many items, the last one on top, and pushes their list.
+    List(usize),
     /// Goes on where the top is false, and otherwise to the next instruction.
     AndTest(usize),
     /// Goes on where the top is true, and otherwise to the next instruction.

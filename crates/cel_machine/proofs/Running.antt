@@ -1,10 +1,10 @@
 -- The run of an accepted image.
-use Rattle.std.proofs.Common.{◌≡◌, ℕ, ◌+◌, ◌-◌, ◌^◌, ◌<◌, ◌≤◌, min, List}
+use Rattle.std.proofs.Common.{◌≡◌, ℕ, ◌+◌, ◌-◌, ◌^◌, ◌<◌, ◌≤◌, min, true, List}
 use Rattle.std.proofs.Common.{[], length, Some, refl, sym, ap, ◌∙◌, subst, arith}
 use Rattle.std.specs.Prelude.{slice_get}
 use Rattle.cel_code.specs.declared.instr.Instr.{Instr}
 use Rattle.cel_code.specs.declared.image.Image.{Image}
-use Rattle.cel_check.specs.Outcomes.{Outcome}
+use Rattle.cel_check.specs.Outcomes.{Outcome, slots_fit}
 use Rattle.cel_code.specs.Machine.{State, on, Next, Goes, Ends, Stuck, act, act_at, step, inputs_of, Gets, Run}
 use Rattle.cel_machine.specs.declared.step.Move.{Move}
 use Rattle.cel_machine.specs.declared.step.Move.TheVariants.{GoesTo, EndsWith, IsStuckHere}
@@ -34,13 +34,13 @@ pub record IsAt (image : Image) (at charged steps : ℕ) : Type 0 where
   pub cost : charged ≤ path_cost image
   pub cheap : charged ≤ budget
 
-module _ (p image : Image) (slots : List Outcome) (accepted : IsAccepted p) (is : image ≡ p) where
+module _ (p image : Image) (slots : List Outcome) (accepted : IsAccepted p) (is : image ≡ p) (filled : slots_fit p.slots slots ≡ true) where
   state_at : (s : State) (charged steps : ℕ) → Gets p slots (on 0 [] []) s charged steps → IsAt p s.at charged steps
   state_at s charged steps g =
-      let r = gets_typed p slots accepted.sound (on 0 [] []) s charged steps g (begins p slots accepted.sound) in
-      let w = runs_within p slots accepted.sound in
+      let r = gets_typed p slots accepted.sound filled (on 0 [] []) s charged steps g (begins p slots accepted.sound filled) in
+      let w = runs_within p slots accepted.sound filled in
       let a = r.2 in
-      let b = one_left p slots accepted.sound s r.0 in
+      let b = one_left p slots accepted.sound filled s r.0 in
       record {
         inside = r.0.inside;
         room = omega (arith, r.0.inside, accepted.counted.code);
@@ -62,9 +62,9 @@ module _ (p image : Image) (slots : List Outcome) (accepted : IsAccepted p) (is 
   metered_at : (s : State) (charged steps : ℕ) → Gets p slots (on 0 [] []) s charged steps
       → metered (step p slots s) ≡ step p slots s
   metered_at s charged steps g =
-      let r = gets_typed p slots accepted.sound (on 0 [] []) s charged steps g (begins p slots accepted.sound) in
+      let r = gets_typed p slots accepted.sound filled (on 0 [] []) s charged steps g (begins p slots accepted.sound filled) in
       let a = r.1 in
-      metered_next s (step p slots s) (omega (arith, accepted.cheap)) (step_goes p slots accepted.sound s r.0)
+      metered_next s (step p slots s) (omega (arith, accepted.cheap)) (step_goes p slots accepted.sound filled s r.0)
 
   module _ (at : ℕ) (stack : List Outcome) (charged steps : ℕ) (g : Gets image slots (on 0 [] []) (on at stack []) charged steps) where
     gets : Gets p slots (on 0 [] []) (on at stack []) charged steps
@@ -81,7 +81,7 @@ module _ (p image : Image) (slots : List Outcome) (accepted : IsAccepted p) (is 
 
     -- no more operands than at any instruction
     pub deep : length stack ≤ greatest_depth image
-    deep = subst (λ i. length stack ≤ greatest_depth i) (sym is) (never_more p slots accepted.sound (on at stack []) charged steps gets)
+    deep = subst (λ i. length stack ≤ greatest_depth i) (sym is) (never_more p slots accepted.sound filled (on at stack []) charged steps gets)
 
     module _ (i : Instr) (m : Move) (stack' : List Outcome) (hi : slice_get image.code at ≡ Some i)
         (e : metered (act (inputs_of image slots) i at stack []) ≡ next_of m stack' []) where
@@ -109,10 +109,10 @@ module _ (p image : Image) (slots : List Outcome) (accepted : IsAccepted p) (is 
 
       pub outcome_fits : (x : Outcome) → m ≡ EndsWith x → Fits x p.result
       outcome_fits x q =
-          let w = runs_within p slots accepted.sound in
+          let w = runs_within p slots accepted.sound filled in
           w.outcome (on at stack []) charged steps x gets (subst (λ i. step i slots (on at stack []) ≡ Ends x) is (moved (EndsWith x) q))
 
       pub not_stuck : m ≡ IsStuckHere → ⊥
       not_stuck q =
-          let w = runs_within p slots accepted.sound in
+          let w = runs_within p slots accepted.sound filled in
           w.never (on at stack []) charged steps gets (subst (λ i. step i slots (on at stack []) ≡ Stuck) is (moved IsStuckHere q))

@@ -14,8 +14,8 @@ use std::alloc::{AllocError, Global};
 
 /// Runs a program where its slots hold these. The run is the definition's; it ends within as many steps as there are
 /// instructions, for no more than the dearest route and no more than the budget, with an outcome of the image's type.
-/// Constants and what the slots hold are lent to it: memory is taken for the stack, once, before the first step, and for
-/// the outcome where it is a copy of one of them.
+/// Constants and what the slots hold are lent to it: memory is taken for the stack, once, before the first step, for the
+/// lists that literals make, and for the outcome where it is a copy of a constant or of what a slot holds.
 pub fn run<'a>(alloc: Global, program: &'a Program, slots: &'a Slots<'_>) -> Result<Run, AllocError>
     requires { slots_fit program.now.slots slots.now ≡ true }
     ensures run { IfOk result (λ r. IsRun program.now slots.now r.outcome r.charged r.steps) }

@@ -41,8 +41,8 @@ fn field_in<'v>(value: &'v Value, name: &str) -> Option<Result<&'v Value, CelErr
     }
 }
 
-// What is lent, as an operand.
-fn lend<'a>(outcome: Result<&'a Value, CelError>) -> Result<Operand<'a>, CelError>
+/// What is lent, as an operand.
+pub fn lend<'a>(outcome: Result<&'a Value, CelError>) -> Result<Operand<'a>, CelError>
     ensures { result ≡ lent outcome.entry }
 {
     match outcome {

@@ -1,14 +1,17 @@
-ghost use Rattle.std.specs.Prelude.{◌≡◌, ◌+◌, ◌<◌, ◌^◌, List, IfOk, Some, slice_get};
+ghost use Rattle.std.specs.Prelude.{◌≡◌, ◌+◌, ◌<◌, ◌^◌, IfOk, Some, slice_get};
 ghost use Rattle.cel_check.specs.Operators.{row};
 ghost use Rattle.cel_check.specs.Wants.{side_of};
-ghost use Rattle.cel_code.specs.Machine.{Frame, act, inputs_of, push, constant as constant_of, operate_by};
+ghost use Rattle.cel_code.specs.Machine.{Frame, act, inputs_of, push, constant as constant_of, slot as slot_of, operate_by};
 ghost use Rattle.cel_code.specs.Machine.{made as made_next, join as sides_joined};
 ghost use Rattle.cel_machine.specs.Lent.{lent};
 ghost use Rattle.cel_machine.specs.Room.{HasRoom};
-ghost use Rattle.cel_machine.specs.Follow.{LeadsTo, metered_one, metered_two, next_of, test_of, join_of, sides_of, branch_of};
+ghost use Rattle.cel_machine.specs.Follow.{LeadsTo, Comes, Finishes, metered_one, metered_two, test_of, join_of, sides_of, branch_of};
 
+use crate::kinds::truth;
+use crate::listing::list;
 use crate::operand::{Operand, outcome_of, own, read};
 use crate::operate::{on_one, on_two};
+use crate::parts::lend;
 use crate::slots::Slots;
 use crate::stack::Stack;
 use cel_check::{Made, Operands, Operator};
@@ -41,10 +44,12 @@ pub fn step<'a>(
 {
     match instr {
         Instr::Const(number) => Ok(constant(image, number, at, stack)),
-        Instr::Op(code) => Ok(match Operator::from_code(code) {
-            Some(op) => operate(op, at, stack),
-            None => Move::IsStuckHere,
-        }),
+        Instr::Slot(number) => Ok(slot(slots, number, at, stack)),
+        Instr::Op(code) => match Operator::from_code(code) {
+            Some(op) => operate(alloc, op, at, stack),
+            None => Ok(Move::IsStuckHere),
+        },
+        Instr::List(count) => list(alloc, count, at, stack),
         Instr::AndTest(to) => Ok(test(stack, false, to, at)),
         Instr::OrTest(to) => Ok(test(stack, true, to, at)),
         Instr::And => Ok(join(stack, true, at)),
@@ -71,68 +76,89 @@ fn constant<'a>(image: &'a Image, number: usize, at: usize, stack: &mut Stack<'a
     Move::GoesTo(0, at + 1)
 }
 
-fn operate(op: Operator, at: usize, stack: &mut Stack<'_>) -> Move
+fn slot<'a>(slots: &'a Slots<'_>, number: usize, at: usize, stack: &mut Stack<'a>) -> Move
     requires at { at + 1 < 2 ^ 64 }
     requires room { HasRoom stack.old }
-    ensures acts { LeadsTo (operate_by (Some op) at stack.old.items) result stack.new.items }
+    ensures acts { LeadsTo (slot_of (slice_get slots.now number) at stack.old.items) result stack.new.items }
+    ensures room { stack.new.room ≡ stack.old.room }
+{
+    let Some(held) = slots.get(number) else {
+        return Move::IsStuckHere;
+    };
+    stack.push(lend(held));
+    Move::GoesTo(1, at + 1)
+}
+
+fn operate(
+    alloc: Global,
+    op: Operator,
+    at: usize,
+    stack: &mut Stack<'_>,
+) -> Result<Move, AllocError>
+    requires at { at + 1 < 2 ^ 64 }
+    requires room { HasRoom stack.old }
+    ensures acts { IfOk result (λ m. LeadsTo (operate_by (Some op) at stack.old.items) m stack.new.items) }
     ensures room { stack.new.room ≡ stack.old.room }
 {
     match op.operands() {
-        Operands::One(_) => operate_one(op, at, stack),
-        Operands::Two(_, _) => operate_two(op, at, stack),
+        Operands::One(_) => operate_one(alloc, op, at, stack),
+        Operands::Two(_, _) => operate_two(alloc, op, at, stack),
     }
 }
 
-fn operate_one(op: Operator, at: usize, stack: &mut Stack<'_>) -> Move
+fn operate_one(
+    alloc: Global,
+    op: Operator,
+    at: usize,
+    stack: &mut Stack<'_>,
+) -> Result<Move, AllocError>
     requires at { at + 1 < 2 ^ 64 }
     requires room { HasRoom stack.old }
-    ensures acts { (frames : List Frame) → metered_one (row op) at stack.old.items frames ≡ next_of result stack.new.items frames }
+    ensures acts { IfOk result (λ m. Comes (metered_one (row op) at stack.old.items) m stack.new.items) }
     ensures room { stack.new.room ≡ stack.old.room }
 {
     let Some(x) = stack.pop() else {
-        return Move::IsStuckHere;
+        return Ok(Move::IsStuckHere);
     };
-    finish(on_one(op, read(&x)), at, stack)
+    finish(on_one(alloc, op, read(&x)), at, stack)
 }
 
-fn operate_two(op: Operator, at: usize, stack: &mut Stack<'_>) -> Move
+fn operate_two(
+    alloc: Global,
+    op: Operator,
+    at: usize,
+    stack: &mut Stack<'_>,
+) -> Result<Move, AllocError>
     requires at { at + 1 < 2 ^ 64 }
     requires room { HasRoom stack.old }
-    ensures acts { (frames : List Frame) → metered_two (row op) at stack.old.items frames ≡ next_of result stack.new.items frames }
+    ensures acts { IfOk result (λ m. Comes (metered_two (row op) at stack.old.items) m stack.new.items) }
     ensures room { stack.new.room ≡ stack.old.room }
 {
     let Some(y) = stack.pop() else {
-        return Move::IsStuckHere;
+        return Ok(Move::IsStuckHere);
     };
     let Some(x) = stack.pop() else {
-        return Move::IsStuckHere;
+        return Ok(Move::IsStuckHere);
     };
-    finish(on_two(op, read(&x), read(&y)), at, stack)
+    finish(on_two(alloc, op, read(&x), read(&y)), at, stack)
 }
 
-fn finish(made: Option<Made>, at: usize, stack: &mut Stack<'_>) -> Move
+/// On to the next instruction with what was made.
+pub fn finish(
+    made: Result<Option<Made>, AllocError>,
+    at: usize,
+    stack: &mut Stack<'_>,
+) -> Result<Move, AllocError>
     requires at { at + 1 < 2 ^ 64 }
     requires room { HasRoom stack.old }
-    ensures acts { (frames : List Frame) → made_next made at stack.old.items frames ≡ next_of result stack.new.items frames }
+    ensures acts { IfOk result (λ m. Finishes made at stack.old.items m stack.new.items) }
     ensures room { stack.new.room ≡ stack.old.room }
 {
-    let Some(made) = made else {
-        return Move::IsStuckHere;
+    let Some(made) = made? else {
+        return Ok(Move::IsStuckHere);
     };
     stack.push(own(made.outcome));
-    Move::GoesTo(made.charge, at + 1)
-}
-
-// The truth value or error that an operand is, if it is one. Null is an error.
-fn side(x: Result<&Value, CelError>) -> Option<Result<bool, CelError>>
-    ensures { result ≡ side_of (Some (lent x.entry)) }
-{
-    match x {
-        Ok(Value::Bool(b)) => Some(Ok(*b)),
-        Ok(Value::Null) => Some(Err(CelError::NullOperand)),
-        Err(e) => Some(Err(e)),
-        _ => None,
-    }
+    Ok(Move::GoesTo(made.charge, at + 1))
 }
 
 // The jump of a test, which is taken where the top is this truth value.
@@ -143,7 +169,7 @@ fn test(stack: &Stack<'_>, ends: bool, to: usize, at: usize) -> Move
     let Some(x) = stack.top() else {
         return Move::IsStuckHere;
     };
-    match side(x) {
+    match truth(x) {
         Some(Ok(b)) if b == ends => Move::GoesTo(1, to),
         Some(_) => Move::GoesTo(1, at + 1),
         None => Move::IsStuckHere,
@@ -163,7 +189,7 @@ fn join(stack: &mut Stack<'_>, all: bool, at: usize) -> Move
     let Some(x) = stack.pop() else {
         return Move::IsStuckHere;
     };
-    let Some(both) = joined(all, side(read(&x)), side(read(&y))) else {
+    let Some(both) = joined(all, truth(read(&x)), truth(read(&y))) else {
         return Move::IsStuckHere;
     };
     stack.push(own(both));
@@ -194,7 +220,7 @@ fn branch(stack: &mut Stack<'_>, if_false: usize, if_error: usize, at: usize) ->
     let Some(x) = stack.pop() else {
         return Move::IsStuckHere;
     };
-    match side(read(&x)) {
+    match truth(read(&x)) {
         Some(Ok(true)) => Move::GoesTo(1, at + 1),
         Some(Ok(false)) => Move::GoesTo(1, if_false),
         Some(Err(e)) => {

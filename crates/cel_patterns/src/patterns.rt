@@ -1,30 +1,38 @@
 //! The answer of `regex` for each text that was asked.
-ghost use Rattle.std.specs.Prelude.{◌≡◌, List, ℕ, [], ◌∷◌, ◌++◌, true, false, map, string_bytes};
+ghost use Rattle.std.specs.Prelude.{◌≡◌, List, ℕ, [], true, false, map, string_bytes};
 ghost use Rattle.std.specs.Prelude.{IfOk, OnOk, OnErr, IsSome, Some, None};
-ghost use Rattle.std.specs.BTreeMap.{get_by_text};
+ghost use Rattle.cel_patterns.specs.Answers.{answer_in, choice_in, Grows, Honours, IsHonest};
+ghost use Rattle.cel_patterns.specs.Choice.{then_answered};
 ghost use Rattle.cel_patterns.specs.Meaning.{tree_of};
-ghost use Rattle.cel_patterns.specs.Choice.{refuses, says_no, then_answered};
 
 use crate::building::builds;
 use std::alloc::{AllocError, Global};
 use std::collections::BTreeMap;
+use std::marker::Model;
 
-/// Which texts `regex` builds, as far as it was asked. It is asked once for each text.
+/// Which texts `regex` builds, as far as it was asked; contracts see what was asked and answered. It is asked once for
+/// each text.
 #[derive(Drop)]
 pub struct Patterns {
     answers: BTreeMap<String, bool>,
     refused: Vec<String>,
-    ghost chosen: { (text : List ℕ) → refuses (map string_bytes refused.items) text ≡ says_no (get_by_text answers text) },
-    ghost are_patterns: { (text : List ℕ) → get_by_text answers text ≡ Some true → IsSome (tree_of text) },
+}
+
+impl Model for Patterns {
+    ghost use Rattle.cel_patterns.specs.Answers.{Asked, IsHonest, told_by};
+
+    ghost Value = { Asked };
+
+    ghost view = { λ p. told_by p.answers p.refused.items };
+
+    ghost invariant = { λ p. IsHonest (told_by p.answers p.refused.items) };
 }
 
 impl Patterns {
-    ghost use Rattle.cel_patterns.specs.Answers.{answer_of, choice_of, Grows, Honours};
-
     /// It takes no memory until a text is asked for.
     pub fn new(alloc: Global) -> Patterns
-        ensures none { (text : List ℕ) → answer_of result text ≡ None }
-        ensures choice { choice_of result ≡ [] }
+        ensures none { (text : List ℕ) → answer_in result text ≡ None }
+        ensures choice { choice_in result ≡ [] }
     {
         Patterns {
             answers: BTreeMap::new(alloc),
@@ -34,22 +42,30 @@ impl Patterns {
 
     /// Whether `regex` builds the pattern. An answer stays, also where a call runs out of memory.
     pub fn look_up(&mut self, alloc: Global, text: &str) -> Result<bool, AllocError>
-        ensures answered { IfOk result (λ built. answer_of self.new text.now ≡ Some built) }
+        ensures answered { IfOk result (λ built. answer_in self.new text.now ≡ Some built) }
         ensures is_pattern { IfOk result (λ built. built ≡ true → IsSome (tree_of text.now)) }
-        ensures in_order { IfOk result (λ built. choice_of self.new ≡ then_answered (choice_of self.old) text.now built) }
+        ensures in_order { IfOk result (λ built. choice_in self.new ≡ then_answered (choice_in self.old) text.now built) }
         ensures grows { Grows self.old self.new }
-        ensures err { OnErr result (choice_of self.new ≡ choice_of self.old) }
+        ensures err { OnErr result (choice_in self.new ≡ choice_in self.old) }
     {
-        if let Some(built) = self.answers.get(text) {
-            return Ok(*built);
+        match self.answer(text) {
+            Some(built) => Ok(built),
+            None => self.ask(alloc, text),
         }
-        self.ask(alloc, text)
+    }
+
+    /// The answer for a text that was asked before.
+    fn answer(&self, text: &str) -> Option<bool>
+        ensures answer { result ≡ answer_in self.now text.now }
+        ensures honest { IsHonest self.now }
+    {
+        self.answers.get(text).copied()
     }
 
     /// The refused texts, in the order in which they were asked for first. It is the choice that the answers make.
     pub fn choice(&self) -> &[String]
-        ensures same { map string_bytes result.now ≡ choice_of self.now }
-        ensures honours { Honours self.now (choice_of self.now) }
+        ensures same { map string_bytes result.now ≡ choice_in self.now }
+        ensures honours { Honours self.now (choice_in self.now) }
     {
         self.refused.as_slice()
     }
@@ -58,12 +74,12 @@ impl Patterns {
     #[cold]
     #[inline(never)]
     fn ask(&mut self, alloc: Global, text: &str) -> Result<bool, AllocError>
-        requires new { answer_of self.old text.now ≡ None }
-        ensures answered { IfOk result (λ built. answer_of self.new text.now ≡ Some built) }
+        requires new { answer_in self.old text.now ≡ None }
+        ensures answered { IfOk result (λ built. answer_in self.new text.now ≡ Some built) }
         ensures is_pattern { IfOk result (λ built. built ≡ true → IsSome (tree_of text.now)) }
-        ensures in_order { IfOk result (λ built. choice_of self.new ≡ then_answered (choice_of self.old) text.now built) }
+        ensures in_order { IfOk result (λ built. choice_in self.new ≡ then_answered (choice_in self.old) text.now built) }
         ensures grows { Grows self.old self.new }
-        ensures err { OnErr result (choice_of self.new ≡ choice_of self.old) }
+        ensures err { OnErr result (choice_in self.new ≡ choice_in self.old) }
     {
         let built = builds(alloc, text)?;
         if built {
@@ -75,10 +91,10 @@ impl Patterns {
     }
 
     fn keep_built(&mut self, alloc: Global, text: &str) -> Result<(), AllocError>
-        requires new { answer_of self.old text.now ≡ None }
+        requires new { answer_in self.old text.now ≡ None }
         requires is_pattern { IsSome (tree_of text.now) }
-        ensures answered { OnOk result (answer_of self.new text.now ≡ Some true) }
-        ensures choice { choice_of self.new ≡ choice_of self.old }
+        ensures answered { OnOk result (answer_in self.new text.now ≡ Some true) }
+        ensures choice { choice_in self.new ≡ choice_in self.old }
         ensures grows { Grows self.old self.new }
     {
         let key = String::from_str(alloc, text)?;
@@ -87,11 +103,11 @@ impl Patterns {
     }
 
     fn keep_refused(&mut self, alloc: Global, text: &str) -> Result<(), AllocError>
-        requires new { answer_of self.old text.now ≡ None }
-        ensures answered { OnOk result (answer_of self.new text.now ≡ Some false) }
-        ensures choice { OnOk result (choice_of self.new ≡ choice_of self.old ++ text.now ∷ []) }
+        requires new { answer_in self.old text.now ≡ None }
+        ensures answered { OnOk result (answer_in self.new text.now ≡ Some false) }
+        ensures in_order { OnOk result (choice_in self.new ≡ then_answered (choice_in self.old) text.now false) }
         ensures grows { Grows self.old self.new }
-        ensures err { OnErr result (choice_of self.new ≡ choice_of self.old) }
+        ensures err { OnErr result (choice_in self.new ≡ choice_in self.old) }
     {
         let key = String::from_str(alloc, text)?;
         let name = String::from_str(alloc, text)?;

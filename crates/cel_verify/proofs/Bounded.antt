@@ -9,7 +9,8 @@ use Rattle.cel_value.specs.declared.cel_type.CelType.{CelType}
 use Rattle.cel_value.specs.declared.cel_type.CelType as type
 use Rattle.cel_value.specs.CelType.{assignable}
 use Rattle.cel_code.specs.declared.instr.Instr.{Instr}
-use Rattle.cel_code.specs.declared.instr.Instr.TheVariants.{Const, Op, AndTest, OrTest, And, Or, Cond, Jump, End}
+use Rattle.cel_code.specs.declared.instr.Instr.TheVariants.{Const, Op, AndTest, OrTest, And, Or, Cond, Jump, End, Slot}
+use Rattle.cel_code.specs.declared.instr.Instr.TheVariants as instr
 use Rattle.cel_code.specs.declared.image.Image.{Image}
 use Rattle.cel_check.specs.Meaning.{is_there, is_truth}
 use Rattle.cel_verify.specs.declared.fault.VerifyRule.TheVariants.{TooDeep, WrongKind}
@@ -86,7 +87,9 @@ jump_long image (Jump u) opens ts es m to h j e =
     let p = one_needs (enters o ts) (Ok None) m h in
     ⊎_elim (λ q. enters_long o ts es p.0 (ap (entry_in image.targets) (sym q) ∙ e)) (λ x. absurd x) j
 jump_long image (Const k) opens ts es m to h j e = absurd j
+jump_long image (Slot k) opens ts es m to h j e = absurd j
 jump_long image (Op k) opens ts es m to h j e = absurd j
+jump_long image (instr.List n) opens ts es m to h j e = absurd j
 jump_long image And opens ts es m to h j e = absurd j
 jump_long image Or opens ts es m to h j e = absurd j
 jump_long image End opens ts es m to h j e = absurd j

@@ -1,11 +1,11 @@
 -- The most operands, one instruction after another.
 use Rattle.std.proofs.Common.{◌≡◌, ℕ, zero, suc, ◌+◌, ◌<◌, ◌≤◌, max, List, [], ◌∷◌, ◌++◌}
-use Rattle.std.proofs.Common.{length, length-append, Option, None, refl, sym, ap, ◌∙◌, subst, ⊎_elim, arith, add-one}
+use Rattle.std.proofs.Common.{length, length-append, Option, None, true, refl, sym, ap, ◌∙◌, subst, ⊎_elim, arith, add-one}
 use Rattle.std.proofs.lemmas.Bool.{cases_lt}
 use Rattle.std.specs.Prelude.{slice_get}
 use Rattle.std.proofs.lemmas.Option.{slice_get_cases}
 use Rattle.cel_code.specs.declared.image.Image.{Image}
-use Rattle.cel_check.specs.Outcomes.{Outcome}
+use Rattle.cel_check.specs.Outcomes.{Outcome, slots_fit}
 use Rattle.cel_code.specs.Machine.{State, on}
 use Rattle.cel_verify.specs.StackTypes.{StackTypes, AllFit}
 use Rattle.cel_verify.specs.Sound.{label_at, IsSound}
@@ -57,6 +57,7 @@ typed_deep image s t =
     omega arith
 
 -- a state that the machine reaches
-pub never_more : (image : Image) (slots : List Outcome) → IsSound image → NeverMore image slots (greatest_depth image)
-never_more image slots sound =
-    λ s charge steps g. typed_deep image s (gets_typed image slots sound (on 0 [] []) s charge steps g (begins image slots sound)).0
+pub never_more : (image : Image) (slots : List Outcome) → IsSound image → slots_fit image.slots slots ≡ true
+    → NeverMore image slots (greatest_depth image)
+never_more image slots sound filled =
+    λ s charge steps g. typed_deep image s (gets_typed image slots sound filled (on 0 [] []) s charge steps g (begins image slots sound filled)).0

@@ -1,5 +1,6 @@
 pub mod Firsts
 pub mod Labels
+pub mod Listing
 pub mod Operations
 pub mod Pairwise
 pub mod PathSums

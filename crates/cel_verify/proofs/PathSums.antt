@@ -7,7 +7,8 @@ use Rattle.std.proofs.lemmas.List.{get_or_past, get_or-set_same, get_or-set_othe
 use Rattle.std.proofs.lemmas.Option.{slice_get_within}
 use borrow.Author.Tests.{ltb-true}
 use Rattle.cel_code.specs.declared.instr.Instr.{Instr}
-use Rattle.cel_code.specs.declared.instr.Instr.TheVariants.{Const, Op, AndTest, OrTest, And, Or, Cond, Jump, End}
+use Rattle.cel_code.specs.declared.instr.Instr.TheVariants.{Const, Op, AndTest, OrTest, And, Or, Cond, Jump, End, Slot}
+use Rattle.cel_code.specs.declared.instr.Instr.TheVariants as instr
 use Rattle.cel_code.specs.declared.image.Image.{Image}
 use Rattle.cel_check.specs.Meaning.{is_there}
 use Rattle.cel_verify.specs.Sound.{jumps_of, every, is_target, entry_in, IsSound}
@@ -84,7 +85,9 @@ module _ (image : Image) (at : ℕ) where
   ahead (Jump to) h t m = (is_ahead image at t (every_in (is_target image at) (to ∷ []) t h m)).0
   ahead End h t m = absurd m
   ahead (Const k) h t m = next_ahead t m
+  ahead (Slot k) h t m = next_ahead t m
   ahead (Op k) h t m = next_ahead t m
+  ahead (instr.List n) h t m = next_ahead t m
   ahead And h t m = next_ahead t m
   ahead Or h t m = next_ahead t m
 

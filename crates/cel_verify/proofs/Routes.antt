@@ -5,7 +5,8 @@ use Rattle.std.specs.Prelude.{slice_get}
 use Rattle.std.proofs.lemmas.Bool.{cases_lt}
 use Rattle.std.proofs.lemmas.Option.{slice_get_within}
 use Rattle.cel_code.specs.declared.instr.Instr.{Instr}
-use Rattle.cel_code.specs.declared.instr.Instr.TheVariants.{Const, Op, AndTest, OrTest, And, Or, Cond, Jump, End}
+use Rattle.cel_code.specs.declared.instr.Instr.TheVariants.{Const, Op, AndTest, OrTest, And, Or, Cond, Jump, End, Slot}
+use Rattle.cel_code.specs.declared.instr.Instr.TheVariants as instr
 use Rattle.cel_code.specs.declared.image.Image.{Image}
 use Rattle.cel_verify.specs.Sound.{every, is_target, jumps_of, IsSound}
 use Rattle.cel_verify.specs.Paths.{goes_to, greatest, path_from, IsIn, Route, Stops, Via, IsGreatest}
@@ -63,7 +64,9 @@ module _ (image : Image) (sound : IsSound image) (w : ℕ → ℕ) where
   targets_inside at (Jump to) h t m = jump at (Jump to) h t m
   targets_inside at End h t m = absurd m
   targets_inside at (Const k) h t m = next at t (Const k) h (λ q. cc) m
+  targets_inside at (Slot k) h t m = next at t (Slot k) h (λ q. cc) m
   targets_inside at (Op k) h t m = next at t (Op k) h (λ q. cc) m
+  targets_inside at (instr.List n) h t m = next at t (instr.List n) h (λ q. cc) m
   targets_inside at And h t m = next at t And h (λ q. cc) m
   targets_inside at Or h t m = next at t Or h (λ q. cc) m
 

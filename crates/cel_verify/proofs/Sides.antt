@@ -1,20 +1,33 @@
 -- What fits a type, seen by kind.
-use Rattle.std.proofs.Common.{◌≡◌, true, false, Option, Some, None, refl, sym, subst, true≢false}
+use Rattle.std.proofs.Common.{◌≡◌, ℕ, ◌^◌, List, true, false, Option, Some, None, refl, sym, ◌∙◌, subst, inl, inr, arith, true≢false}
+use Rattle.std.proofs.lemmas.Bool.{cases_Bool, le-leb}
 use Rattle.std.proofs.lemmas.Option.{none-some, same_Some}
-use Rattle.std.specs.Prelude.{Ok, Err}
+use Rattle.std.specs.Prelude.{Ok, Err, nat_lt}
 use Rattle.cel_value.specs.declared.value.Value.{Value, out-Value}
 use Rattle.cel_value.specs.declared.value.Value.TheOpen.{Value-F}
 use Rattle.cel_value.specs.declared.cel_type.CelType as type
 use Rattle.cel_value.specs.declared.cel_type.CelType.{CelType}
 use Rattle.cel_value.specs.declared.cel_type.CelType.TheOpen.{CelType-F}
 use Rattle.cel_value.specs.CelType.{fits}
+use Rattle.cel_value.specs.Value.{code_points}
 use Rattle.cel_check.specs.Outcomes.{Outcome, Side, and_of, or_of}
 use Rattle.cel_check.specs.declared.operands.Want.TheVariants.{Truth}
 use Rattle.cel_check.specs.Wants.{Limit, limit_of, side_of}
 use Rattle.cel_check.specs.Meaning.{is_there, is_truth}
-use Rattle.cel_check.proofs.Opened.{fits-levels, bool_fits, out-type-Null, out-type-Bool, out-type-Int, out-type-Uint, side_is}
+use Rattle.cel_check.proofs.Opened.{fits-levels, bool_fits, out-type-Null, out-type-Bool, out-type-Int, out-type-Uint, out-type-Text, side_is}
 use Rattle.cel_check.proofs.Rows.{Taken, taken_fits}
-use Rattle.cel_verify.specs.StackTypes.{Fits, constant_type_at, constant_type}
+use Rattle.cel_verify.specs.StackTypes.{Fits, text_type, constant_type_at, constant_type}
+
+text_level : (v : Value) (bytes : List ℕ) (t : CelType) → out-Value v ≡ Value-F.Text bytes → text_type bytes ≡ Some t → fits v t ≡ true
+text_level v bytes t e h =
+    let n = code_points bytes in
+    elim (cases_Bool (nat_lt n (2 ^ 32))) [
+      | inl y ↦
+          let here : Some (type.Text n) ≡ Some t = rw y at h in
+          subst (λ s. fits v s ≡ true) (same_Some _ _ here)
+          (fits-levels v (type.Text n) (Value-F.Text bytes) (CelType-F.Text n) e (out-type-Text n) ∙ le-leb n n (omega arith))
+      | inr past ↦ let here : None ≡ Some t = rw past at h in absurd (none-some _ here)
+    ]
 
 level_fits : (v : Value) (p : Value-F Value) (t : CelType) → out-Value v ≡ p → constant_type_at p ≡ Some t → fits v t ≡ true
 level_fits v Value-F.Null t e h =
@@ -25,6 +38,7 @@ level_fits v (Value-F.Int n) t e h =
     subst (λ s. fits v s ≡ true) (same_Some _ _ h) (fits-levels v type.Int (Value-F.Int n) CelType-F.Int e out-type-Int)
 level_fits v (Value-F.Uint n) t e h =
     subst (λ s. fits v s ≡ true) (same_Some _ _ h) (fits-levels v type.Uint (Value-F.Uint n) CelType-F.Uint e out-type-Uint)
+level_fits v (Value-F.Text bytes) t e h = text_level v bytes t e h
 level_fits v _ t e h = absurd (none-some _ h)
 
 pub constant_fits : (v : Value) (t : CelType) → constant_type (Some v) ≡ Some t → Fits (Ok v) t

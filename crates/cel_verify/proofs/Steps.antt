@@ -9,17 +9,23 @@ use Rattle.cel_value.specs.declared.cel_type.CelType.{CelType}
 use Rattle.cel_value.specs.declared.cel_type.CelType as type
 use Rattle.cel_value.specs.CelType.{assignable}
 use Rattle.cel_check.specs.declared.fault.TypeRule.{TypeRule}
+use Rattle.cel_check.specs.declared.fault.TypeRule.TheVariants.{TooLarge}
 use Rattle.cel_check.specs.declared.operator.Operator.{Operator}
 use Rattle.cel_check.specs.declared.operator.Made.{Made}
 use Rattle.cel_code.specs.declared.instr.Instr.{Instr}
-use Rattle.cel_code.specs.declared.instr.Instr.TheVariants.{Const, Op, AndTest, OrTest, And, Or, Cond, Jump, End}
+use Rattle.cel_code.specs.declared.instr.Instr.TheVariants.{Const, Op, AndTest, OrTest, And, Or, Cond, Jump, End, Slot}
+use Rattle.cel_code.specs.Machine.{taken_off, listed}
+use Rattle.cel_check.specs.Lists.{items_type, list_made}
+use Rattle.cel_verify.specs.Sound.{listed_rule}
+use Rattle.cel_verify.proofs.Listing.{taken_fit, taken_long, listed_made}
+use Rattle.cel_code.specs.declared.instr.Instr.TheVariants as instr
 use Rattle.cel_code.specs.declared.image.Image.{Image}
-use Rattle.cel_check.specs.Outcomes.{Outcome, Side, and_of, or_of}
+use Rattle.cel_check.specs.Outcomes.{Outcome, outcome_fits, slots_fit, Side, and_of, or_of}
 use Rattle.cel_check.specs.Wants.{side_of}
 use Rattle.cel_check.specs.Meaning.{is_truth}
 use Rattle.cel_check.specs.Operators.{Row, One, Two, row, operator_of, type_of_one}
 use Rattle.cel_check.specs.Operators.{type_of_two, greatest_of_one, greatest_of_two, at_one, at_two}
-use Rattle.cel_code.specs.Machine.{Inputs, Frame, State, on, Next, Goes, Ends, Stuck, push, constant, made, operate, operate_by}
+use Rattle.cel_code.specs.Machine.{Inputs, Frame, State, on, Next, Goes, Ends, Stuck, push, constant, slot, made, operate, operate_by}
 use Rattle.cel_code.specs.Machine.{and_test, or_test, joined, join, branch, act, act_at, inputs_of, step, Gets, Stays, Moves}
 use Rattle.cel_verify.specs.declared.fault.VerifyRule.TheVariants.{WrongKind}
 use Rattle.cel_verify.specs.StackTypes.{StackTypes, all_assignable, Fits, AllFit, constant_type}
@@ -28,6 +34,7 @@ use Rattle.cel_verify.specs.Sound.{join_rule, end_rule, typed_rule, entered, rul
 use Rattle.cel_verify.specs.Paths.{row_charge, op_charge, charge_of, charge_in, goes_to, charge_at, IsIn}
 use Rattle.cel_verify.specs.Typed.{below_all, types_at, opens_at, FramesFit, Typed, total, GoesOn, HasRun, RunsWithin}
 use Rattle.cel_check.proofs.Rows.{MadeRight, RowRight, row_right, one_operand, two_operands, wider}
+use Rattle.cel_check.proofs.Preserved.{slot_fits}
 use Rattle.cel_verify.proofs.Sides.{constant_fits, truth_side, false_side, true_side, and_fits, or_fits}
 use Rattle.cel_verify.proofs.RuleParts.{needs_is, parts_at}
 use Rattle.cel_verify.proofs.PathSums.{every_in, is_ahead, path_is, path_step, path_long}
@@ -73,7 +80,8 @@ one_needs false r m e = cc
 
 given_is : (q : Result CelType TypeRule) (us : StackTypes) (m : Option StackTypes) → given q us ≡ Ok m
     → (u : CelType) × (q ≡ Ok u) × (given q us ≡ Ok (Some (u ∷ us)))
-given_is (Err e) us m k = cc
+given_is (Err TooLarge) us m k = cc
+given_is (Err _) us m k = cc
 given_is (Ok u) us m k = (u, refl, refl)
 
 label_jump : (image : Image) (to : ℕ) (es : StackTypes) → 0 < to → entry_in image.targets to ≡ Some es
@@ -94,7 +102,7 @@ abbrev joins : (Side → Side → Outcome) → ℕ → List Outcome → List Fra
 joins f at (y ∷ x ∷ stack) frames = joined (join f (side_of (Some x)) (side_of (Some y))) at stack frames
 joins f at _ frames = Stuck
 
-module _ (image : Image) (slots : List Outcome) (sound : IsSound image) where
+module _ (image : Image) (slots : List Outcome) (sound : IsSound image) (filled : slots_fit image.slots slots ≡ true) where
   abbrev inputs : Inputs
   inputs = inputs_of image slots
 
@@ -203,6 +211,19 @@ module _ (image : Image) (slots : List Outcome) (sound : IsSound image) where
   op_on None at i ts stack frames h ne goes le e m k = cc
   op_on (Some op) at i ts stack frames h ne goes le e m k = row_on (row op) (row_right op) at i ts stack frames h ne goes le e m k
 
+  listed_on : (o : Option (StackTypes × StackTypes)) (n at : ℕ) (ts : StackTypes) (stack : List Outcome) (frames : List Frame)
+      → taken_off n [] ts ≡ o → Here at (instr.List n) ts stack frames
+      → typed_rule image (instr.List n) (opens_at image at) ts ≡ listed_rule o → (m : Option StackTypes) → listed_rule o ≡ Ok m
+      → GoesOn image (on at stack frames) (listed (taken_off n [] stack) at frames)
+  listed_on None n at ts stack frames z h e m k = cc
+  listed_on (Some p) n at ts stack frames z h e m k =
+      let q = given_is (items_type p.0) p.1 m k in
+      let t = taken_fit n [] [] ts stack (below_all (opens_at image at)) p z tt h.fits in
+      let long = taken_long n [] ts p z in
+      subst (λ o. GoesOn image (on at stack frames) (listed o at frames)) (sym t.1)
+      (made_on at (instr.List n) ts stack frames h (Some (list_made t.0.0)) q.0 (1 + length p.0) p.1 t.0.1 (λ q. cc) (inl refl)
+      (listed_made p.0 t.0.0 q.0 q.1 t.2) (omega (arith, long)) t.3 (e ∙ q.2))
+
   const_on : (o : Option Value) (t : Option CelType) (k at : ℕ) (ts : StackTypes) (stack : List Outcome) (frames : List Frame)
       → constant_type o ≡ t → Here at (Const k) ts stack frames
       → typed_rule image (Const k) (opens_at image at) ts ≡ constant_rule t ts → (m : Option StackTypes)
@@ -211,6 +232,15 @@ module _ (image : Image) (slots : List Outcome) (sound : IsSound image) where
   const_on None (Some t) k at ts stack frames z h e m q = cc
   const_on (Some v) (Some t) k at ts stack frames z h e m q =
       falls at (Const k) ts stack frames h 0 (t ∷ ts) (Ok v ∷ stack) (omega arith) e (λ q. cc) (inl refl) (constant_fits v t z, h.fits)
+
+  slot_on : (o : Option Outcome) (t : Option CelType) (k at : ℕ) (ts : StackTypes) (stack : List Outcome) (frames : List Frame)
+      → ((s : CelType) → t ≡ Some s → outcome_fits s o ≡ true) → Here at (Slot k) ts stack frames
+      → typed_rule image (Slot k) (opens_at image at) ts ≡ constant_rule t ts → (m : Option StackTypes)
+      → constant_rule t ts ≡ Ok m → GoesOn image (on at stack frames) (slot o at stack frames)
+  slot_on o None k at ts stack frames z h e m q = cc
+  slot_on None (Some t) k at ts stack frames z h e m q = absurd (true≢false (sym (z t refl)))
+  slot_on (Some x) (Some t) k at ts stack frames z h e m q =
+      falls at (Slot k) ts stack frames h 1 (t ∷ ts) (x ∷ stack) (omega arith) e (λ q. cc) (inl refl) (z t refl, h.fits)
 
   and_test_on : (to at : ℕ) (t : CelType) (ts : StackTypes) (x : Outcome) (stack : List Outcome) (frames : List Frame) (s : Side)
       (es : StackTypes) → Here at (AndTest to) (t ∷ ts) (x ∷ stack) frames → side_of (Some x) ≡ Some s
@@ -288,8 +318,11 @@ module _ (image : Image) (slots : List Outcome) (sound : IsSound image) where
       → GoesOn image (on at stack frames) (act inputs i at stack frames)
   instr_goes (Const k) at ts stack frames h m e =
       const_on (slice_get image.constants k) (constant_type (slice_get image.constants k)) k at ts stack frames refl h refl m e
+  instr_goes (Slot n) at ts stack frames h m e =
+      slot_on (slice_get slots n) (slice_get image.slots n) n at ts stack frames (slot_fits n image.slots slots filled) h refl m e
   instr_goes (Op o) at ts stack frames h m e =
       op_on (operator_of o) at (Op o) ts stack frames h (λ q. cc) (inl refl) (omega arith) refl m e
+  instr_goes (instr.List n) at ts stack frames h m e = listed_on (taken_off n [] ts) n at ts stack frames refl h refl m e
   instr_goes (AndTest to) at [] stack frames h m e = cc
   instr_goes (AndTest to) at (t ∷ ts) [] frames h m e = absurd h.fits
   instr_goes (AndTest to) at (t ∷ ts) (x ∷ stack) frames h m e =

@@ -3,7 +3,8 @@ use Rattle.std.specs.Prelude.{◌≡◌, ℕ, ◌+◌, ◌-◌, ◌*◌, ◌<◌
 use Rattle.std.specs.Prelude.{List, [], ◌∷◌, slice_get, slice_index, Option, Some, None}
 use Rattle.cel_check.specs.declared.operator.Operator.{Operator}
 use Rattle.cel_code.specs.declared.instr.Instr.{Instr}
-use Rattle.cel_code.specs.declared.instr.Instr.TheVariants.{Op, AndTest, OrTest, Cond, Jump, End}
+use Rattle.cel_code.specs.declared.instr.Instr.TheVariants.{Op, AndTest, OrTest, Cond, Jump, End, Slot}
+use Rattle.cel_code.specs.declared.instr.Instr.TheVariants as instr
 use Rattle.cel_code.specs.declared.image.Image.{Image}
 use Rattle.cel_check.specs.Operators.{Row, One, Two, row, operator_of, greatest_of_one, greatest_of_two}
 use Rattle.cel_verify.specs.StackTypes.{StackTypes}
@@ -22,7 +23,9 @@ op_charge (Some op) ts = row_charge (row op) ts
 
 -- the greatest charge of an instruction at these types
 abbrev pub charge_of : Instr → StackTypes → ℕ
+charge_of (Slot n) ts = 1
 charge_of (Op o) ts = op_charge (operator_of o) ts
+charge_of (instr.List n) ts = 1 + n
 charge_of (AndTest to) ts = 1
 charge_of (OrTest to) ts = 1
 charge_of (Cond if_false if_error) ts = 1

@@ -6,15 +6,19 @@ use Rattle.cel_value.specs.declared.cel_type.CelType.{CelType}
 use Rattle.cel_value.specs.declared.cel_type.CelType as type
 use Rattle.cel_value.specs.CelType.{assignable}
 use Rattle.cel_check.specs.declared.fault.TypeRule.{TypeRule}
+use Rattle.cel_check.specs.declared.fault.TypeRule.TheVariants.{TooLarge}
 use Rattle.cel_check.specs.declared.operator.Operator.{Operator}
 use Rattle.cel_code.specs.declared.instr.Instr.{Instr}
-use Rattle.cel_code.specs.declared.instr.Instr.TheVariants.{Const, Op, AndTest, OrTest, And, Or, Cond, Jump, End}
+use Rattle.cel_code.specs.declared.instr.Instr.TheVariants.{Const, Op, AndTest, OrTest, And, Or, Cond, Jump, End, Slot}
+use Rattle.cel_code.specs.Machine.{taken_off}
+use Rattle.cel_check.specs.Lists.{items_type}
+use Rattle.cel_code.specs.declared.instr.Instr.TheVariants as instr
 use Rattle.cel_code.specs.declared.image.Image.{Image}
 use Rattle.cel_code.specs.declared.image.Target.{Target}
 use Rattle.cel_check.specs.Meaning.{is_there, is_truth}
 use Rattle.cel_check.specs.Operators.{Row, One, Two, row, operator_of, type_of_one, type_of_two}
 use Rattle.cel_verify.specs.declared.fault.VerifyRule.{VerifyRule}
-use Rattle.cel_verify.specs.declared.fault.VerifyRule.TheVariants.{Underflow, WrongKind, BadTarget, BadNesting, BadConstant, TooDeep}
+use Rattle.cel_verify.specs.declared.fault.VerifyRule.TheVariants.{Underflow, WrongKind, BadTarget, BadNesting, BadConstant, TooDeep, OverBudget}
 use Rattle.cel_verify.specs.StackTypes.{StackTypes, all_assignable, constant_type}
 
 -- an open loop: where it begins and where it leads, the type and the most of its items, the types below its frame and
@@ -64,9 +68,10 @@ abbrev pub some_of : (ℕ → Bool) → List ℕ → Bool
 some_of p [] = false
 some_of p (t ∷ ts) = p t || some_of p ts
 
--- an instruction's constant or operator is there
+-- an instruction's constant, slot or operator is there
 abbrev pub is_named : Image → Instr → Bool
 is_named image (Const k) = is_there (constant_type (slice_get image.constants k))
+is_named image (Slot n) = is_there (slice_get image.slots n)
 is_named image (Op o) = is_there (operator_of o)
 is_named image _ = true
 
@@ -87,9 +92,10 @@ is_wanted image at = not (is_there (entry_in image.targets at)) || is_jumped ima
 abbrev pub is_nested : Image → ℕ → Instr → List Open → Bool
 is_nested image at i opens = true
 
--- the type that an operator gives, on top of those below its operands
+-- the type that an operator gives, on top of those below its operands; a limit of it that is too large is told by itself
 abbrev pub given : Result CelType TypeRule → StackTypes → Falls
-given (Err e) ts = Err WrongKind
+given (Err TooLarge) ts = Err OverBudget
+given (Err rule) ts = Err WrongKind
 given (Ok t) ts = Ok (Some (t ∷ ts))
 
 -- an operator at the types of its operands
@@ -103,10 +109,15 @@ abbrev pub op_rule : Option Operator → StackTypes → Falls
 op_rule None ts = Err BadConstant
 op_rule (Some op) ts = row_rule (row op) ts
 
--- the type of a constant, on top
+-- the type of a constant or of a slot, on top
 abbrev pub constant_rule : Option CelType → StackTypes → Falls
 constant_rule None ts = Err BadConstant
 constant_rule (Some t) ts = Ok (Some (t ∷ ts))
+
+-- the type of a list of items of these types, on top of those below them
+abbrev pub listed_rule : Option (StackTypes × StackTypes) → Falls
+listed_rule None = Err Underflow
+listed_rule (Some p) = given (items_type p.0) p.1
 
 -- these types may stand at an entry
 abbrev pub enters : Option StackTypes → StackTypes → Bool
@@ -141,7 +152,9 @@ end_rule result _ = Err WrongKind
 -- one instruction at the types above the innermost frame
 abbrev pub typed_rule : Image → Instr → List Open → StackTypes → Falls
 typed_rule image (Const k) opens ts = constant_rule (constant_type (slice_get image.constants k)) ts
+typed_rule image (Slot n) opens ts = constant_rule (slice_get image.slots n) ts
 typed_rule image (Op o) opens ts = op_rule (operator_of o) ts
+typed_rule image (instr.List n) opens ts = listed_rule (taken_off n [] ts)
 typed_rule image (AndTest to) opens ts = test_rule (entry_in image.targets to) ts
 typed_rule image (OrTest to) opens ts = test_rule (entry_in image.targets to) ts
 typed_rule image And opens ts = join_rule ts

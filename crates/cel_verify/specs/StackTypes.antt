@@ -1,10 +1,11 @@
 -- The types of operand stacks.
-use Rattle.std.specs.Prelude.{◌≡◌, Bool, true, false, ◌&&◌, List, [], ◌∷◌, Option, Some, None}
+use Rattle.std.specs.Prelude.{◌≡◌, ℕ, ◌^◌, nat_lt, Bool, true, false, ◌&&◌, List, [], ◌∷◌, Option, Some, None, if◌then◌else◌}
 use Rattle.cel_value.specs.declared.value.Value.{Value, out-Value}
 use Rattle.cel_value.specs.declared.value.Value.TheOpen.{Value-F}
 use Rattle.cel_value.specs.declared.cel_type.CelType.{CelType}
 use Rattle.cel_value.specs.declared.cel_type.CelType as type
 use Rattle.cel_value.specs.CelType.{assignable}
+use Rattle.cel_value.specs.Value.{code_points}
 use Rattle.cel_check.specs.Outcomes.{Outcome, outcome_fits}
 
 -- a stack's types, the top first
@@ -27,12 +28,17 @@ AllFit [] [] = Unit {0}
 AllFit (x ∷ stack) (t ∷ ts) = Fits x t × AllFit stack ts
 AllFit _ _ = ⊥
 
--- the type of a level that may be a constant: null, a truth value or a number
+-- the type of a constant text, which has at most its own length
+abbrev pub text_type : List ℕ → Option CelType
+text_type bytes = if nat_lt (code_points bytes) (2 ^ 32) then Some (type.Text (code_points bytes)) else None
+
+-- the type of a level that may be a constant: null, a truth value, a number or a text
 abbrev pub constant_type_at : Value-F Value → Option CelType
 constant_type_at Value-F.Null = Some type.Null
 constant_type_at (Value-F.Bool b) = Some type.Bool
 constant_type_at (Value-F.Int n) = Some type.Int
 constant_type_at (Value-F.Uint n) = Some type.Uint
+constant_type_at (Value-F.Text bytes) = text_type bytes
 constant_type_at _ = None
 
 -- the type of a constant, where there is one and its value may be one

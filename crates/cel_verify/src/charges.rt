@@ -21,7 +21,9 @@ pub fn charge(instr: Instr, label: &Option<TypeStack>) -> u64
             Some(op) => operator_charge(op, types.as_slice()),
             None => 0,
         },
+        Instr::List(count) => (count as u64).saturating_add(1),
         Instr::AndTest(_) | Instr::OrTest(_) | Instr::Cond(_, _) => 1,
+        Instr::Slot(_) => 1,
         _ => 0,
     }
 }
@@ -83,7 +85,8 @@ fn dearest(costs: &[u64], instr: Instr, at: usize) -> u64
             .max(cost_at(costs, if_error)),
         Instr::Jump(to) => cost_at(costs, to),
         Instr::End => 0,
-        Instr::Const(_) | Instr::Op(_) | Instr::And | Instr::Or => cost_at(costs, at + 1),
+        Instr::Const(_) | Instr::Slot(_) | Instr::Op(_) | Instr::List(_) | Instr::And | Instr::Or =>
+            { cost_at(costs, at + 1) }
     }
 }
 

@@ -7,6 +7,7 @@ mod arrivals;
 mod charges;
 mod constants;
 mod fault;
+mod listed;
 mod program;
 mod refusal;
 mod rules;

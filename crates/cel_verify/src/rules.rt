@@ -10,6 +10,7 @@ ghost use Rattle.cel_verify.specs.Walked.{Follows, rule_of_one, rule_of_two};
 use crate::arrivals::Arrivals;
 use crate::constants::constant_type;
 use crate::fault::VerifyRule;
+use crate::listed::listed;
 use crate::refusal::Refusal;
 use crate::targets::entry;
 use crate::type_stack::TypeStack;
@@ -32,10 +33,12 @@ pub fn typed(
 {
     match instr {
         Instr::Const(number) => constant(image, number, types),
+        Instr::Slot(number) => slot(image, number, types),
         Instr::Op(code) => match Operator::from_code(code) {
             Some(op) => operation(alloc, op, types),
             None => Err(Refusal::Broken(VerifyRule::BadConstant)),
         },
+        Instr::List(count) => listed(alloc, count, types),
         Instr::AndTest(to) | Instr::OrTest(to) => test(image, arrivals, to, types),
         Instr::And | Instr::Or => both_sides(types),
         Instr::Cond(if_false, if_error) => condition(image, arrivals, if_false, if_error, types),
@@ -60,6 +63,16 @@ fn constant(
         return Err(Refusal::Broken(VerifyRule::BadConstant));
     };
     types.push(cel_type)?;
+    Ok(Some(types))
+}
+
+fn slot(image: &Image, number: usize, mut types: TypeStack) -> Result<Option<TypeStack>, Refusal>
+    ensures { Follows result (constant_rule (slice_get image.now.slots number) types) }
+{
+    let Some(cel_type) = image.slots.get(number) else {
+        return Err(Refusal::Broken(VerifyRule::BadConstant));
+    };
+    types.push(cel_type.copy()?)?;
     Ok(Some(types))
 }
 
@@ -113,17 +126,21 @@ fn given_of_two(
     }
 }
 
-fn given(
+/// The type that an instruction gives, on top of those below its operands.
+pub fn given(
     answer: Result<CelType, TypeRule>,
     mut types: TypeStack,
 ) -> Result<Option<TypeStack>, Refusal>
     ensures { Follows result (given_rule answer types) }
 {
-    let Ok(answer) = answer else {
-        return Err(Refusal::Broken(VerifyRule::WrongKind));
-    };
-    types.push(answer)?;
-    Ok(Some(types))
+    match answer {
+        Ok(answer) => {
+            types.push(answer)?;
+            Ok(Some(types))
+        }
+        Err(TypeRule::TooLarge) => Err(Refusal::Broken(VerifyRule::OverBudget)),
+        Err(_) => Err(Refusal::Broken(VerifyRule::WrongKind)),
+    }
 }
 
 // Whether these types may stand where a jump arrives.

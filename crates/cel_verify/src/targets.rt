@@ -23,12 +23,13 @@ pub fn entry<'a>(image: &'a Image, arrivals: &Arrivals, at: usize) -> Option<&'a
     }
 }
 
-/// Whether an instruction's constant or operator is there.
+/// Whether an instruction's constant, slot or operator is there.
 pub fn has_name(image: &Image, instr: Instr) -> bool
     ensures { result ≡ is_named image.now instr }
 {
     match instr {
         Instr::Const(number) => constant_type(image, number).is_some(),
+        Instr::Slot(number) => image.slots.get(number).is_some(),
         Instr::Op(code) => Operator::from_code(code).is_some(),
         _ => true,
     }

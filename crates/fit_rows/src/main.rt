@@ -6,8 +6,7 @@
 #![tactic(auto)]
 
 use cel_value::{CelType, Value, max_weight, weight};
-use json::Writer;
-use plain::TextMap;
+use json_text::to_json;
 use serde_json::Value as Json;
 use std::alloc::{AllocError, Global};
 use std::io;
@@ -79,41 +78,6 @@ fn at_type(
 }
 
 fn told(alloc: Global, value: &Value, greatest: u64) -> Result<String, AllocError> {
-    let mut out = Writer::new(Vec::new(alloc));
-    put(&mut out, value)?;
-    let bytes = out.into_inner();
-    let text = std::str::from_utf8(bytes.as_slice()).unwrap_or("");
+    let text = to_json(alloc, value)?;
     format!(in alloc; "{text}; weight {} of {greatest}", weight(value))
-}
-
-#[cycle(put)]
-fn put(out: &mut Writer, value: &Value) -> Result<(), AllocError> {
-    match value {
-        Value::Null | Value::Opaque => out.null(),
-        Value::Bool(truth) => out.boolean(*truth),
-        Value::Int(number) => out.i64(*number),
-        Value::Uint(number) => out.u64(*number),
-        Value::Text(text) => out.string(text.as_str()),
-        Value::List(items) => put_items(out, items.as_slice()),
-        Value::Map(entries) | Value::Object(entries) => put_entries(out, entries),
-    }
-}
-
-#[cycle(put)]
-fn put_items(out: &mut Writer, items: &[Value]) -> Result<(), AllocError> {
-    out.begin_array()?;
-    for item in items {
-        put(out, item)?;
-    }
-    out.end_array()
-}
-
-#[cycle(put)]
-fn put_entries(out: &mut Writer, entries: &TextMap<Value>) -> Result<(), AllocError> {
-    out.begin_object()?;
-    for entry in entries.as_slice() {
-        out.key(entry.key.as_str())?;
-        put(out, &entry.value)?;
-    }
-    out.end_object()
 }

@@ -1,6 +1,6 @@
 //! What is written of an expression's answer, and how failures of readers and writers are counted.
 
-use crate::asked::repeated;
+use row_notation::repeated;
 use std::alloc::{AllocError, Global};
 use std::io;
 use std::io::{ErrorKind, Read, Write};

@@ -1,14 +1,14 @@
 //! What `check` and `compile` make of trees. An image is shown as the type of its outcome, the types of its slots, its
 //! constants, its targets with their types, and its code.
 
-use crate::asked::{Asked, hold, tells, unreadable};
+use crate::asked::{Asked, hold, tells};
 use crate::kinds::put_instr;
-use crate::shown::{put, put_type};
 use cel_check::{CheckError, Operator, Scope, Typed, check};
 use cel_code::{Image, Instr, Target, compile};
 use cel_parse::{Expr, ParseError, Syntax, UnaryOperator, parse};
 use cel_value::{CelType, Value};
 use plain::Boxed;
+use row_notation::{put, put_type, unreadable};
 use std::alloc::{AllocError, Global};
 
 fn write_types(out: &mut String, types: &[CelType]) -> Result<(), AllocError> {
@@ -150,21 +150,55 @@ fn a_tree_past_depth_100_is_too_large(rt: HostRuntime) {
     );
 }
 
-static OPERATORS: [(Operator, usize); 14] = [
+static OPERATORS: [(Operator, usize); 48] = [
     (Operator::Not, 0),
     (Operator::Negate, 1),
     (Operator::Add, 2),
     (Operator::AddUint, 3),
+    (Operator::AddText, 4),
+    (Operator::AddList, 5),
     (Operator::Subtract, 6),
+    (Operator::SubtractUint, 7),
     (Operator::Multiply, 8),
+    (Operator::MultiplyUint, 9),
     (Operator::Divide, 10),
+    (Operator::DivideUint, 11),
     (Operator::Remainder, 12),
+    (Operator::RemainderUint, 13),
     (Operator::Equal, 14),
     (Operator::NotEqual, 15),
     (Operator::Less, 16),
     (Operator::AtMost, 17),
     (Operator::Greater, 18),
     (Operator::AtLeast, 19),
+    (Operator::InList, 20),
+    (Operator::InMap, 21),
+    (Operator::IndexList, 22),
+    (Operator::IndexMap, 23),
+    (Operator::SizeText, 24),
+    (Operator::SizeList, 25),
+    (Operator::SizeMap, 26),
+    (Operator::StartsWith, 27),
+    (Operator::EndsWith, 28),
+    (Operator::Contains, 29),
+    (Operator::LowerAscii, 30),
+    (Operator::UpperAscii, 31),
+    (Operator::StringOfInt, 32),
+    (Operator::StringOfUint, 33),
+    (Operator::StringOfText, 34),
+    (Operator::IntOfInt, 35),
+    (Operator::IntOfUint, 36),
+    (Operator::IntOfText, 37),
+    (Operator::UintOfInt, 38),
+    (Operator::UintOfUint, 39),
+    (Operator::UintOfText, 40),
+    (Operator::SumInts, 41),
+    (Operator::SumUints, 42),
+    (Operator::MinInts, 43),
+    (Operator::MinUints, 44),
+    (Operator::MaxInts, 45),
+    (Operator::MaxUints, 46),
+    (Operator::Join, 47),
 ];
 
 fn has_number(operator: Operator, code: usize) -> bool {
@@ -176,6 +210,5 @@ fn operators_have_their_numbers(rt: HostRuntime) {
     for &(operator, code) in &OPERATORS {
         assert!(rt; has_number(operator, code), "{code}");
     }
-    assert!(rt; Operator::from_code(4).is_none());
-    assert!(rt; Operator::from_code(20).is_none());
+    assert!(rt; Operator::from_code(48).is_none());
 }

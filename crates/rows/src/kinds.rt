@@ -25,6 +25,8 @@ pub fn put_instr(out: &mut String, instr: Instr) -> Result<(), AllocError> {
     match instr {
         Instr::Const(number) => write!(out, "const {number}"),
         Instr::Op(code) => write!(out, "op {code}"),
+        Instr::Slot(number) => write!(out, "slot {number}"),
+        Instr::List(count) => write!(out, "list {count}"),
         Instr::AndTest(to) => write!(out, "and_test {to}"),
         Instr::OrTest(to) => write!(out, "or_test {to}"),
         Instr::And => out.push_str("and"),

@@ -1,5 +1,5 @@
-//! The rows that the other crates' public calls must keep. There is no code but tests, so no crate is proved a second
-//! time with its own.
+//! The rows that the other crates' public calls must keep, from trees on. There is no code but tests, so no crate is
+//! proved a second time with its own.
 //!
 //! A table is a constant, and a test hands it to [`asked::hold`]. So a test is proved in a second or two, however many
 //! rows its table has.
@@ -8,34 +8,18 @@
 #[cfg(test)]
 mod asked;
 #[cfg(test)]
-mod containers;
-#[cfg(test)]
 mod evaluation;
 #[cfg(test)]
 mod images;
 #[cfg(test)]
 mod kinds;
 #[cfg(test)]
-mod names;
-#[cfg(test)]
-mod notation;
-#[cfg(test)]
 mod operands;
 #[cfg(test)]
 mod overloads;
 #[cfg(test)]
-mod patterns;
-#[cfg(test)]
 mod programs;
 #[cfg(test)]
-mod schemas;
-#[cfg(test)]
-mod shown;
-#[cfg(test)]
-mod texts;
-#[cfg(test)]
-mod tokens;
+mod slots;
 #[cfg(test)]
 mod trees;
-#[cfg(test)]
-mod values;

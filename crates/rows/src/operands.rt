@@ -1,11 +1,9 @@
 //! Fields of operands, lent and not.
 
-use crate::asked::{Asked, hold, unreadable};
-use crate::notation::json;
-use crate::shown::shown;
-use crate::values::value_at;
+use crate::asked::{Asked, hold};
 use cel_machine::{Operand, field};
 use cel_value::{CelError, Value};
+use row_notation::{json, shown, unreadable, value_at};
 use serde_json::Value as Json;
 use std::alloc::{AllocError, Global};
 

@@ -1,11 +1,9 @@
 //! The types that operators take, and the types of their answers.
 
-use crate::asked::{Asked, hold, unreadable};
-use crate::notation::{json, typed};
-use crate::shown::shown_type;
-use crate::values::types_of;
+use crate::asked::{Asked, hold};
 use cel_check::{Operator, Untyped, is_natural, is_ordered, is_truth, is_whole};
 use cel_value::CelType;
+use row_notation::{json, shown_type, typed, types_of, unreadable};
 use serde_json::Value as Json;
 use std::alloc::{AllocError, Global};
 
@@ -71,12 +69,12 @@ static ROLES: [(&str, &str); 10] = [
     (r#""never""#, "true true true true"),
     (r#""bool""#, "true false false true"),
     (r#""int""#, "false true false true"),
-    (r#""uint""#, "false false true false"),
-    ("3", "false false false false"),
+    (r#""uint""#, "false false true true"),
+    ("3", "false false false true"),
     (r#""null""#, "false false false false"),
     (r#"["nullable","bool"]"#, "true false false true"),
     (r#"["nullable","int"]"#, "false true false true"),
-    (r#"["nullable","uint"]"#, "false false true false"),
+    (r#"["nullable","uint"]"#, "false false true true"),
     (
         r#"["nullable",["nullable","int"]]"#,
         "false false false false",
@@ -119,7 +117,7 @@ static LESS: [(&str, &str); 5] = [
     (r#"["bool",["nullable","bool"]]"#, "bool"),
     (r#"[["nullable","int"],"bool"]"#, "NoOverload"),
     (r#"["null","int"]"#, "NoOverload"),
-    (r#"[["nullable",3],["nullable",3]]"#, "NoOverload"),
+    (r#"[["nullable",3],["nullable",3]]"#, "bool"),
 ];
 
 // What stands for a set, and what no operator reads, is compared with null alone.
@@ -149,11 +147,11 @@ static EQUAL: [(&str, &str); 16] = [
         r#"[{"a":"int","b":["list",1,"int"]},{"a":"int","b":["list",1,"int"]}]"#,
         "bool",
     ),
-    (r#"["opaque","opaque"]"#, "NoOverload"),
+    (r#"["opaque","opaque"]"#, "OpaqueUse"),
     (r#"["null",["nullable","opaque"]]"#, "bool"),
     (
         r#"[["map",2,9,"opaque"],["map",2,9,"opaque"]]"#,
-        "NoOverload",
+        "OpaqueUse",
     ),
 ];
 

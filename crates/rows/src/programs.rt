@@ -2,13 +2,12 @@
 
 use crate::asked::tells;
 use crate::kinds::{Constant, value_of};
-use crate::notation::typed;
-use crate::shown::shown;
 use cel_code::{Image, Instr, Target};
 use cel_machine::{Run, Slots, run, slots_fit};
 use cel_value::{CelError, CelType, Value};
 use cel_verify::{Program, VerifyRule, verify};
 use plain::Items;
+use row_notation::{shown, typed};
 use std::alloc::{AllocError, Global};
 use std::process::Abort;
 
@@ -118,7 +117,8 @@ fn lend_all<'a>(
     Ok(lent)
 }
 
-fn run_with(
+/// What a run comes to where slots hold these, what it charges, its steps and the constants of its program.
+pub fn run_with(
     alloc: Global,
     program: &Program,
     values: &[Result<Value, CelError>],

@@ -1,10 +1,11 @@
 //! The trees of texts. Each is written by hand from the grammar: a node as its label with its place, then the nodes
 //! inside, each behind a space and in brackets.
 
-use crate::asked::{Asked, hold, repeated, unreadable};
+use crate::asked::{Asked, hold};
 use cel_parse::{
     BinaryOperator, Entry, Expr, Loop, ParseError, Syntax, UnaryOperator, one_expression, parse,
 };
+use row_notation::{repeated, unreadable};
 use std::alloc::{AllocError, Global};
 
 fn unary_of(operator: UnaryOperator) -> &'static str {

@@ -1,20 +1,19 @@
 -- Lines that are printed, worked out.
-use Rattle.std.proofs.Common.{◌≡◌, [], ◌∷◌, ◌++◌, codes, decimal, true, negsuc, refl}
+use Rattle.std.proofs.Common.{◌≡◌, [], ◌∷◌, ◌++◌, codes, decimal, true, negsuc, ap, refl}
 use Rattle.cel_value.specs.declared.value.Value as value
 use Rattle.cel_value.specs.declared.cel_error.CelError.TheVariants as error
 use Rattle.cel_lex.specs.declared.fault.LexFaultKind.TheVariants as lexing
 use Rattle.cel_grammar.specs.declared.fault.ParseFault.TheVariants as parsing
 use Rattle.vap_cli.specs.declared.answer.Refusal.TheVariants as refusal
 use Rattle.vap_cli.specs.declared.answer.Answer.TheVariants as answer
+use Rattle.json_text.proofs.WorkedRows.{true_text, negative_text}
 use Rattle.vap_cli.specs.Answer.{answer_line}
 
 true_line : answer_line (answer.Value (value.Bool true)) ≡ codes "true" ++ 10 ∷ []
-unfolding value.out-Value denote.Hole.Carrier.out
-true_line = refl
+true_line = ap (λ text. text ++ 10 ∷ []) true_text
 
 negative_line : answer_line (answer.Value (value.Int (negsuc 6))) ≡ codes "-" ++ (decimal 7 ++ 10 ∷ [])
-unfolding value.out-Value denote.Hole.Carrier.out
-negative_line = refl
+negative_line = ap (λ text. text ++ 10 ∷ []) negative_text
 
 error_line : answer_line (answer.Error error.DivideByZero) ≡ codes "error: DivideByZero" ++ 10 ∷ []
 error_line = refl

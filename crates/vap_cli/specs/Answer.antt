@@ -1,34 +1,20 @@
 -- What `eval` prints.
-use Rattle.std.specs.Prelude.{ℕ, List, [], ◌∷◌, ◌++◌, codes, decimal, if◌then◌else◌}
-use Rattle.std.specs.Fmt.{signed_decimal}
-use Rattle.cel_value.specs.declared.value.Value.{Value, out-Value}
-use Rattle.cel_value.specs.declared.value.Value.TheOpen.{Value-F}
+use Rattle.std.specs.Prelude.{ℕ, List, [], ◌∷◌, ◌++◌, codes, decimal}
 use Rattle.cel_value.specs.Names.{error_name}
+use Rattle.json_text.specs.JsonText.{json_text}
 use Rattle.cel_lex.specs.declared.fault.LexFaultKind.{LexFaultKind}
 use Rattle.cel_lex.specs.declared.fault.LexFaultKind.TheVariants.{BadChar, Unterminated, BadEscape, IntRange, TooLong}
 use Rattle.cel_grammar.specs.declared.fault.ParseFault.{ParseFault}
 use Rattle.cel_grammar.specs.declared.fault.ParseFault.TheVariants.{Lex, Unexpected, BadMacro, TooDeep}
 use Rattle.cel_check.specs.declared.fault.TypeRule.{TypeRule}
-use Rattle.cel_check.specs.declared.fault.TypeRule.TheVariants.{UnknownName, NoOverload, Mixed, TooLarge}
+use Rattle.cel_check.specs.declared.fault.TypeRule.TheVariants.{UnknownName, NoField, NoOverload, Mixed, OpaqueUse}
+use Rattle.cel_check.specs.declared.fault.TypeRule.TheVariants.{PatternNotLiteral, BadPattern, TooLarge}
 use Rattle.vap_cli.specs.declared.answer.Refusal.{Refusal}
 use Rattle.vap_cli.specs.declared.answer.Refusal.TheVariants as refusal
 use Rattle.vap_cli.specs.declared.answer.Answer.{Answer}
 use Rattle.vap_cli.specs.declared.answer.Answer.TheVariants as answer
 use Rattle.vap_cli.specs.declared.status.Status.{Status}
 use Rattle.vap_cli.specs.declared.status.Status.TheVariants.{Done, Fault}
-
--- a level as compact JSON; no expression comes to a text, a list, a map or an object yet, and these have none
-abbrev pub value_text_at : Value-F Value → List ℕ
-value_text_at Value-F.Null = codes "null"
-value_text_at (Value-F.Bool truth) = if truth then codes "true" else codes "false"
-value_text_at (Value-F.Int number) = signed_decimal number
-value_text_at (Value-F.Uint number) = decimal number
-value_text_at Value-F.Opaque = codes "null"
-value_text_at _ = []
-
--- a value as compact JSON
-abbrev pub value_text : Value → List ℕ
-value_text value = value_text_at (out-Value value)
 
 -- the name of a fault of the lexer
 abbrev pub lex_fault_name : LexFaultKind → List ℕ
@@ -41,8 +27,12 @@ lex_fault_name TooLong = codes "TooLong"
 -- the name of a rule of typing
 abbrev pub type_rule_name : TypeRule → List ℕ
 type_rule_name UnknownName = codes "UnknownName"
+type_rule_name NoField = codes "NoField"
 type_rule_name NoOverload = codes "NoOverload"
 type_rule_name Mixed = codes "Mixed"
+type_rule_name OpaqueUse = codes "OpaqueUse"
+type_rule_name PatternNotLiteral = codes "PatternNotLiteral"
+type_rule_name BadPattern = codes "BadPattern"
 type_rule_name TooLarge = codes "TooLarge"
 
 -- a fault's name with its place
@@ -64,7 +54,7 @@ refusal_text (refusal.Unverified at) = name_at (codes "Unverified") at
 
 -- what tells an answer, without its line feed
 abbrev pub answer_text : Answer → List ℕ
-answer_text (answer.Value value) = value_text value
+answer_text (answer.Value value) = json_text value
 answer_text (answer.Error error) = codes "error: " ++ error_name error
 answer_text (answer.Refused why) = codes "refused: " ++ refusal_text why
 

@@ -1,6 +1,7 @@
 //! What `eval` answers, and how it is told.
 
-ghost use Rattle.std.specs.Prelude.{◌≡◌, IfOk, string_bytes};
+ghost use Rattle.std.specs.Prelude.{◌≡◌, ◌++◌, ◌∷◌, [], IfOk, string_bytes};
+ghost use Rattle.json_text.specs.JsonText.{json_text};
 ghost use Rattle.vap_cli.specs.Answer.{answer_line, lex_fault_name, status_of, type_rule_name};
 
 use crate::status::Status;
@@ -8,6 +9,7 @@ use cel_check::{TypeFault, TypeRule};
 use cel_lex::LexFaultKind;
 use cel_parse::ParseFault;
 use cel_value::{CelError, Value};
+use json_text::to_json;
 use std::alloc::{AllocError, Global};
 use std::fmt;
 
@@ -33,7 +35,11 @@ impl Answer {
     pub fn line(&self, alloc: Global) -> Result<String, AllocError>
         ensures { IfOk result (λ line. string_bytes line ≡ answer_line self.now) }
     {
-        format!(in alloc; "{self}\n")
+        match self {
+            Answer::Value(value) => value_line(alloc, value),
+            Answer::Error(error) => format!(in alloc; "error: {}\n", error.name()),
+            Answer::Refused(refusal) => format!(in alloc; "refused: {refusal}\n"),
+        }
     }
 
     /// How the program ends after it.
@@ -47,29 +53,13 @@ impl Answer {
     }
 }
 
-impl fmt::Display for Answer {
-    ghost use Rattle.std.specs.Prelude.{Some};
-    ghost use Rattle.vap_cli.specs.Answer.{answer_text};
-
-    ghost output = { λ answer. Some (answer_text answer) };
-
-    fn fmt<W: fmt::Write>(&self, f: &mut fmt::Formatter<W>) -> fmt::Result {
-        match self {
-            Answer::Value(Value::Null | Value::Opaque) => write!(f, "null"),
-            Answer::Value(Value::Bool(truth)) => write!(f, "{truth}"),
-            Answer::Value(Value::Int(number)) => write!(f, "{number}"),
-            Answer::Value(Value::Uint(number)) => write!(f, "{number}"),
-            // No expression comes to one of these yet.
-            Answer::Value(Value::Text(_) | Value::List(_) | Value::Map(_) | Value::Object(_)) => Ok(
-                (),
-            ),
-            Answer::Error(error) => {
-                let name = error.name();
-                write!(f, "error: {name}")
-            }
-            Answer::Refused(refusal) => write!(f, "refused: {refusal}"),
-        }
-    }
+/// The line for a value.
+fn value_line(alloc: Global, value: &Value) -> Result<String, AllocError>
+    ensures { IfOk result (λ line. string_bytes line ≡ json_text value.now ++ 10 ∷ []) }
+{
+    let mut line = to_json(alloc, value)?;
+    line.push('\n')?;
+    Ok(line)
 }
 
 impl fmt::Display for Refusal {
@@ -108,8 +98,12 @@ fn type_rule_name(rule: TypeRule) -> &'static str
 {
     match rule {
         TypeRule::UnknownName => "UnknownName",
+        TypeRule::NoField => "NoField",
         TypeRule::NoOverload => "NoOverload",
         TypeRule::Mixed => "Mixed",
+        TypeRule::OpaqueUse => "OpaqueUse",
+        TypeRule::PatternNotLiteral => "PatternNotLiteral",
+        TypeRule::BadPattern => "BadPattern",
         TypeRule::TooLarge => "TooLarge",
     }
 }

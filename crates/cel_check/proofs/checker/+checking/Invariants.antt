@@ -1,6 +1,7 @@
 use Rattle.std.proofs.Common.{◌≡◌, drop}
 use Rattle.cel_check.specs.declared.fault.TypeRule.TheVariants.{NoOverload}
-use Rattle.cel_check.specs.Typing.{names_of, refused, after_each, after_entries, each_checked, entries_checked}
+use Rattle.cel_check.specs.Typing.{names_of, refused, each_tree, after_each, after_entries, each_checked, entries_checked}
+use Rattle.cel_check.proofs.Parts.{behind_done}
 use Rattle.cel_check.proofs.checker.+checking.Given as goal
 
 -- the parts that are left give the first fault
@@ -13,3 +14,9 @@ abbrev pub invariant-untyped_behind_entries-loop-entry : goal.invariant-untyped_
 invariant-untyped_behind_entries-loop-entry l =
     after_entries (entries_checked (drop l.entry-index l.entries)) (names_of l.scope) (refused l.place NoOverload)
     ≡ after_entries (entries_checked l.entries) (names_of l.scope) (refused l.place NoOverload)
+
+-- what is typed already, and what the parts that are left give
+abbrev pub invariant-typed_trees-loop-part : goal.invariant-typed_trees-loop-part
+invariant-typed_trees-loop-part l =
+    behind_done l.trees (each_tree (each_checked (drop l.part-index l.parts)) (names_of l.scope))
+    ≡ each_tree (each_checked l.parts) (names_of l.scope)

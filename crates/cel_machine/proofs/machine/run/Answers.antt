@@ -18,7 +18,7 @@ pub step-requires-clause-at : goal.step-requires-clause-at
 step-requires-clause-at c =
     let l = c.loop-instr in
     let i = c.image-image in
-    let run = here c.args.program.now i.result.now c.args.slots.now i.ensures.accepted i.ensures.image in
+    let run = here c.args.program.now i.result.now c.args.slots.now i.ensures.accepted i.ensures.image c.requires in
     let h = run l.at l.stack.items l.charged l.steps l.invariant.0 in
     omega (arith, h.room)
 
@@ -26,7 +26,7 @@ pub step-requires-clause-room : goal.step-requires-clause-room
 step-requires-clause-room c =
     let l = c.loop-instr in
     let i = c.image-image in
-    let run = deep c.args.program.now i.result.now c.args.slots.now i.ensures.accepted i.ensures.image in
+    let run = deep c.args.program.now i.result.now c.args.slots.now i.ensures.accepted i.ensures.image c.requires in
     let h = run l.at l.stack.items l.charged l.steps l.invariant.0 in
     omega (arith, l.invariant.1)
 
@@ -34,7 +34,7 @@ pub overflow_add-charged : goal.overflow_add-charged
 overflow_add-charged c =
     let l = c.loop-instr in
     let i = c.image-image in
-    let run = there c.args.program.now i.result.now c.args.slots.now i.ensures.accepted i.ensures.image in
+    let run = there c.args.program.now i.result.now c.args.slots.now i.ensures.accepted i.ensures.image c.requires in
     let turn = run l.at l.stack.items l.charged l.steps l.invariant.0 c.in-Some.instr.now c.in_ok-charge.field-0 in
     let after = turn c.step.new.stack.items (sym c.in-Some.ensures.value) (c.in_ok-charge.ensures.acts []) in
     let t = after c.in-GoesTo.charge c.in-GoesTo.to c.in-GoesTo.is in
@@ -44,7 +44,7 @@ pub overflow_add-steps : goal.overflow_add-steps
 overflow_add-steps c =
     let l = c.loop-instr in
     let i = c.image-image in
-    let run = here c.args.program.now i.result.now c.args.slots.now i.ensures.accepted i.ensures.image in
+    let run = here c.args.program.now i.result.now c.args.slots.now i.ensures.accepted i.ensures.image c.requires in
     let h = run l.at l.stack.items l.charged l.steps l.invariant.0 in
     omega (arith, h.few)
 
@@ -52,7 +52,7 @@ pub loop-instr-smaller : goal.loop-instr-smaller
 loop-instr-smaller c =
     let l = c.loop-instr in
     let i = c.image-image in
-    let run = here c.args.program.now i.result.now c.args.slots.now i.ensures.accepted i.ensures.image in
+    let run = here c.args.program.now i.result.now c.args.slots.now i.ensures.accepted i.ensures.image c.requires in
     let h = run l.at l.stack.items l.charged l.steps l.invariant.0 in
     omega (arith, h.within)
 
@@ -60,7 +60,7 @@ pub loop-instr-preserved : goal.loop-instr-preserved
 loop-instr-preserved c =
     let l = c.loop-instr in
     let i = c.image-image in
-    let run = goes c.args.program.now i.result.now c.args.slots.now i.ensures.accepted i.ensures.image in
+    let run = goes c.args.program.now i.result.now c.args.slots.now i.ensures.accepted i.ensures.image c.requires in
     let turn = run l.at l.stack.items l.charged l.steps l.invariant.0 c.in-Some.instr.now c.in_ok-charge.field-0 in
     let after = turn c.step.new.stack.items (sym c.in-Some.ensures.value) (c.in_ok-charge.ensures.acts []) in (
       after c.in-GoesTo.charge c.in-GoesTo.to c.in-GoesTo.is,
@@ -71,7 +71,7 @@ pub overflow_add-result : goal.overflow_add-result
 overflow_add-result c =
     let l = c.loop-instr in
     let i = c.image-image in
-    let run = here c.args.program.now i.result.now c.args.slots.now i.ensures.accepted i.ensures.image in
+    let run = here c.args.program.now i.result.now c.args.slots.now i.ensures.accepted i.ensures.image c.requires in
     let h = run l.at l.stack.items l.charged l.steps l.invariant.0 in
     omega (arith, h.few)
 
@@ -79,7 +79,7 @@ pub returns-in-EndsWith-clause-fits : goal.returns-in-EndsWith-clause-fits
 returns-in-EndsWith-clause-fits c =
     let l = c.loop-instr in
     let i = c.image-image in
-    let run = outcome_fits c.args.program.now i.result.now c.args.slots.now i.ensures.accepted i.ensures.image in
+    let run = outcome_fits c.args.program.now i.result.now c.args.slots.now i.ensures.accepted i.ensures.image c.requires in
     let turn = run l.at l.stack.items l.charged l.steps l.invariant.0 c.in-Some.instr.now c.in_ok-charge.field-0 in
     let after = turn c.step.new.stack.items (sym c.in-Some.ensures.value) (c.in_ok-charge.ensures.acts []) in
     after c.in-EndsWith.outcome c.in-EndsWith.is
@@ -88,7 +88,7 @@ pub returns-in-EndsWith-clause-steps : goal.returns-in-EndsWith-clause-steps
 returns-in-EndsWith-clause-steps c =
     let l = c.loop-instr in
     let i = c.image-image in
-    let run = here c.args.program.now i.result.now c.args.slots.now i.ensures.accepted i.ensures.image in
+    let run = here c.args.program.now i.result.now c.args.slots.now i.ensures.accepted i.ensures.image c.requires in
     let h = run l.at l.stack.items l.charged l.steps l.invariant.0 in
     omega (arith, h.counted, ap (λ p. length p.code) i.ensures.image)
 
@@ -96,7 +96,7 @@ pub returns-in-EndsWith-clause-charged : goal.returns-in-EndsWith-clause-charged
 returns-in-EndsWith-clause-charged c =
     let l = c.loop-instr in
     let i = c.image-image in
-    let run = here c.args.program.now i.result.now c.args.slots.now i.ensures.accepted i.ensures.image in
+    let run = here c.args.program.now i.result.now c.args.slots.now i.ensures.accepted i.ensures.image c.requires in
     let h = run l.at l.stack.items l.charged l.steps l.invariant.0 in
     omega (arith, h.cost, ap path_cost i.ensures.image)
 
@@ -104,7 +104,7 @@ pub returns-in-EndsWith-clause-within_budget : goal.returns-in-EndsWith-clause-w
 returns-in-EndsWith-clause-within_budget c =
     let l = c.loop-instr in
     let i = c.image-image in
-    let run = here c.args.program.now i.result.now c.args.slots.now i.ensures.accepted i.ensures.image in
+    let run = here c.args.program.now i.result.now c.args.slots.now i.ensures.accepted i.ensures.image c.requires in
     let h = run l.at l.stack.items l.charged l.steps l.invariant.0 in
     omega (arith, h.cheap)
 
@@ -112,7 +112,7 @@ pub unreachable-requires : goal.unreachable-requires
 unreachable-requires c =
     let l = c.loop-instr in
     let i = c.image-image in
-    let run = not_stuck c.args.program.now i.result.now c.args.slots.now i.ensures.accepted i.ensures.image in
+    let run = not_stuck c.args.program.now i.result.now c.args.slots.now i.ensures.accepted i.ensures.image c.requires in
     let turn = run l.at l.stack.items l.charged l.steps l.invariant.0 c.in-Some.instr.now c.in_ok-charge.field-0 in
     let after = turn c.step.new.stack.items (sym c.in-Some.ensures.value) (c.in_ok-charge.ensures.acts []) in
     after c.in-IsStuckHere.is
@@ -121,6 +121,6 @@ pub unreachable-requires-2 : goal.unreachable-requires-2
 unreachable-requires-2 c =
     let l = c.loop-instr in
     let i = c.image-image in
-    let run = here c.args.program.now i.result.now c.args.slots.now i.ensures.accepted i.ensures.image in
+    let run = here c.args.program.now i.result.now c.args.slots.now i.ensures.accepted i.ensures.image c.requires in
     let h = run l.at l.stack.items l.charged l.steps l.invariant.0 in
     no_end i.result.now.code l.at h.inside (sym c.in_default.ensures.value)

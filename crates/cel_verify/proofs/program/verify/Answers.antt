@@ -14,4 +14,4 @@ pub returns-in-Ok-clause-dearest : goal.returns-in-Ok-clause-dearest
 returns-in-Ok-clause-dearest c = greatest_path c.args.image c.in-Ok.ensures.accepted.sound (charge_at c.args.image)
 
 pub returns-in-Ok-clause-runs : goal.returns-in-Ok-clause-runs
-returns-in-Ok-clause-runs c = λ slots fits. runs_within c.args.image slots c.in-Ok.ensures.accepted.sound
+returns-in-Ok-clause-runs c = λ slots fits. runs_within c.args.image slots c.in-Ok.ensures.accepted.sound fits

@@ -1,5 +1,8 @@
+use Rattle.std.proofs.Common.{◌++◌, [], ◌∷◌, refl, ap, ◌∙◌, arith}
 use Rattle.std.proofs.lemmas.Result.{on_ok_weaker}
-use Rattle.cel_code.proofs.Place.{emits_literal, emits_unary, emits_binary, emits_both, emits_either, emits_conditional}
+use Rattle.cel_code.proofs.Leaving.{split_at, none_left, goes_on, all_stand, all_written}
+use Rattle.cel_code.proofs.Place.{emits_items, emits_literal, emits_unary, emits_binary, emits_both, emits_either, emits_conditional}
+use Rattle.cel_code.proofs.Place.{emits_slot}
 use Rattle.cel_code.proofs.Written.{writes_binary, writes_both, writes_either, writes_conditional}
 use Rattle.cel_code.proofs.compiler.Draft.+emit.Goals as goal
 
@@ -7,6 +10,10 @@ pub emit_within-returns-in_ok-number-in-Literal-clause-stands : goal.emit_within
 emit_within-returns-in_ok-number-in-Literal-clause-stands t c =
     on_ok_weaker c.put.result
     (λ e. emits_literal _ _ _ _ _ _ c.in-Literal.is c.in_ok-number-in-Literal.ensures.number e) c.put.ensures.code
+
+pub emit_within-returns-in-Slot-clause-stands : goal.emit_within-returns-in-Slot-clause-stands
+emit_within-returns-in-Slot-clause-stands t c =
+    on_ok_weaker c.put-in-Slot.result (λ e. emits_slot _ _ _ _ c.in-Slot.is e) c.put-in-Slot.ensures.code
 
 pub emit_within-returns-in_ok-emit-in-Unary-clause-stands : goal.emit_within-returns-in_ok-emit-in-Unary-clause-stands
 emit_within-returns-in_ok-emit-in-Unary-clause-stands t c =
@@ -63,3 +70,28 @@ emit_conditional-returns-clause-writes t c =
     writes_conditional _ _ _ _ _ _ _ _ _ _ _ _ _ c.requires.is c.in_ok-emit.ensures.writes c.in_ok-put.ensures.grows
     c.in_ok-emit-2.ensures.writes c.in_ok-put-2.ensures.grows c.in_ok-arrive.ensures.grows c.in_ok-emit_within.ensures.writes
     c.patch.ensures.grows c.patch-2.ensures.grows
+
+pub emit_list-returns-clause-stands : goal.emit_list-returns-clause-stands
+emit_list-returns-clause-stands t c =
+    on_ok_weaker c.put.result
+    (λ e.
+    emits_items _ _ _ _ _ _ _ _ c.requires.is c.as_slice.ensures c.in_ok-emit_each.ensures.stands c.leave.ensures.code c.len.ensures e)
+    c.put.ensures.code
+
+pub emit_each-loop-tree-preserved : goal.emit_each-loop-tree-preserved
+emit_each-loop-tree-preserved t c =
+    let l = c.loop-tree in
+    let under = c.in_ok-push.ensures.ok ∙ ap (λ t. c.emit.new.self.below ++ t ∷ []) c.in_ok-copy.ensures in
+    goes_on _ _ c.emit.new.self _ _ _ _ c.tree-item.result
+    (split_at c.args.trees.now l.tree-index c.tree-item.result (omega (arith, c.loop-tree-test.true)) c.tree-item.is) l.invariant
+    c.in_ok-emit.ensures.stands c.in_ok-emit.ensures.writes refl refl under
+
+pub emit_each-returns-clause-stands : goal.emit_each-returns-clause-stands
+emit_each-returns-clause-stands t c =
+    let l = c.loop-tree in
+    all_stand _ _ _ _ (none_left c.args.trees.now l.tree-index (omega (arith, c.loop-tree-test.false))) l.invariant
+
+pub emit_each-returns-clause-writes : goal.emit_each-returns-clause-writes
+emit_each-returns-clause-writes t c =
+    let l = c.loop-tree in
+    all_written _ _ _ _ (none_left c.args.trees.now l.tree-index (omega (arith, c.loop-tree-test.false))) l.invariant

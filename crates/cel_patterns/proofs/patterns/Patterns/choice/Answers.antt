@@ -1,5 +1,5 @@
-use Rattle.cel_patterns.proofs.Asked.{honest}
+use Rattle.cel_patterns.proofs.Asked.{honours_own}
 use Rattle.cel_patterns.proofs.patterns.Patterns.choice.Goals as goal
 
 pub returns-clause-honours : goal.returns-clause-honours
-returns-clause-honours c = λ text. honest _ _ (c.args.self.now.chosen text)
+returns-clause-honours c = honours_own _ _ c.self.view_is c.self.invariant

@@ -1,28 +1,35 @@
-use Rattle.std.proofs.Common.{rules, ◌≡◌, [], ◌∷◌, map, string_bytes}
-use Rattle.std.specs.BTreeMap.{get_by_text}
-use Rattle.std.specs.Str.{bytes_eq}
-use Rattle.std.proofs.lemmas.Map.Text.{btree_map_updates_text}
+use Rattle.std.proofs.Common.{◌≡◌, ◌∙◌, ◌++◌, ◌∷◌, [], ap, false, string_bytes}
+use Rattle.cel_patterns.specs.Answers.{answer_in, choice_in, told_by}
+use Rattle.cel_patterns.proofs.Asked.{Adds, adds, answered_by, grows_seen, honest_refused, joined}
 use Rattle.std.proofs.lemmas.List.{map-append}
-use Rattle.std.proofs.lemmas.List.Folds.{list_any-append}
-use Rattle.cel_patterns.proofs.Asked.{absent, kept_no, no_more, stays}
+use Rattle.cel_patterns.specs.Choice.{then_answered}
 use Rattle.cel_patterns.proofs.patterns.Patterns.keep_refused.Goals as goal
 
+added : (c : goal.After-push_reserved) →
+    Adds (told_by c.self.inside.answers c.self.inside.refused.items) (told_by c.insert.new.self c.push_reserved.new.self.items) c.args.text.now false
+added c =
+    adds c.self.inside.answers c.insert.new.self c.self.inside.refused.items c.push_reserved.new.self.items (string_bytes c.in_ok-key.key) c.args.text.now false
+    c.in_ok-key.ensures.ok c.in_ok-insert.ensures.updates
+
+last : (c : goal.After-push_reserved) →
+    choice_in (told_by c.insert.new.self c.push_reserved.new.self.items) ≡ choice_in (told_by c.self.inside.answers c.self.inside.refused.items) ++ c.args.text.now ∷ []
+last c =
+    rw (c.push_reserved.ensures.items, c.reserve.ensures.items, map-append string_bytes c.self.inside.refused.items (c.in_ok-name.name ∷ []))
+    (ap (λ text. choice_in (told_by c.self.inside.answers c.self.inside.refused.items) ++ text ∷ []) c.in_ok-name.ensures.ok)
+
+pub invariant_of-self : goal.invariant_of-self
+invariant_of-self c = rw c.reserve.ensures.items c.self.invariant
+
 pub invariant_of-self-2 : goal.invariant_of-self-2
-invariant_of-self-2 c =
-    let key = string_bytes c.in_ok-key.key in
-    let name = c.in_ok-name.name in
-    let old = c.args.self.now in
-    let new = c.insert.new.self in
-    let same : string_bytes name ≡ key = search rules in
-    record {
-      chosen = λ text. rw (c.push_reserved.ensures.items, c.reserve.ensures.items, map-append string_bytes old.refused.items (name ∷ []), list_any-append (λ other. bytes_eq other text) (map string_bytes old.refused.items) (map string_bytes (name ∷ [])), same)
-          (kept_no _ (get_by_text old.answers text) _ (bytes_eq key text) (btree_map_updates_text key old.answers new _ c.in_ok-insert.ensures.updates text) (old.chosen text));
-      are_patterns = λ text. no_more (get_by_text old.answers text) (get_by_text new text) _ (btree_map_updates_text key old.answers new _ c.in_ok-insert.ensures.updates text) (old.are_patterns text);
-    }
+invariant_of-self-2 c = honest_refused _ _ c.args.text.now (added c) (last c) c.self.invariant
+
+pub returns-clause-answered : goal.returns-clause-answered
+returns-clause-answered c = answered_by _ _ c.args.text.now false (added c)
+
+pub returns-clause-in_order : goal.returns-clause-in_order
+returns-clause-in_order c =
+    last c ∙ joined _ c.args.text.now c.self.invariant (ap (λ asked. answer_in asked c.args.text.now) c.self.view_is ∙ c.requires.new)
+    ∙ ap (λ asked. then_answered (choice_in asked) c.args.text.now false) c.self.view_is
 
 pub returns-clause-grows : goal.returns-clause-grows
-returns-clause-grows c = λ text.
-    let key = string_bytes c.in_ok-key.key in
-    let old = c.args.self.now.answers in
-    rw (btree_map_updates_text key old c.insert.new.self _ c.in_ok-insert.ensures.updates text)
-    (stays (get_by_text old text) _ _ (absent (get_by_text old) key c.args.text.now text c.in_ok-key.ensures.ok c.requires.new))
+returns-clause-grows c = grows_seen _ _ _ c.args.text.now false c.self.view_is (added c) c.requires.new

@@ -1,0 +1,7 @@
+use Rattle.std.proofs.Common.{drop}
+use Rattle.cel_code.proofs.Leaving.{GoesOn}
+use Rattle.cel_code.proofs.compiler.Draft.+emit.Given as goal
+
+-- the expressions that are left end what is written for all
+abbrev pub invariant-emit_each-loop-tree : goal.invariant-emit_each-loop-tree
+invariant-emit_each-loop-tree l = GoesOn l.initial.self l.self l.trees (drop l.tree-index l.trees)

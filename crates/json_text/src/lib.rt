@@ -1,0 +1,66 @@
+//! Values as JSON.
+//!
+//! [`to_json`] writes a value as compact JSON: integers in decimal digits, the members of maps and objects by the bytes
+//! of their keys, and what has no type as null. Its text is that of the definition, to the byte.
+#![tactic(auto)]
+
+ghost use Rattle.std.specs.Prelude.{◌≡◌, [], ◌∷◌, ◌++◌, IfOk, OnOk, string_bytes};
+ghost use Rattle.json.specs.Token.{begin_array, begin_object, end_array, end_object};
+ghost use Rattle.json_text.specs.JsonText.{json_text, items_tokens, members_tokens, tokens_of};
+
+use cel_value::Value;
+use json::Writer;
+use plain::TextMap;
+use std::alloc::{AllocError, Global};
+
+/// A value as compact JSON.
+pub fn to_json(alloc: Global, value: &Value) -> Result<String, AllocError>
+    ensures { IfOk result (λ text. string_bytes text ≡ json_text value.now) }
+{
+    let mut out = Writer::new(Vec::new(alloc));
+    put(&mut out, value)?;
+    Ok(String::from_utf8(out.into_inner()).unwrap())
+}
+
+#[cycle(put)]
+fn put(out: &mut Writer, value: &Value) -> Result<(), AllocError>
+    ensures tokens { OnOk result (out.new.tokens ≡ out.old.tokens ++ tokens_of value.now) }
+    ensures before { out.new.before ≡ out.old.before }
+{
+    match value {
+        Value::Null | Value::Opaque => out.null(),
+        Value::Bool(truth) => out.boolean(*truth),
+        Value::Int(number) => out.i64(*number),
+        Value::Uint(number) => out.u64(*number),
+        Value::Text(text) => out.string(text.as_str()),
+        Value::List(items) => put_items(out, items.as_slice()),
+        Value::Map(entries) | Value::Object(entries) => put_members(out, entries),
+    }
+}
+
+#[cycle(put)]
+fn put_items(out: &mut Writer, items: &[Value]) -> Result<(), AllocError>
+    ensures tokens { OnOk result
+        (out.new.tokens ≡ out.old.tokens ++ begin_array ∷ (items_tokens items.now ++ end_array ∷ [])) }
+    ensures before { out.new.before ≡ out.old.before }
+{
+    out.begin_array()?;
+    for item in items {
+        put(out, item)?;
+    }
+    out.end_array()
+}
+
+#[cycle(put)]
+fn put_members(out: &mut Writer, entries: &TextMap<Value>) -> Result<(), AllocError>
+    ensures tokens { OnOk result
+        (out.new.tokens ≡ out.old.tokens ++ begin_object ∷ (members_tokens entries.now ++ end_object ∷ [])) }
+    ensures before { out.new.before ≡ out.old.before }
+{
+    out.begin_object()?;
+    for entry in entries.as_slice() {
+        out.key(entry.key.as_str())?;
+        put(out, &entry.value)?;
+    }
+    out.end_object()
+}
