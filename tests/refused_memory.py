@@ -2,8 +2,9 @@
 """Runs what `rt ci` built with its first allocation refused, then with its second, and so on to the last that it makes.
 
 The program is run on the first expression and on vectors of each answer, and then must give its right answer, or end
-with status 4 and nothing on standard output. Of crates/value_rows the tests of TESTS are run, which take 'out of memory' for
-an answer and no other wrong one. The last line is 'N passed, M failed', each refused allocation counted.
+with status 4 and nothing on standard output. Of crates/value_rows and crates/match_rows the tests of TESTS are run, which
+take 'out of memory' for an answer and no other wrong one. The last line is 'N passed, M failed', each refused allocation
+counted.
 """
 import json
 import os
@@ -17,12 +18,14 @@ from pathlib import Path
 TOP = Path(__file__).resolve().parent.parent
 PROGRAM = TOP / "crates/vap/out/vap"
 ROWS = TOP / "crates/value_rows/out/value_rows_tests"
+MATCH_ROWS = TOP / "crates/match_rows/out/match_rows_tests"
 FIRST = "1 + 2 * 3 == 7 && !(4 < 3)"
 TESTS = [
-    "containers::containers_grow_or_are_out_of_memory",
-    "values::copies_and_joins_are_made_or_out_of_memory",
-    "schemas::a_document_is_fitted_or_out_of_memory",
-    "patterns::patterns_are_found_or_out_of_memory",
+    (ROWS, "containers::containers_grow_or_are_out_of_memory"),
+    (ROWS, "values::copies_and_joins_are_made_or_out_of_memory"),
+    (ROWS, "schemas::a_document_is_fitted_or_out_of_memory"),
+    (ROWS, "patterns::patterns_are_found_or_out_of_memory"),
+    (MATCH_ROWS, "memory::a_review_is_matched_or_out_of_memory"),
 ]
 VECTORS = 50
 MOST = 100_000
@@ -69,9 +72,9 @@ def cases():
         well = (line["status"], line["stdout"].encode())
         is_well = lambda status, out, well=well: (status, out) in (well, (4, b""))
         yield line["expression"], [PROGRAM, "eval", "--", line["expression"]], well, is_well
-    for test in TESTS:
+    for rows, test in TESTS:
         is_well = lambda status, out: status == 0 and b"test result: ok" in out
-        yield test, [ROWS, test], None, is_well
+        yield test, [rows, test], None, is_well
 
 
 def sweep(library, name, words, well, is_well):

@@ -1,0 +1,4 @@
+pub mod Forms
+pub mod Limits
+pub mod Parts
+pub mod Reading

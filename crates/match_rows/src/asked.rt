@@ -1,0 +1,58 @@
+//! Tables of rows, each a question with its answer.
+
+use crate::{covered, forms, limits, matched, reviews, selected};
+use std::alloc::{AllocError, Global};
+use std::process::Abort;
+
+/// What the rows of a table ask.
+#[derive(Clone, Copy)]
+pub enum Asked {
+    /// Whether a document is read as a selector.
+    Selector,
+    /// Which selectors select the labels of an object.
+    Selected,
+    /// Whether a document is read as rules.
+    Rules,
+    /// Which rules cover a request.
+    Covered,
+    /// Which rules match a request in a namespace with the labels of this object.
+    Matched(&'static str),
+    /// What a review asks.
+    Request,
+    /// How many characters may stand before this closing.
+    Longest(&'static str),
+    /// How many texts, with this under each, may stand before this closing.
+    Most(&'static str, &'static str),
+}
+
+/// The answer to a row's question.
+fn answer(alloc: Global, asked: Asked, row: &str) -> Result<String, AllocError> {
+    match asked {
+        Asked::Selector => forms::selector(alloc, row),
+        Asked::Selected => selected::selected(alloc, row),
+        Asked::Rules => forms::rules(alloc, row),
+        Asked::Covered => covered::covered(alloc, row),
+        Asked::Matched(namespace) => matched::matched(alloc, namespace, row),
+        Asked::Request => reviews::request(alloc, row),
+        Asked::Longest(closing) => limits::longest(alloc, row, closing),
+        Asked::Most(under, closing) => limits::most(alloc, row, under, closing),
+    }
+}
+
+/// Asserts what is answered to a row.
+pub fn tells(rt: &impl Abort, got: Result<String, AllocError>, wanted: &str, row: &str) {
+    let got = got.expect(rt, "out of memory");
+    assert_eq!(rt; got.as_str(), wanted, "at {row}");
+}
+
+/// Asserts each row of a table.
+pub fn hold<R: Abort + AllocGlobal>(rt: &R, asked: Asked, rows: &[(&str, &str)]) {
+    for (row, wanted) in rows {
+        tells(rt, answer(rt.alloc(), asked, row), wanted, row);
+    }
+}
+
+/// Whether a row has its answer.
+pub fn holds(alloc: Global, asked: Asked, row: &str, wanted: &str) -> Result<bool, AllocError> {
+    Ok(answer(alloc, asked, row)?.as_str() == wanted)
+}

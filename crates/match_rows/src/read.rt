@@ -1,0 +1,41 @@
+//! From the text of a row to a document, and from a refusal to its name.
+
+use serde_json::Value as Json;
+use std::alloc::{AllocError, Global};
+use vap_match::{MatchError, ReviewError};
+
+/// A JSON text's value. A text that is no JSON is as null, which is no question.
+pub fn json(alloc: Global, text: &str) -> Result<Json, AllocError> {
+    match Json::from_str(alloc, text) {
+        Ok(json) => Ok(json),
+        Err(error) if error.is_memory() => Err(AllocError),
+        Err(_) => Ok(Json::Null),
+    }
+}
+
+/// The review whose request has these members, and those that it needs beside them.
+pub fn review(alloc: Global, members: &str) -> Result<Json, AllocError> {
+    let text = format!(in alloc; "{{\"request\":{{\"uid\":\"u\",\"kind\":{{}},{members}}}}}")?;
+    json(alloc, text.as_str())
+}
+
+/// The sign of what holds or not.
+pub fn sign(holds: bool) -> &'static str {
+    if holds { "+" } else { "." }
+}
+
+/// The name of a fault of rules or of a selector.
+pub fn match_refusal(error: MatchError) -> Result<&'static str, AllocError> {
+    match error {
+        MatchError::Fault(fault) => Ok(fault.name()),
+        MatchError::OutOfMemory => Err(AllocError),
+    }
+}
+
+/// The name of a fault of a review.
+pub fn review_refusal(alloc: Global, error: ReviewError) -> Result<String, AllocError> {
+    match error {
+        ReviewError::Fault(fault) => String::from_str(alloc, fault.name()),
+        ReviewError::OutOfMemory => Err(AllocError),
+    }
+}

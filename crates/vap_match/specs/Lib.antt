@@ -1,0 +1,4 @@
+pub mod Choose
+pub mod Cover
+pub mod Namespaces
+pub mod RuleForm

@@ -1,0 +1,19 @@
+//! Which requests a policy is for.
+//!
+//! [`Rules::from_json`] reads what a policy or a binding says, or tells its least fault. [`covers`] says which requests rules cover, and
+//! [`matches`] whether rules match a request: they cover it, and they select its namespace ([`selects_namespace`]) and an object
+//! of it ([`selects_object`]). What answers a question takes no memory. Requests and selectors are those of the crates below.
+#![tactic(auto)]
+
+mod choosing;
+mod covering;
+mod rule_form;
+mod rules;
+
+pub use choosing::{matches, selects_namespace, selects_object};
+pub use covering::covers;
+pub use rules::{Operation, Rule, Rules, Scope};
+pub use vap_request::{Admission, Kind, Request, Resource, ReviewError, ReviewFault, UserInfo};
+pub use vap_select::{
+    Labels, MatchError, MatchFault, Operator, Requirement, Selector, labels_of, selects,
+};

@@ -1,0 +1,43 @@
+//! Rules of a policy and of a binding: which requests they are for.
+
+use plain::{Items, Text};
+use vap_select::Selector;
+
+/// An operation that a rule names.
+#[derive(Clone, Copy)]
+pub enum Operation {
+    Create,
+    Update,
+    Delete,
+    Connect,
+    Any,
+}
+
+/// Which requests a rule is for, by where their objects are.
+#[derive(Clone, Copy)]
+pub enum Scope {
+    Any,
+    Cluster,
+    Namespaced,
+}
+
+/// A rule: requests by operation, group, version, resource and scope, and by name if it names any.
+#[derive(Drop)]
+pub struct Rule {
+    pub operations: Items<Operation>,
+    pub api_groups: Items<Text>,
+    pub api_versions: Items<Text>,
+    pub resources: Items<Text>,
+    pub scope: Scope,
+    pub resource_names: Items<Text>,
+}
+
+/// What a policy's `matchConstraints` or a binding's `matchResources` holds. Its `matchPolicy` says nothing more: a
+/// request is matched by its own group, version and resource.
+#[derive(Drop)]
+pub struct Rules {
+    pub resource_rules: Items<Rule>,
+    pub exclude_resource_rules: Items<Rule>,
+    pub namespace_selector: Option<Selector>,
+    pub object_selector: Option<Selector>,
+}

@@ -1,0 +1,14 @@
+//! The requests of admission reviews.
+//!
+//! [`Request::from_json`] reads a review, or tells its least fault. A request keeps its review, in which its objects stay:
+//! [`Admission::object`] and [`Admission::old_object`] lend them, without memory.
+#![tactic(auto)]
+
+mod form;
+mod limits;
+mod request;
+mod review;
+mod review_fault;
+
+pub use request::{Admission, Kind, Request, Resource, UserInfo};
+pub use review_fault::{ReviewError, ReviewFault};

@@ -1,0 +1,105 @@
+//! Requests.
+
+ghost use Rattle.std.specs.Prelude.{◌≡◌, IfOk};
+ghost use Rattle.serde_json.specs.View.{view};
+ghost use Rattle.json_members.specs.Parts.{lent};
+ghost use Rattle.vap_request.specs.Requests.{document_in, object_of, old_object_of};
+
+use plain::{Boxed, Items, Shared, Text, TextMap};
+use serde_json::Value as Json;
+use std::alloc::AllocError;
+
+/// The kind of a request's object.
+#[derive(Drop)]
+pub struct Kind {
+    pub group: Text,
+    pub version: Text,
+    pub kind: Text,
+}
+
+/// The resource that a request is on.
+#[derive(Drop)]
+pub struct Resource {
+    pub group: Text,
+    pub version: Text,
+    pub resource: Text,
+}
+
+/// Whose request it is.
+#[derive(Drop)]
+pub struct UserInfo {
+    pub username: Text,
+    pub uid: Text,
+    pub groups: Items<Text>,
+    pub extra: TextMap<Items<Text>>,
+}
+
+/// What a review asks to be admitted, with the review.
+#[derive(Drop)]
+pub struct Admission {
+    pub uid: Text,
+    pub kind: Kind,
+    pub resource: Resource,
+    pub sub_resource: Text,
+    pub name: Text,
+    pub namespace: Text,
+    pub operation: Text,
+    pub user_info: UserInfo,
+    pub dry_run: bool,
+    pub review: Boxed<Json>,
+}
+
+/// A request, which may have several owners.
+#[derive(Drop)]
+pub struct Request {
+    pub admission: Shared<Admission>,
+}
+
+impl Request {
+    /// An equal request: one more owner of the same.
+    pub fn copy(&self) -> Result<Request, AllocError>
+        ensures { IfOk result (λ request. request ≡ self.now) }
+    {
+        Ok(Request {
+            admission: self.admission.share()?,
+        })
+    }
+}
+
+impl Admission {
+    /// The object as it is to be; there is none on DELETE.
+    pub fn object(&self) -> Option<&Json>
+        ensures { lent result ≡ object_of self.now }
+    {
+        if self.operation.as_str() == "DELETE" {
+            None
+        } else {
+            document_in(self.review.get(), "object")
+        }
+    }
+
+    /// The object as it was; there is none on CREATE.
+    pub fn old_object(&self) -> Option<&Json>
+        ensures { lent result ≡ old_object_of self.now }
+    {
+        if self.operation.as_str() == "CREATE" {
+            None
+        } else {
+            document_in(self.review.get(), "oldObject")
+        }
+    }
+}
+
+/// A document that came with a request, unless it is null.
+fn document_in<'a>(review: &'a Json, name: &str) -> Option<&'a Json>
+    ensures { lent result ≡ document_in name.now (view review.now) }
+{
+    match review.get("request") {
+        Some(request) => match request.get(name) {
+            Some(Json::Null) => None,
+            Some(document) => Some(document),
+            None => None,
+        },
+        None => None,
+    }
+}

@@ -1,0 +1,4 @@
+pub mod Answers
+pub mod Names
+pub mod Select
+pub mod SelectorForm

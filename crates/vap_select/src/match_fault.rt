@@ -1,0 +1,53 @@
+//! Why rules or a selector are refused.
+
+ghost use Rattle.std.specs.Prelude.{◌≡◌};
+ghost use Rattle.vap_select.specs.Names.{match_fault_name};
+
+use std::alloc::{AllocError, AllocFailed};
+use thiserror::Error;
+
+#[derive(Clone, Copy, Debug, PartialEq, Eq, Error)]
+pub enum MatchFault {
+    /// A selector is not of its form: an operator is none of the words, or has values where it may have none, or none
+    /// where it needs some, or something is of a wrong kind.
+    #[error("a selector that is not understood")]
+    BadOperator = 1,
+    /// A `scope` is none of its words.
+    #[error("a scope that is not understood")]
+    BadScope = 2,
+    /// Rules are not of their form in another way: a list of a rule that needs an item has none or is absent, an
+    /// operation or a `matchPolicy` is none of the words, or something is of a wrong kind.
+    #[error("a rule that is not understood")]
+    EmptyRule = 3,
+}
+
+impl MatchFault {
+    /// The name that is printed.
+    pub fn name(&self) -> &'static str
+        ensures { result.now ≡ match_fault_name self.now }
+    {
+        match self {
+            MatchFault::BadOperator => "BadOperator",
+            MatchFault::BadScope => "BadScope",
+            MatchFault::EmptyRule => "EmptyRule",
+        }
+    }
+}
+
+#[derive(Debug, Drop, Error)]
+pub enum MatchError {
+    #[error("out of memory")]
+    OutOfMemory,
+    #[error("{0}")]
+    Fault(MatchFault),
+}
+
+impl From<AllocError> for MatchError {
+    ghost use Rattle.vap_select.specs.declared.match_fault.MatchError.TheVariants.{OutOfMemory};
+
+    ghost from_gives = { λ _ e. e ≡ OutOfMemory };
+
+    fn from(_e: AllocError) -> MatchError {
+        MatchError::OutOfMemory
+    }
+}
