@@ -2,9 +2,12 @@
 """Runs what `rt ci` built with its first allocation refused, then with its second, and so on to the last that it makes.
 
 The program is run on the first expression and on vectors of each answer, and then must give its right answer, or end
-with status 4 and nothing on standard output. Of crates/value_rows and crates/match_rows the tests of TESTS are run, which
-take 'out of memory' for an answer and no other wrong one. The last line is 'N passed, M failed', each refused allocation
-counted.
+with status 4 and nothing on standard output. Of crates/value_rows, crates/match_rows and crates/judge_rows the tests of
+TESTS are run, which take 'out of memory' for an answer and no other wrong one.
+
+Then the allocations of crates/rows' tests of what is lent are counted: that ten runs more of the same expressions take as
+many, of as many bytes, where the slots hold much as where they hold little. The last line is 'N passed, M failed', each refused allocation
+counted, and that one comparison.
 """
 import json
 import os
@@ -19,6 +22,8 @@ TOP = Path(__file__).resolve().parent.parent
 PROGRAM = TOP / "crates/vap/out/vap"
 ROWS = TOP / "crates/value_rows/out/value_rows_tests"
 MATCH_ROWS = TOP / "crates/match_rows/out/match_rows_tests"
+JUDGE_ROWS = TOP / "crates/judge_rows/out/judge_rows_tests"
+UPPER_ROWS = TOP / "crates/rows/out/rows_tests"
 FIRST = "1 + 2 * 3 == 7 && !(4 < 3)"
 TESTS = [
     (ROWS, "containers::containers_grow_or_are_out_of_memory"),
@@ -26,6 +31,9 @@ TESTS = [
     (ROWS, "schemas::a_document_is_fitted_or_out_of_memory"),
     (ROWS, "patterns::patterns_are_found_or_out_of_memory"),
     (MATCH_ROWS, "memory::a_review_is_matched_or_out_of_memory"),
+    (MATCH_ROWS, "events::lines_are_read_or_out_of_memory"),
+    (MATCH_ROWS, "objects::objects_are_held_or_out_of_memory"),
+    (JUDGE_ROWS, "answers::a_verdict_is_made_or_out_of_memory"),
 ]
 VECTORS = 50
 MOST = 100_000
@@ -92,21 +100,45 @@ def sweep(library, name, words, well, is_well):
     return MOST, whys + [f"{name!r}: it has not ended at {MOST} allocations"]
 
 
+def counted(library, test):
+    """How many allocations a test of crates/rows makes, and of how many bytes together."""
+    environment = {"LD_PRELOAD": str(library), "COUNTED": "1"}
+    ran = subprocess.run([UPPER_ROWS, test], env=environment, stdin=subprocess.DEVNULL, capture_output=True, timeout=60)
+    if ran.returncode or b"test result: ok" not in ran.stdout:
+        raise SystemExit(f"{test}: status {ran.returncode}, {ran.stdout!r}")
+    return [int(word) for word in ran.stderr.split()[-2:]]
+
+
+def taken(library, held):
+    """What the further runs of the same expressions take where slots hold little or much: allocations and bytes."""
+    once = counted(library, f"lent::{held}_is_read_once")
+    often = counted(library, f"lent::{held}_is_read_often")
+    return [more - less for more, less in zip(often, once)]
+
+
+def lent_is_copied(library):
+    """Why what slots hold seems to be copied, if it does."""
+    little, much = taken(library, "little"), taken(library, "much")
+    print(f"lent: {little[0]} allocations of {little[1]} bytes where slots hold little, {much[0]} of {much[1]} where much")
+    return [] if little == much and little[0] > 0 else ["what slots hold is copied"]
+
+
 def main():
     folder = tempfile.mkdtemp()
     try:
         library = preloaded(folder)
         with ThreadPoolExecutor(os.cpu_count()) as pool:
             swept = list(pool.map(lambda case: sweep(library, *case), cases()))
+        copied = lent_is_copied(library)
     finally:
         shutil.rmtree(folder)
     refused = sum(count for count, _ in swept)
     whys = [why for _, found in swept for why in found]
-    whys += ["a case makes no allocation" for count, _ in swept if not count]
+    whys += ["a case makes no allocation" for count, _ in swept if not count] + copied
     for why in whys:
         print(why)
     print(f"refused memory: {len(swept)} cases, {refused} allocations")
-    print(f"{refused - len(whys)} passed, {len(whys)} failed")
+    print(f"{refused + 1 - len(whys)} passed, {len(whys)} failed")
     return 1 if whys else 0
 
 

@@ -1,8 +1,8 @@
 -- A typed tree that checking gives is well typed.
-use Rattle.std.proofs.Common.{◌≡◌, ℕ, suc, ◌+◌, ◌^◌, cond, true, false, ◌&&◌, List, [], ◌∷◌, Option}
+use Rattle.std.proofs.Common.{◌≡◌, ℕ, suc, ◌+◌, ◌^◌, Bool, cond, true, false, ◌&&◌, List, [], ◌∷◌, Option}
 use Rattle.std.proofs.Common.{Some, None, ap, sym, ◌∙◌, subst, refl, inl, inr, arith}
-use Rattle.std.proofs.lemmas.Bool.{and_from, cases_Bool}
-use Rattle.std.specs.Prelude.{Result, Ok, Err, map, nat_lt, slice_get}
+use Rattle.std.proofs.lemmas.Bool.{and_from, and_parts, cases_Bool, false≢true}
+use Rattle.std.specs.Prelude.{Result, Ok, Err, map, nat_lt, slice_get, codes}
 use Rattle.std.specs.Str.{bytes_eq}
 use Rattle.plain.specs.declared.text.Keyed.{Keyed}
 use Rattle.cel_value.specs.Value.{code_points}
@@ -12,33 +12,43 @@ use Rattle.cel_value.specs.declared.cel_type.CelType as type
 use Rattle.cel_value.specs.CelType.{assignable, join}
 use Rattle.cel_value.proofs.Above.{IsAbove, join-above}
 use Rattle.cel_value.proofs.Reflexive.{assignable-refl}
-use Rattle.cel_check.proofs.Opened.{bool_fits, int_fits, null_fits, uint_fits, text_fits}
+use Rattle.cel_operators.proofs.Opened.{bool_fits, int_fits, null_fits, uint_fits, text_fits}
 use Rattle.cel_grammar.specs.declared.tree.Entry.{Entry}
 use Rattle.cel_parse.specs.declared.expr.Expr.{Expr, roll-Expr}
 use Rattle.cel_parse.specs.declared.expr.Expr.TheOpen.{Expr-F}
 use Rattle.cel_parse.specs.declared.expr.Expr.TheFolds.{map-Expr, fold-roll-Expr, ind-Expr}
 use Rattle.cel_parse.specs.declared.expr.Syntax.{Syntax}
 use Rattle.cel_parse.specs.declared.expr.Syntax.TheVariants as syntax
-use Rattle.cel_check.specs.declared.fault.TypeRule.{TypeRule}
-use Rattle.cel_check.specs.declared.fault.TypeRule.TheVariants.{NoOverload, TooLarge}
-use Rattle.cel_check.specs.declared.operator.Operator.{Operator}
-use Rattle.cel_check.specs.declared.operator.Overload.{Overload}
+use Rattle.cel_operators.specs.declared.type_rule.TypeRule.{TypeRule}
+use Rattle.cel_operators.specs.declared.type_rule.TypeRule.TheVariants.{NoOverload, TooLarge}
+use Rattle.cel_operators.specs.declared.operator.Operator.{Operator}
+use Rattle.cel_operators.specs.declared.operator.Overload.{Overload}
 use Rattle.cel_check.specs.declared.scope.Scope.{Scope}
-use Rattle.cel_check.specs.declared.tree.TypedTree.{TypedTree}
+use Rattle.cel_check.specs.declared.tree.TypedTree.{TypedTree, out-TypedTree}
 use Rattle.cel_check.specs.declared.tree.TypedTree.TheFolds.{map-TypedTree, fold-roll-TypedTree, fold_out-TypedTree}
 use Rattle.cel_check.specs.declared.tree.Form.{Form}
 use Rattle.cel_check.specs.declared.tree.Form.TheVariants as form
-use Rattle.cel_check.specs.Outcomes.{Types, types_outside}
-use Rattle.cel_check.specs.Operators.{row, type_of_one, type_of_two}
-use Rattle.cel_check.specs.Meaning.{is_truth, type_of, takes_result, Judged, right_at, judged_step, judged_of, is_right, types_judged}
+use Rattle.cel_operators.specs.Outcomes.{Types, types_outside}
+use Rattle.cel_operators.specs.Operators.{row, of_limit, type_of_one, type_of_two}
+use Rattle.cel_check.specs.Meaning.{type_of, takes_result, Judged, right_at, judged_step, judged_of, is_right, types_judged, by_turns}
 use Rattle.cel_check.specs.Meaning.{each_right as all_right, takes_slot}
-use Rattle.cel_check.specs.Lists.{items_type}
+use Rattle.cel_operators.specs.Lists.{items_type}
 use Rattle.cel_check.specs.Typing.{Trees, tree_in_front, each_tree, after_items, root_types, typed_by, list_literal}
 use Rattle.cel_check.specs.Typing.{Names, types_in, types_of, names_of, Checked, refused, node, after}
+use Rattle.cel_operators.specs.Maps.{entries_type}
+use Rattle.cel_operators.specs.TextOperators.{row_with}
+use Rattle.cel_operators.specs.Wants.{limit_of, is_there, is_truth}
+use Rattle.cel_operators.specs.declared.operands.Want.TheVariants.{Members, Characters}
+use Rattle.cel_operators.specs.declared.text_operator.TextOperator.{TextOperator}
+use Rattle.cel_operators.specs.declared.text_operator.TextOperator.TheVariants as text_operator
+use Rattle.cel_patterns.specs.Choice.{refuses}
+use Rattle.cel_check.specs.Typing.{Pairs, entry_in_front, each_entry, map_literal, at_name, name_in, selected, is_text, literal_text}
+use Rattle.cel_check.specs.Typing.{with_pattern, matched, method_with}
 use Rattle.cel_check.specs.Typing.{after_each, after_entries, unary_overloads, binary_overloads, or_later, first_of, chosen, logic}
 use Rattle.cel_check.specs.Typing.{joined_branches, conditional, index_overloads, function_overloads, method_overloads}
-use Rattle.cel_check.specs.Typing.{method_overloads_with, over_one, over_two, called, called_on}
-use Rattle.cel_check.specs.Typing.{checked_at, checked, is_too_large, checked_within, text_literal, slot_from, named}
+use Rattle.cel_check.specs.Typing.{method_overloads_with, over_one, over_two, called, called_on, checked_at, checked, is_too_large}
+use Rattle.cel_check.specs.Typing.{checked_within, text_literal, slot_from, named, with_opaque, read, beside, checked_step}
+use Rattle.cel_check.specs.Opaque.{is_opaque}
 
 -- where there is a typed tree, it is well typed
 abbrev pub RightIn : Types → Checked → Type 0
@@ -173,6 +183,9 @@ typed_by_right : (place : ℕ) (f : Form TypedTree) (types : Types) (r : Result 
 typed_by_right place f types (Err e) h = tt
 typed_by_right place f types (Ok t) h = h t refl
 
+abbrev judged_entry : Entry TypedTree → Entry Judged
+judged_entry e = record { key = judged_of e.key; value = judged_of e.value }
+
 items_right : (place : ℕ) (types : Types) (r : Trees) → EachRightIn types r → RightIn types (after_items r (list_literal place))
 items_right place types (Err e) h = tt
 items_right place types (Ok ts) h =
@@ -181,9 +194,88 @@ items_right place types (Ok ts) h =
     node_right t (form.ListOf ts) types
     (and_from _ _ h (ap (λ us. takes_result t (items_type us)) (roots ts) ∙ ap (takes_result t) e ∙ assignable-refl t)))
 
+-- a key and a value by turns, as they are judged
+turns : (es : List (Entry TypedTree)) → by_turns (map judged_entry es) ≡ map judged_of (by_turns es)
+turns [] = refl
+turns (e ∷ es) = ap (λ js. judged_of e.key ∷ judged_of e.value ∷ js) (turns es)
+
+-- where there are typed entries, each key and value is well typed
+abbrev EntriesRightIn : Types → Pairs → Type 0
+EntriesRightIn types (Err e) = Unit {0}
+EntriesRightIn types (Ok es) = all_right (map judged_of (by_turns es)) types ≡ true
+
+entry_in_front_right : (types : Types) (k v : Checked) (r : Pairs) → RightIn types k → RightIn types v → EntriesRightIn types r
+    → EntriesRightIn types (entry_in_front k v r)
+entry_in_front_right types (Err e) v r h i j = tt
+entry_in_front_right types (Ok k) (Err e) r h i j = tt
+entry_in_front_right types (Ok k) (Ok v) (Err e) h i j = tt
+entry_in_front_right types (Ok k) (Ok v) (Ok es) h i j =
+    and_from (is_right k types) _ h (and_from (is_right v types) (all_right (map judged_of (by_turns es)) types) i j)
+
+map_right : (place : ℕ) (types : Types) (r : Pairs) → EntriesRightIn types r → RightIn types (after_entries r (map_literal place))
+map_right place types (Err e) h = tt
+map_right place types (Ok es) h =
+    typed_by_right place (form.MapOf es) types (entries_type (root_types (by_turns es)))
+    (λ t e.
+    node_right t (form.MapOf es) types
+    (ap (λ js. all_right js types && takes_result t (entries_type (types_judged js))) (turns es)
+    ∙ and_from _ _ h
+    (ap (λ us. takes_result t (entries_type us)) (roots (by_turns es)) ∙ ap (takes_result t) e ∙ assignable-refl t)))
+
+-- an operator with a text
+named_right : (place : ℕ) (op : TextOperator) (s : TypedTree) (types : Types) (name : Option (List ℕ)) → is_right s types ≡ true
+    → RightIn types (at_name place op s name)
+named_right place op s types None h = tt
+named_right place op s types (Some name) h =
+    typed_by_right place (form.WithText op s name) types (type_of_one (row_with op name) (type_of s))
+    (λ t e.
+    node_right t (form.WithText op s name) types
+    (and_from _ _ h (ap (λ u. takes_result t (type_of_one (row_with op name) u)) (judged-type s)
+    ∙ ap (takes_result t) e ∙ assignable-refl t)))
+
+selected_right : (place : ℕ) (op : TextOperator) (selector : List ℕ) (s : TypedTree) (types : Types) → is_right s types ≡ true
+    → RightIn types (selected place op selector s)
+selected_right place op selector s types h = named_right place op s types (name_in selector (limit_of Members (type_of s))) h
+
+truth_at : (l : Option ℕ) → is_there l ≡ true → takes_result type.Bool (of_limit (λ (max : ℕ). Ok type.Bool) l) ≡ true
+truth_at None h = absurd (false≢true h)
+truth_at (Some max) h = assignable-refl type.Bool
+
+pattern_right : (place : ℕ) (choice : List (List ℕ)) (s : TypedTree) (types : Types) (pattern : Option (List ℕ))
+    → is_right s types ≡ true → is_text (type_of s) ≡ true → RightIn types (with_pattern place choice s pattern)
+pattern_right place choice s types None h k = tt
+pattern_right place choice s types (Some pattern) h k = elim (cases_Bool (refuses choice pattern)) [
+  | inl y ↦ rw y tt
+  | inr n ↦
+      rw n
+      (node_right type.Bool (form.WithText text_operator.Matches s pattern) types
+      (and_from _ _ h (ap (λ u. takes_result type.Bool (type_of_one (row_with text_operator.Matches pattern) u)) (judged-type s)
+      ∙ truth_at (limit_of Characters (type_of s)) k)))
+]
+
+matched_right : (place : ℕ) (choice : List (List ℕ)) (s t : TypedTree) (types : Types) → is_right s types ≡ true
+    → RightIn types (matched place choice s t)
+matched_right place choice s t types h = elim (cases_Bool (is_text (type_of s) && is_text (type_of t))) [
+  | inl y ↦
+      rw y
+      (pattern_right place choice s types (literal_text (out-TypedTree t).form) h
+      (and_parts (is_text (type_of s)) (is_text (type_of t)) y).0)
+  | inr n ↦ rw n tt
+]
+
+method_right : (place : ℕ) (choice : List (List ℕ)) (f : List ℕ) (s t : TypedTree) (types : Types) → is_right s types ≡ true
+    → is_right t types ≡ true → RightIn types (method_with place choice f s t)
+method_right place choice f s t types h k = elim (cases_Bool (bytes_eq f (codes "matches"))) [
+  | inl y ↦ rw y (matched_right place choice s t types h)
+  | inr n ↦ rw n (binary_right place (method_overloads_with f) s t types h k)
+]
+
 text_right : (place : ℕ) (bytes : List ℕ) (types : Types) → RightIn types (text_literal place bytes)
 text_right place bytes types = elim (cases_Bool (nat_lt (code_points bytes) (2 ^ 32))) [
-  | inl y ↦ rw y (node_right (type.Text (code_points bytes)) (form.Literal (value.Text bytes)) types (text_fits bytes (code_points bytes) (omega arith)))
+  | inl y ↦
+      rw y
+      (node_right (type.Text (code_points bytes)) (form.Literal (value.Text bytes)) types
+      (text_fits bytes (code_points bytes) (omega arith)))
   | inr n ↦ rw n tt
 ]
 
@@ -217,6 +309,14 @@ slot_right place names (Some s) h =
 name_right : (place : ℕ) (name : List ℕ) (names : Names) → RightIn (types_of names) (named place (slot_from 0 name names.slots))
 name_right place name names = slot_right place names (slot_from 0 name names.slots) (slot_there 0 name names.slots)
 
+read_right : (b : Bool) (place : ℕ) (c : Checked) (types : Types) → RightIn types c → RightIn types (read b place c)
+read_right true place c types h = h
+read_right false place (Err e) types h = tt
+read_right false place (Ok t) types h = elim (cases_Bool (is_opaque (type_of t))) [
+  | inl y ↦ rw y tt
+  | inr n ↦ rw n h
+]
+
 -- the induction
 abbrev AllRight : Expr → Type 0
 AllRight e = (names : Names) → RightIn (types_of names) (checked e names)
@@ -237,17 +337,16 @@ each_right : (p : ℕ) (xs : List Such) (names : Names) → RightIn (types_of na
 each_right p [] names = tt
 each_right p (x ∷ xs) names = after_right (types_of names) (checked x.0 names) _ (x.1 names) (λ t h. each_right p xs names)
 
-entries_right : (p : ℕ) (xs : List (Entry Such)) (names : Names)
-    → RightIn (types_of names) (after_entries (map own_entry xs) names (refused p NoOverload))
-entries_right p [] names = tt
-entries_right p (x ∷ xs) names =
-    after_right (types_of names) (checked x.key.0 names) _ (x.key.1 names)
-    (λ k h. after_right (types_of names) (checked x.value.0 names) _ (x.value.1 names) (λ v i. entries_right p xs names))
-
 trees_right : (xs : List Such) (names : Names) → EachRightIn (types_of names) (each_tree (map own xs) names)
 trees_right [] names = refl
 trees_right (x ∷ xs) names =
     in_front_right (types_of names) (checked x.0 names) (each_tree (map own xs) names) (x.1 names) (trees_right xs names)
+
+pairs_right : (xs : List (Entry Such)) (names : Names) → EntriesRightIn (types_of names) (each_entry (map own_entry xs) names)
+pairs_right [] names = refl
+pairs_right (x ∷ xs) names =
+    entry_in_front_right (types_of names) (checked x.key.0 names) (checked x.value.0 names) (each_entry (map own_entry xs) names)
+    (x.key.1 names) (x.value.1 names) (pairs_right xs names)
 
 twice : (xs : List Such) → map checked (map (λ (e : Such). e.0) xs) ≡ map own xs
 twice [] = refl
@@ -270,7 +369,7 @@ called_on_right : (p : ℕ) (f : List ℕ) (s : TypedTree) (xs : List Such) (nam
 called_on_right p f s [] names h = unary_right p (method_overloads f) s (types_of names) h
 called_on_right p f s (x ∷ []) names h =
     after_right (types_of names) (checked x.0 names) _ (x.1 names)
-    (λ t k. binary_right p (method_overloads_with f) s t (types_of names) h k)
+    (λ t k. method_right p names.choice f s t (types_of names) h k)
 called_on_right p f s (x ∷ y ∷ xs) names h = each_right p (x ∷ y ∷ xs) names
 
 level : (p : ℕ) (y : Syntax Such) (names : Names) → RightIn (types_of names) (checked_at p (part (λ e. checked e.0) p y) names)
@@ -280,8 +379,12 @@ level p (syntax.Name n) names = name_right p n names
 level p syntax.Null names = node_right type.Null (form.Literal value.Null) (types_of names) null_fits
 level p (syntax.Uint n) names = node_right type.Uint (form.Literal (value.Uint n)) (types_of names) (uint_fits n)
 level p (syntax.Text s) names = text_right p s (types_of names)
-level p (syntax.Select a f) names = after_right (types_of names) (checked a.0 names) _ (a.1 names) (λ s h. tt)
-level p (syntax.Has a f) names = after_right (types_of names) (checked a.0 names) _ (a.1 names) (λ s h. tt)
+level p (syntax.Select a f) names =
+    after_right (types_of names) (checked a.0 names) _ (a.1 names)
+    (λ s h. selected_right p text_operator.Select f s (types_of names) h)
+level p (syntax.Has a f) names =
+    after_right (types_of names) (checked a.0 names) _ (a.1 names)
+    (λ s h. selected_right p text_operator.Has f s (types_of names) h)
 level p (syntax.Call f xs) names = called_right p f xs names
 level p (syntax.Method a f xs) names =
     after_right (types_of names) (checked a.0 names) _ (a.1 names) (λ s h. called_on_right p f s xs names h)
@@ -290,7 +393,7 @@ level p (syntax.Index a b) names =
     (λ s h.
     after_right (types_of names) (checked b.0 names) _ (b.1 names) (λ t k. binary_right p index_overloads s t (types_of names) h k))
 level p (syntax.List xs) names = items_right p (types_of names) (each_tree (map own xs) names) (trees_right xs names)
-level p (syntax.Map es) names = entries_right p es names
+level p (syntax.Map es) names = map_right p (types_of names) (each_entry (map own_entry es) names) (pairs_right es names)
 level p (syntax.Loop l a x b) names =
     after_right (types_of names) (checked a.0 names) _ (a.1 names)
     (λ s h. after_right (types_of names) (checked b.0 names) _ (b.1 names) (λ t k. tt))
@@ -302,9 +405,10 @@ level p (syntax.MapWhere a x q t) names =
 level p (syntax.Unary op a) names =
     after_right (types_of names) (checked a.0 names) _ (a.1 names) (λ s h. unary_right p (unary_overloads op) s (types_of names) h)
 level p (syntax.Binary op a b) names =
-    after_right (types_of names) (checked a.0 names) _ (a.1 names)
+    let inner = beside op (checked a.0) (checked b.0) names in
+    after_right (types_of names) (checked a.0 inner) _ (a.1 inner)
     (λ s h.
-    after_right (types_of names) (checked b.0 names) _ (b.1 names)
+    after_right (types_of names) (checked b.0 inner) _ (b.1 inner)
     (λ t k. binary_right p (binary_overloads op) s t (types_of names) h k))
 level p (syntax.And a b) names =
     after_right (types_of names) (checked a.0 names) _ (a.1 names)
@@ -344,19 +448,22 @@ fused p (syntax.Conditional c a b) = refl
 step : (y : Expr-F Such) → AllRight (roll-Expr (map-Expr _ _ (λ e. e.0) y))
 step y = λ names.
     let z = map-Expr _ _ (λ e. e.0) y in
-    let c : checked (roll-Expr z) ≡ checked_at y.place (part (λ e. checked e.0) y.place y.form) =
-    fold-roll-Expr (Names → Checked) (λ e. checked_at e.place e.form) z
-    ∙ ap (λ e. checked_at e.place e.form) (fused y.place y.form) in
-    subst (λ f. RightIn (types_of names) (f names)) (sym c) (level y.place y.form names)
+    let whole : Expr-F (Names → Checked) = record { place = y.place; form = part (λ e. checked e.0) y.place y.form } in
+    let c : checked (roll-Expr z) ≡ checked_step whole =
+    fold-roll-Expr (Names → Checked) checked_step z ∙ ap checked_step (fused y.place y.form) in
+    subst (λ f. RightIn (types_of names) (f names)) (sym c)
+    (read_right names.opaque y.place (checked_at y.place whole.form (with_opaque false names)) (types_of names)
+    (level y.place y.form (with_opaque false names)))
 
 checked_right : (e : Expr) → AllRight e
 checked_right = ind-Expr AllRight (λ x y is. subst (λ z. AllRight (roll-Expr z)) is (step y))
 
 -- the tree that checking gives in a scope is well typed at the scope's types
-pub right_outside : (e : Expr) (scope : Scope) (t : TypedTree) (slots : List CelType) → checked e (names_of scope) ≡ Ok t
-    → slots ≡ types_in scope.names → is_right t (types_outside slots) ≡ true
-right_outside e scope t slots h same =
-    let r : RightIn (types_of (names_of scope)) (Ok t) = subst (RightIn (types_of (names_of scope))) h (checked_right e (names_of scope)) in
+pub right_outside : (e : Expr) (choice : List (List ℕ)) (scope : Scope) (t : TypedTree) (slots : List CelType)
+    → checked e (names_of choice scope) ≡ Ok t → slots ≡ types_in scope.names → is_right t (types_outside slots) ≡ true
+right_outside e choice scope t slots h same =
+    let names : Names = names_of choice scope in
+    let r : RightIn (types_of names) (Ok t) = subst (RightIn (types_of names)) h (checked_right e names) in
     rw same r
 
 -- within the limits, checking is all

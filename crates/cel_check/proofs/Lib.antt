@@ -1,17 +1,12 @@
-pub mod Opened
-mod Limits
+mod Turns
 pub mod Checks
 pub mod Levels
 pub mod Literals
+pub mod MapLiterals
 pub mod Preserved
-pub mod Numbers
-pub mod Taking
-pub mod RightRows
-pub mod NumberRows
-pub mod TextRows
-pub mod ListRows
-pub mod Rows
 mod WorkedRows
 mod Sizes
+mod Beside
+mod Asked
 mod Parts
 mod Calls

@@ -4,28 +4,35 @@ use Rattle.std.proofs.Common.{zero, suc}
 use Rattle.std.proofs.lemmas.Option.{none-some, same_Some}
 use Rattle.std.proofs.lemmas.Bool.{and_parts, and_from}
 use Rattle.std.specs.Prelude.{Result, Ok, Err, slice_get}
+use Rattle.cel_grammar.specs.declared.tree.Entry.{Entry}
 use Rattle.cel_value.specs.declared.cel_type.CelType.{CelType}
 use Rattle.cel_value.specs.declared.cel_type.CelType as type
 use Rattle.cel_value.specs.CelType.{assignable}
-use Rattle.cel_check.specs.declared.fault.TypeRule.{TypeRule}
+use Rattle.cel_operators.specs.declared.type_rule.TypeRule.{TypeRule}
 use Rattle.cel_check.specs.declared.typed.Typed.{Typed}
 use Rattle.cel_check.specs.declared.tree.TypedTree.{TypedTree, roll-TypedTree}
 use Rattle.cel_check.specs.declared.tree.TypedTree.TheOpen.{TypedTree-F}
 use Rattle.cel_check.specs.declared.tree.TypedTree.TheFolds.{map-TypedTree, fold-roll-TypedTree, fold_out-TypedTree, ind-TypedTree}
 use Rattle.cel_check.specs.declared.tree.Form.{Form}
-use Rattle.cel_check.specs.declared.tree.Form.TheVariants.{Literal, Unary, Binary, And, Or, Conditional, ListOf, Slot}
-use Rattle.cel_check.specs.Outcomes.{Outcome, outcome_fits, Env, Types, slots_fit, env_fits, outside, locals_fit}
-use Rattle.cel_check.specs.Outcomes.{types_outside, Side, and_of, or_of, and_value, or_value, conditional_value}
-use Rattle.cel_check.specs.Wants.{Truth, limit_of, side_of, taken}
-use Rattle.cel_check.specs.Operators.{row, at_one, at_two, outcome_made, type_of_one, type_of_two}
-use Rattle.cel_check.specs.Meaning.{Valuation, value_at, value_of, type_of, is_there, is_truth, takes_slot}
+use Rattle.cel_check.specs.declared.tree.Form.TheVariants.{Literal, Unary, Binary, And, Or, Conditional, ListOf, MapOf, WithText, Slot}
+use Rattle.cel_operators.specs.Outcomes.{Outcome, outcome_fits, Env, Types, slots_fit, env_fits, outside, locals_fit}
+use Rattle.cel_operators.specs.Outcomes.{types_outside, Side, and_of, or_of, and_value, or_value, conditional_value}
+use Rattle.cel_operators.specs.Wants.{limit_of, side_of, taken, is_there, is_truth}
+use Rattle.cel_operators.specs.declared.operands.Want.TheVariants.{Truth}
+use Rattle.cel_operators.specs.Operators.{row, at_one, at_two, outcome_made, type_of_one, type_of_two}
+use Rattle.cel_check.specs.Meaning.{Valuation, value_at, value_of, type_of, takes_slot, by_turns}
 use Rattle.cel_check.specs.Meaning.{takes_result, Judged, right_at, judged_step, judged_of, is_right}
-use Rattle.cel_check.proofs.Rows.{Taken, taken_fits, wider, row_right, one_operand, two_operands}
-use Rattle.cel_check.proofs.Opened.{bool_fits}
+use Rattle.cel_operators.proofs.Rows.{wider, row_right, one_operand, two_operands}
+use Rattle.cel_operators.proofs.Taking.{Taken, taken_fits}
+use Rattle.cel_operators.proofs.Opened.{bool_fits}
 use Rattle.cel_check.specs.Meaning.{values_at, types_judged, each_right}
-use Rattle.cel_check.specs.Lists.{each_there, list_where, items_type}
+use Rattle.cel_operators.specs.Lists.{each_there, list_where, items_type}
+use Rattle.cel_operators.specs.Maps.{map_where, entries_type}
+use Rattle.cel_operators.specs.TextOperators.{row_with}
+use Rattle.cel_operators.proofs.FieldRows.{row_with_right}
 use Rattle.cel_check.proofs.Literals.{EachFits, literal_made}
-use Rattle.cel_check.proofs.Levels.{part, fused}
+use Rattle.cel_check.proofs.MapLiterals.{paired_turns, paired_mapped, literal_map_made}
+use Rattle.cel_check.proofs.Levels.{part, parts, fused}
 
 and_fits : (x y : Side) → outcome_fits type.Bool (Some (and_of x y)) ≡ true
 and_fits (Ok false) y = bool_fits false
@@ -127,6 +134,14 @@ module _ (types : Types) (env : Env) (h : env_fits types env ≡ true) where
       let p = and_parts (is_right a.0 types) (each_right (map judged xs) types) g in
       (good a p.0, each_good xs p.1)
 
+  each_good_entry : (es : List (Entry Such)) → each_right (by_turns (parts judged es)) types ≡ true
+      → EachFits (types_judged (by_turns (parts judged es))) (values_at (by_turns (parts valued es)) env)
+  each_good_entry [] g = tt
+  each_good_entry (e ∷ es) g =
+      let p = and_parts (is_right e.key.0 types) (is_right e.value.0 types && each_right (by_turns (parts judged es)) types) g in
+      let q = and_parts (is_right e.value.0 types) (each_right (by_turns (parts judged es)) types) p.1 in
+      (good e.key p.0, (good e.value q.0, each_good_entry es q.1))
+
   level : (t : CelType) (y : Form Such) → right_at t (part judged t y) types ≡ true
       → outcome_fits t (value_at (part valued t y) env) ≡ true
   level t (Literal v) g = g
@@ -184,6 +199,21 @@ module _ (types : Types) (env : Env) (h : env_fits types env ≡ true) where
       taken_result t (items_type types_of_items)
       (λ u. outcome_fits u (outcome_made (list_where (each_there (values_at (map valued xs) env)))) ≡ true) p.1
       (λ s e w. wider s t _ w (literal_made types_of_items (values_at (map valued xs) env) s e (each_good xs p.0)).0)
+  level t (MapOf es) g =
+      let types_by_turns = types_judged (by_turns (parts judged es)) in
+      let p = and_parts (each_right (by_turns (parts judged es)) types) (takes_result t (entries_type types_by_turns)) g in
+      taken_result t (entries_type types_by_turns)
+      (λ u. outcome_fits u (outcome_made (map_where (each_there (values_at (by_turns (parts valued es)) env)))) ≡ true) p.1
+      (λ s e w.
+      wider s t _ w
+      (literal_map_made types_by_turns (values_at (by_turns (parts valued es)) env) s
+      (paired_mapped (λ x. x.type) (by_turns (parts judged es)) (paired_turns (parts judged es))) e (each_good_entry es p.0)).0)
+  level t (WithText op a text) g =
+      let p = and_parts (is_right a.0 types) (takes_result t (type_of_one (row_with op text) (judged a).type)) g in
+      taken_result t (type_of_one (row_with op text) (judged a).type)
+      (λ u. outcome_fits u (outcome_made (at_one (row_with op text) (valued a env))) ≡ true) p.1
+      (λ s e w.
+      wider s t _ w (one_operand (row_with op text) (judged a).type s (valued a env) (row_with_right op text) e (good a p.0)).0)
 
 step : (y : TypedTree-F Such) → Good (roll-TypedTree (map-TypedTree _ _ (λ e. e.0) y))
 step y = λ types env g h.

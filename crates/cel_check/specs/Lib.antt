@@ -1,8 +1,4 @@
-pub mod Compared
-pub mod Limits
-pub mod Lists
 pub mod Meaning
-pub mod Operators
-pub mod Outcomes
+pub mod Opaque
+pub mod PatternTexts
 pub mod Typing
-pub mod Wants

@@ -3,16 +3,24 @@ use Rattle.std.specs.Prelude.{◌≡◌, ℕ, ◌+◌, Bool, true, false, ◌&&�
 use Rattle.cel_value.specs.declared.cel_type.CelType.{CelType}
 use Rattle.cel_value.specs.declared.cel_type.CelType as type
 use Rattle.cel_value.specs.CelType.{fits, assignable}
-use Rattle.cel_check.specs.declared.fault.TypeRule.{TypeRule}
+use Rattle.cel_operators.specs.declared.type_rule.TypeRule.{TypeRule}
 use Rattle.cel_check.specs.declared.tree.TypedTree.{TypedTree, fold-TypedTree, out-TypedTree}
 use Rattle.cel_check.specs.declared.tree.TypedTree.TheOpen.{TypedTree-F}
 use Rattle.cel_check.specs.declared.tree.TypedTree.TheFolds.{map-TypedTree}
 use Rattle.cel_check.specs.declared.tree.Form.{Form}
-use Rattle.cel_check.specs.declared.tree.Form.TheVariants.{Literal, Unary, Binary, And, Or, Conditional, ListOf, Slot}
-use Rattle.cel_check.specs.Outcomes.{Outcome, Env, Types, and_value, or_value, conditional_value, unless_false, unless_true, of_branch}
-use Rattle.cel_check.specs.Wants.{side_of, limit_of, Truth}
-use Rattle.cel_check.specs.Lists.{each_there, list_where, items_type}
-use Rattle.cel_check.specs.Operators.{row, at_one, at_two, outcome_made, charge_made, type_of_one, type_of_two}
+use Rattle.cel_check.specs.declared.tree.Form.TheVariants.{Literal, Unary, Binary, And, Or, Conditional, ListOf, MapOf, WithText, Slot}
+use Rattle.cel_operators.specs.Outcomes.{Outcome, Env, Types, and_value, or_value, conditional_value, unless_false, unless_true, of_branch}
+use Rattle.cel_operators.specs.Wants.{side_of, is_truth}
+use Rattle.cel_operators.specs.Lists.{each_there, list_where, items_type}
+use Rattle.cel_operators.specs.Maps.{map_where, entries_type}
+use Rattle.cel_operators.specs.TextOperators.{row_with}
+use Rattle.cel_operators.specs.Operators.{row, at_one, at_two, outcome_made, charge_made, type_of_one, type_of_two}
+use Rattle.cel_grammar.specs.declared.tree.Entry.{Entry}
+
+-- keys and values by turns, each key in front of its value
+abbrev pub by_turns : {A : Type 0} → List (Entry A) → List A
+by_turns [] = []
+by_turns (e ∷ es) = e.key ∷ e.value ∷ by_turns es
 
 -- a value or an error in each environment; None only where something has a kind that cannot stand there
 abbrev pub Valuation : Type 0
@@ -33,6 +41,8 @@ value_at (And a b) env = and_value (side_of (a env)) (side_of (b env))
 value_at (Or a b) env = or_value (side_of (a env)) (side_of (b env))
 value_at (Conditional c a b) env = conditional_value (side_of (c env)) (a env) (b env)
 value_at (ListOf xs) env = outcome_made (list_where (each_there (values_at xs env)))
+value_at (MapOf es) env = outcome_made (map_where (each_there (values_at (by_turns es) env)))
+value_at (WithText op a text) env = outcome_made (at_one (row_with op text) (a env))
 
 -- the value or the error of an expression
 abbrev pub value_of : TypedTree → Valuation
@@ -62,6 +72,8 @@ cost_at (And a b) env = (a.cost env + 1) + unless_false (side_of (a.value env)) 
 cost_at (Or a b) env = (a.cost env + 1) + unless_true (side_of (a.value env)) (b.cost env)
 cost_at (Conditional c a b) env = (c.cost env + 1) + of_branch (side_of (c.value env)) (a.cost env) (b.cost env)
 cost_at (ListOf xs) env = costs_at xs env + charge_made (list_where (each_there (values_at (values_priced xs) env)))
+cost_at (MapOf es) env = costs_at (by_turns es) env + charge_made (map_where (each_there (values_at (values_priced (by_turns es)) env)))
+cost_at (WithText op a text) env = a.cost env + charge_made (at_one (row_with op text) (a.value env))
 
 -- a node by its value and its cost
 abbrev pub priced_step : TypedTree-F Priced → Priced
@@ -82,15 +94,6 @@ pub record IsForm (e : TypedTree) (f : Form TypedTree) : Type 0 where
 -- the type at the root
 abbrev pub type_of : TypedTree → CelType
 type_of t = (out-TypedTree t).cel_type
-
--- whether there is something
-abbrev pub is_there : {A : Type 0} → Option A → Bool
-is_there None = false
-is_there (Some x) = true
-
--- whether a type may stand at a side of `&&` or as a condition
-abbrev pub is_truth : CelType → Bool
-is_truth t = is_there (limit_of Truth t)
 
 -- whether the type takes what a row gives
 abbrev pub takes_result : CelType → Result CelType TypeRule → Bool
@@ -126,6 +129,8 @@ right_at t (And a b) types = (a.right types && b.right types) && ((is_truth a.ty
 right_at t (Or a b) types = (a.right types && b.right types) && ((is_truth a.type && is_truth b.type) && assignable type.Bool t)
 right_at t (Conditional c a b) types = ((c.right types && is_truth c.type) && (a.right types && b.right types)) && (assignable a.type t && assignable b.type t)
 right_at t (ListOf xs) types = each_right xs types && takes_result t (items_type (types_judged xs))
+right_at t (MapOf es) types = each_right (by_turns es) types && takes_result t (entries_type (types_judged (by_turns es)))
+right_at t (WithText op a text) types = a.right types && takes_result t (type_of_one (row_with op text) a.type)
 
 -- a node by its type and where it is well typed
 abbrev pub judged_step : TypedTree-F Judged → Judged

@@ -1,9 +1,12 @@
 -- The typed tree of an expression in a scope of names, or its first fault in post-order.
-use Rattle.std.specs.Prelude.{ℕ, ◌+◌, ◌^◌, Bool, ◌&&◌, ◌||◌, nat_lt, List, [], ◌∷◌, map}
-use Rattle.std.specs.Prelude.{Option, Some, None, Result, Ok, Err, if◌then◌else◌, ◌≡◌, codes}
+use Rattle.std.specs.Prelude.{ℕ, ◌+◌, ◌^◌, Bool, ◌&&◌, ◌||◌, nat_lt, List, [], ◌∷◌, map, Option, Some, None, Result, Ok, Err}
+use Rattle.std.specs.Prelude.{if◌then◌else◌, ◌≡◌, codes, true, false}
 use Rattle.std.specs.Str.{bytes_eq}
 use Rattle.plain.specs.declared.text.Keyed.{Keyed}
 use Rattle.cel_value.specs.declared.value.Value as value
+use Rattle.cel_value.specs.declared.value.Value.{Value, out-Value}
+use Rattle.cel_value.specs.declared.value.Value.TheOpen.{Value-F}
+use Rattle.cel_value.specs.declared.cel_type.Field.{Field}
 use Rattle.cel_value.specs.declared.cel_type.CelType.{CelType}
 use Rattle.cel_value.specs.declared.cel_type.CelType as type
 use Rattle.cel_value.specs.CelType.{join}
@@ -13,33 +16,46 @@ use Rattle.cel_grammar.specs.declared.tree.UnaryOperator.TheVariants as unary_op
 use Rattle.cel_parse.specs.declared.expr.BinaryOperator.{BinaryOperator}
 use Rattle.cel_parse.specs.declared.expr.BinaryOperator.TheVariants as binary_operator
 use Rattle.cel_grammar.specs.declared.tree.Entry.{Entry}
-use Rattle.cel_parse.specs.declared.expr.Expr.{Expr, fold-Expr}
+use Rattle.cel_parse.specs.declared.expr.Expr.{Expr, out-Expr, fold-Expr}
+use Rattle.cel_parse.specs.declared.expr.Expr.TheOpen.{Expr-F}
 use Rattle.cel_parse.specs.declared.expr.Syntax.{Syntax}
 use Rattle.cel_parse.specs.declared.expr.Syntax.TheVariants as syntax
 use Rattle.cel_parse.specs.Sizes.{depth_of, nodes_of}
-use Rattle.cel_check.specs.declared.fault.TypeRule.{TypeRule}
-use Rattle.cel_check.specs.declared.fault.TypeRule.TheVariants.{UnknownName, NoOverload, Mixed, TooLarge}
+use Rattle.cel_operators.specs.declared.type_rule.TypeRule.{TypeRule}
+use Rattle.cel_operators.specs.declared.type_rule.TypeRule.TheVariants.{UnknownName, NoField, NoOverload, Mixed, OpaqueUse}
+use Rattle.cel_operators.specs.declared.type_rule.TypeRule.TheVariants.{PatternNotLiteral, BadPattern, TooLarge}
 use Rattle.cel_check.specs.declared.fault.TypeFault.{TypeFault}
 use Rattle.cel_check.specs.declared.fault.CheckError.{CheckError}
 use Rattle.cel_check.specs.declared.fault.CheckError.TheVariants as error
-use Rattle.cel_check.specs.declared.operator.Operator.{Operator}
-use Rattle.cel_check.specs.declared.operator.Operator.TheVariants as operator
-use Rattle.cel_check.specs.declared.operator.Overload.{Overload}
-use Rattle.cel_check.specs.declared.fault.Untyped.{Untyped}
-use Rattle.cel_check.specs.declared.fault.Untyped.TheVariants as untyped
+use Rattle.cel_operators.specs.declared.operator.Operator.{Operator}
+use Rattle.cel_operators.specs.declared.operator.Operator.TheVariants as operator
+use Rattle.cel_operators.specs.declared.operator.Overload.{Overload}
 use Rattle.cel_check.specs.declared.scope.Scope.{Scope}
-use Rattle.cel_check.specs.declared.tree.TypedTree.{TypedTree, roll-TypedTree}
+use Rattle.cel_check.specs.declared.tree.TypedTree.{TypedTree, out-TypedTree, roll-TypedTree}
 use Rattle.cel_check.specs.declared.tree.Form.{Form}
 use Rattle.cel_check.specs.declared.tree.Form.TheVariants as form
-use Rattle.cel_check.specs.Outcomes.{Types}
-use Rattle.cel_check.specs.Operators.{row, type_of_one, type_of_two}
-use Rattle.cel_check.specs.Meaning.{is_truth, type_of}
-use Rattle.cel_check.specs.Lists.{items_type}
+use Rattle.cel_operators.specs.Outcomes.{Types}
+use Rattle.cel_operators.specs.Operators.{row, type_of_one, type_of_two}
+use Rattle.cel_operators.specs.Compared.{is_null_type}
+use Rattle.cel_check.specs.Meaning.{type_of, by_turns}
+use Rattle.cel_operators.specs.Lists.{items_type}
+use Rattle.cel_operators.specs.Maps.{entries_type}
+use Rattle.cel_operators.specs.TextOperators.{row_with}
+use Rattle.cel_operators.specs.Wants.{Contents, Fields, Stored, limit_of, is_there, is_truth}
+use Rattle.cel_operators.specs.declared.operands.Want.TheVariants.{Members, Characters}
+use Rattle.cel_operators.specs.declared.text_operator.TextOperator.{TextOperator}
+use Rattle.cel_operators.specs.declared.text_operator.TextOperator.TheVariants as text_operator
+use Rattle.cel_names.specs.Selectors.{selects}
+use Rattle.cel_patterns.specs.Choice.{refuses}
+use Rattle.cel_check.specs.Opaque.{is_opaque, is_equality}
 
--- the names of the slots, and of the open loops, the innermost first, with their types
+-- the names of the slots, and of the open loops, the innermost first, with their types, whether the expression that is
+-- checked may be Opaque, and the texts that are taken as no patterns
 pub record Names : Type 0 where
   pub slots : List (Keyed CelType)
   pub locals : List (Keyed CelType)
+  pub opaque : Bool
+  pub choice : List (List ℕ)
 
 -- the types of named types, in their order
 abbrev pub types_in : List (Keyed CelType) → List CelType
@@ -49,9 +65,13 @@ types_in es = map (λ e. e.value) es
 abbrev pub types_of : Names → Types
 types_of names = record { slots = types_in names.slots; locals = types_in names.locals }
 
--- the names of a scope, outside all loops
-abbrev pub names_of : Scope → Names
-names_of scope = record { slots = scope.names; locals = [] }
+-- the names of a scope, outside all loops, by a choice of texts that are no patterns
+abbrev pub names_of : List (List ℕ) → Scope → Names
+names_of choice scope = record { slots = scope.names; locals = []; opaque = false; choice = choice }
+
+-- where what is checked may be Opaque, or may not
+abbrev pub with_opaque : Bool → Names → Names
+with_opaque b names = record names { opaque = b }
 
 -- a typed tree, or the first fault
 abbrev pub Checked : Type 0
@@ -178,11 +198,6 @@ abbrev pub after_each : List (Names → Checked) → Names → Checked → Check
 after_each [] names c = c
 after_each (a ∷ xs) names c = after (a names) (λ t. after_each xs names c)
 
--- all keys and values one after another, up to the first fault
-abbrev pub after_entries : List (Entry (Names → Checked)) → Names → Checked → Checked
-after_entries [] names c = c
-after_entries (e ∷ es) names c = after (e.key names) (λ k. after (e.value names) (λ v. after_entries es names c))
-
 -- the typed trees of several, or the first fault
 abbrev pub Trees : Type 0
 Trees = Result (List TypedTree) TypeFault
@@ -216,15 +231,95 @@ typed_by place f (Ok t) = Ok (node t f)
 abbrev pub list_literal : ℕ → List TypedTree → Checked
 list_literal place ts = typed_by place (form.ListOf ts) (items_type (root_types ts))
 
+-- the typed keys and values of several entries, or the first fault
+abbrev pub Pairs : Type 0
+Pairs = Result (List (Entry TypedTree)) TypeFault
+
+-- a typed key and value in front of others
+abbrev pub entry_in_front : Checked → Checked → Pairs → Pairs
+entry_in_front (Err e) v es = Err e
+entry_in_front (Ok k) (Err e) es = Err e
+entry_in_front (Ok k) (Ok v) (Err e) = Err e
+entry_in_front (Ok k) (Ok v) (Ok es) = Ok (record { key = k; value = v } ∷ es)
+
+-- the typed keys and values of entries one after another, each key before its value, up to the first fault
+abbrev pub each_entry : List (Entry (Names → Checked)) → Names → Pairs
+each_entry [] names = Ok []
+each_entry (e ∷ es) names = entry_in_front (e.key names) (e.value names) (each_entry es names)
+
+-- what follows behind all entries
+abbrev pub after_entries : Pairs → (List (Entry TypedTree) → Checked) → Checked
+after_entries (Err e) f = Err e
+after_entries (Ok es) f = f es
+
+-- a map literal of keys and values that are typed
+abbrev pub map_literal : ℕ → List (Entry TypedTree) → Checked
+map_literal place es = typed_by place (form.MapOf es) (entries_type (root_types (by_turns es)))
+
+-- the own name of the first field that a selector selects
+abbrev pub own_name : List ℕ → List (Keyed (Field CelType)) → Option (List ℕ)
+own_name selector [] = None
+own_name selector (f ∷ fs) = if selects selector f.key then Some f.key else own_name selector fs
+
+-- the own name that a selector selects in what has names; a key of a map is the selector itself
+abbrev pub name_in : List ℕ → Option Contents → Option (List ℕ)
+name_in selector None = None
+name_in selector (Some (Fields fields)) = own_name selector fields
+name_in selector (Some (Stored store)) = Some selector
+
+-- an operator with a text over its operand
+abbrev pub with_text : ℕ → TextOperator → List ℕ → TypedTree → Checked
+with_text place op text s = typed_by place (form.WithText op s text) (type_of_one (row_with op text) (type_of s))
+
+-- an operator at the own name that is selected, where there is one
+abbrev pub at_name : ℕ → TextOperator → TypedTree → Option (List ℕ) → Checked
+at_name place op s None = refused place NoField
+at_name place op s (Some name) = with_text place op name s
+
+-- a field by its selector, or whether it is there
+abbrev pub selected : ℕ → TextOperator → List ℕ → TypedTree → Checked
+selected place op selector s = at_name place op s (name_in selector (limit_of Members (type_of s)))
+
 -- a function over its arguments; each that is known has one
 abbrev pub called : ℕ → List ℕ → List (Names → Checked) → Names → Checked
 called place f (a ∷ []) names = after (a names) (λ s. over_one place (function_overloads f) s)
 called place f xs names = after_each xs names (refused place NoOverload)
 
+-- whether a type may stand where a text is asked
+abbrev pub is_text : CelType → Bool
+is_text t = is_there (limit_of Characters t)
+
+-- the text that a literal, whose level is given, is
+abbrev pub literal_text_at : Value-F Value → Option (List ℕ)
+literal_text_at (Value-F.Text bytes) = Some bytes
+literal_text_at _ = None
+
+-- the text that a level of an expression is, where it is a literal text
+abbrev pub literal_text : Form TypedTree → Option (List ℕ)
+literal_text (form.Literal v) = literal_text_at (out-Value v)
+literal_text _ = None
+
+-- a pattern, which is a literal text that the choice does not refuse
+abbrev pub with_pattern : ℕ → List (List ℕ) → TypedTree → Option (List ℕ) → Checked
+with_pattern place choice s None = refused place PatternNotLiteral
+with_pattern place choice s (Some pattern) =
+    if refuses choice pattern then refused place BadPattern else Ok (node type.Bool (form.WithText text_operator.Matches s pattern))
+
+-- `matches` wants two texts, of which the second is a pattern
+abbrev pub matched : ℕ → List (List ℕ) → TypedTree → TypedTree → Checked
+matched place choice s t =
+    if is_text (type_of s) && is_text (type_of t) then with_pattern place choice s (literal_text (out-TypedTree t).form)
+    else refused place NoOverload
+
+-- a method with one argument
+abbrev pub method_with : ℕ → List (List ℕ) → List ℕ → TypedTree → TypedTree → Checked
+method_with place choice f s t =
+    if bytes_eq f (codes "matches") then matched place choice s t else over_two place (method_overloads_with f) s t
+
 -- a method over what it is called on, and over its arguments; each that is known has one at most
 abbrev pub called_on : ℕ → List ℕ → TypedTree → List (Names → Checked) → Names → Checked
 called_on place f s [] names = over_one place (method_overloads f) s
-called_on place f s (b ∷ []) names = after (b names) (λ t. over_two place (method_overloads_with f) s t)
+called_on place f s (b ∷ []) names = after (b names) (λ t. method_with place names.choice f s t)
 called_on place f s xs names = after_each xs names (refused place NoOverload)
 
 -- a literal text: its own length is the most of its type
@@ -242,6 +337,26 @@ abbrev pub named : ℕ → Option (ℕ × CelType) → Checked
 named place None = refused place UnknownName
 named place (Some s) = Ok (node s.1 (form.Slot s.0))
 
+-- what no operator reads is a fault at its own place, unless it may stand there
+abbrev pub read : Bool → ℕ → Checked → Checked
+read true place c = c
+read false place (Err e) = Err e
+read false place (Ok t) = if is_opaque (type_of t) then refused place OpaqueUse else Ok t
+
+-- both operands have a type, of which one is Null
+abbrev pub beside_null : Checked → Checked → Bool
+beside_null (Ok s) (Ok t) = is_null_type (type_of s) || is_null_type (type_of t)
+beside_null _ _ = false
+
+-- the names for the operands of an operator: in `==` and `!=` what stands beside Null may be Opaque
+abbrev pub beside : BinaryOperator → (Names → Checked) → (Names → Checked) → Names → Names
+beside op a b names = with_opaque (is_equality op && beside_null (a (with_opaque true names)) (b (with_opaque true names))) names
+
+-- `==` or `!=` of operands at two places
+abbrev pub equated : ℕ → BinaryOperator → ℕ → Checked → ℕ → Checked → Checked
+equated place op p l q r =
+    after (read (beside_null l r) p l) (λ s. after (read (beside_null l r) q r) (λ t. over_two place (binary_overloads op) s t))
+
 -- one level, where each part is its own checking in a scope of names
 abbrev pub checked_at : ℕ → Syntax (Names → Checked) → Names → Checked
 checked_at place (syntax.Bool b) names = Ok (node type.Bool (form.Literal (value.Bool b)))
@@ -250,24 +365,33 @@ checked_at place (syntax.Name n) names = named place (slot_from 0 n names.slots)
 checked_at place syntax.Null names = Ok (node type.Null (form.Literal value.Null))
 checked_at place (syntax.Uint n) names = Ok (node type.Uint (form.Literal (value.Uint n)))
 checked_at place (syntax.Text s) names = text_literal place s
-checked_at place (syntax.Select a f) names = after (a names) (λ s. refused place NoOverload)
-checked_at place (syntax.Has a f) names = after (a names) (λ s. refused place NoOverload)
+checked_at place (syntax.Select a f) names = after (a names) (selected place text_operator.Select f)
+checked_at place (syntax.Has a f) names = after (a names) (selected place text_operator.Has f)
 checked_at place (syntax.Call f xs) names = called place f xs names
 checked_at place (syntax.Method a f xs) names = after (a names) (λ s. called_on place f s xs names)
 checked_at place (syntax.Index a b) names = after (a names) (λ s. after (b names) (λ t. over_two place index_overloads s t))
 checked_at place (syntax.List xs) names = after_items (each_tree xs names) (list_literal place)
-checked_at place (syntax.Map es) names = after_entries es names (refused place NoOverload)
+checked_at place (syntax.Map es) names = after_entries (each_entry es names) (map_literal place)
 checked_at place (syntax.Loop l a x b) names = after (a names) (λ s. after (b names) (λ t. refused place NoOverload))
 checked_at place (syntax.MapWhere a x p t) names = after (a names) (λ s. after (p names) (λ r. after (t names) (λ u. refused place NoOverload)))
 checked_at place (syntax.Unary op a) names = after (a names) (λ s. over_one place (unary_overloads op) s)
-checked_at place (syntax.Binary op a b) names = after (a names) (λ s. after (b names) (λ t. over_two place (binary_overloads op) s t))
+checked_at place (syntax.Binary op a b) names =
+    after (a (beside op a b names)) (λ s. after (b (beside op a b names)) (λ t. over_two place (binary_overloads op) s t))
 checked_at place (syntax.And a b) names = after (a names) (λ s. after (b names) (λ t. logic place form.And s t))
 checked_at place (syntax.Or a b) names = after (a names) (λ s. after (b names) (λ t. logic place form.Or s t))
 checked_at place (syntax.Conditional c a b) names = after (c names) (λ r. after (a names) (λ s. after (b names) (λ t. conditional place r s t)))
 
+-- where an expression stands
+abbrev pub place_of : Expr → ℕ
+place_of e = (out-Expr e).place
+
+-- a node, where each part is its own checking; the parts are read
+abbrev pub checked_step : Expr-F (Names → Checked) → Names → Checked
+checked_step e names = read names.opaque e.place (checked_at e.place e.form (with_opaque false names))
+
 -- the typed tree of an expression, or its first fault
 abbrev pub checked : Expr → Names → Checked
-checked = fold-Expr (Names → Checked) (λ e. checked_at e.place e.form)
+checked = fold-Expr (Names → Checked) checked_step
 
 -- the checkings of several expressions
 abbrev pub each_checked : List Expr → List (Names → Checked)
@@ -299,8 +423,12 @@ Follows part result f = (c : Checked) → Answers part (λ tree. tree) c → Ans
 abbrev pub FollowsItems : Result (List TypedTree) CheckError → Result TypedTree CheckError → (List TypedTree → Checked) → Type 0
 FollowsItems parts result f = (c : Trees) → Answers parts (λ trees. trees) c → Answers result (λ tree. tree) (after_items c f)
 
--- what a row is found to give is what it gives, unless memory ran out
-abbrev pub Tells : {X : Type 0} → Result X Untyped → Result X TypeRule → Type 0
-Tells (Ok x) r = r ≡ Ok x
-Tells (Err untyped.OutOfMemory) r = Unit {0}
-Tells (Err (untyped.Rule e)) r = r ≡ Err e
+-- likewise behind several entries
+abbrev pub FollowsEntries : Result (List (Entry TypedTree)) CheckError → Result TypedTree CheckError
+    → (List (Entry TypedTree) → Checked) → Type 0
+FollowsEntries parts result f = (c : Pairs) → Answers parts (λ entries. entries) c → Answers result (λ tree. tree) (after_entries c f)
+
+-- what checking answers is what the definition gives by some choice
+pub record AnswersBySome {X : Type 0} (result : Result X CheckError) (view : X → TypedTree) (c : List (List ℕ) → Checked) : Type 0 where
+  pub choice : List (List ℕ)
+  pub answers : Answers result view (c choice)

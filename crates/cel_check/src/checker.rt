@@ -1,31 +1,56 @@
-ghost use Rattle.std.specs.Prelude.{◌≡◌, IfOk};
-ghost use Rattle.cel_check.specs.declared.fault.TypeRule.TheVariants.{NoOverload};
-ghost use Rattle.cel_check.specs.Typing.{names_of, types_in, refused, checked, checked_within, Answers};
-ghost use Rattle.cel_check.specs.Typing.{each_tree, after_each, after_entries, each_checked, entries_checked, called, called_on};
+ghost use Rattle.std.specs.Prelude.{◌≡◌, IfOk, true};
+ghost use Rattle.cel_operators.specs.declared.type_rule.TypeRule.TheVariants.{NoOverload};
+ghost use Rattle.cel_check.specs.Typing.{names_of, types_in, refused, checked, checked_within, Answers, AnswersBySome};
+ghost use Rattle.cel_patterns.specs.Answers.{choice_in, Grows};
+ghost use Rattle.cel_check.specs.PatternTexts.{patterns_in, AreAnswered};
+ghost use Rattle.cel_check.specs.Typing.{each_tree, after_each, each_entry, each_checked, entries_checked, called, called_on, with_opaque};
 
-use crate::fault::{CheckError, TypeFault, TypeRule};
+use crate::asking::ask;
+use crate::fault::{CheckError, TypeFault};
 use crate::lists::list_literal;
+use crate::maps::{map_literal, push_entry};
+use crate::matching::method_with;
 use crate::node::{
     binary, conditional, conjunction, disjunction, literal, named, text_literal, unary, untyped,
     untyped_behind,
 };
 use crate::overload::{
-    binary_overloads, function_overloads, index_overloads, method_overloads, method_overloads_with,
-    unary_overloads,
+    binary_overloads, function_overloads, index_overloads, method_overloads, unary_overloads,
 };
 use crate::scope::Scope;
+use crate::selecting::selection;
 use crate::size::is_too_large;
 use crate::tree::TypedTree;
 use crate::typed::Typed;
+use crate::used::{equality, is_equality, used};
+use cel_operators::{TextOperator, TypeRule};
 use cel_parse::{Entry, Expr, Syntax};
+use cel_patterns::Patterns;
 use cel_value::{CelType, Value};
 use plain::{Boxed, Items, Keyed};
 use std::alloc::{AllocError, Global};
 
 /// The typed tree of an expression, or its first fault: a tree past the limits is TooLarge at 0 before all others, and
-/// else the first node in post-order that breaks a rule.
+/// else the first node in post-order that breaks a rule. BadPattern is told of what `regex` refuses.
 pub fn check(alloc: Global, expr: &Expr, scope: &Scope) -> Result<Typed, CheckError>
-    ensures exact { Answers result (λ typed. typed.tree) (checked_within expr.now (names_of scope.now)) }
+    ensures exact { AnswersBySome result (λ typed. typed.tree) (λ choice. checked_within expr.now (names_of choice scope.now)) }
+    ensures slots { IfOk result (λ typed. typed.slots ≡ types_in scope.now.names) }
+{
+    let mut patterns = Patterns::new(alloc);
+    check_with(alloc, expr, scope, &mut patterns)
+}
+
+/// The same, where the answers of `regex` are kept. The patterns that it refuses are the choice by which the expression is
+/// typed; each pattern of an expression that is typed was asked for.
+pub fn check_with(
+    alloc: Global,
+    expr: &Expr,
+    scope: &Scope,
+    patterns: &mut Patterns,
+) -> Result<Typed, CheckError>
+    ensures exact { Answers result (λ typed. typed.tree) (checked_within expr.now (names_of (choice_in patterns.new) scope.now)) }
+    ensures asked { IfOk result (λ typed. AreAnswered patterns.new (patterns_in expr.now)) }
+    ensures grows { Grows patterns.old patterns.new }
     ensures slots { IfOk result (λ typed. typed.slots ≡ types_in scope.now.names) }
 {
     if is_too_large(expr) {
@@ -34,8 +59,9 @@ pub fn check(alloc: Global, expr: &Expr, scope: &Scope) -> Result<Typed, CheckEr
             place: 0,
         }));
     }
+    ask(alloc, expr, patterns)?;
     let slots = slot_types(alloc, scope.names.as_slice())?;
-    let tree = typed_tree(alloc, scope, expr)?;
+    let tree = typed_tree(alloc, scope, patterns, expr)?;
     Ok(Typed { slots, tree })
 }
 
@@ -55,47 +81,55 @@ fn slot_types(alloc: Global, names: &[Keyed<CelType>]) -> Result<Items<CelType>,
 fn untyped_behind_each(
     alloc: Global,
     scope: &Scope,
+    patterns: &Patterns,
     place: usize,
     parts: &[Expr],
 ) -> Result<Boxed<TypedTree>, CheckError>
     ensures { Answers result (λ tree. tree)
-        (after_each (each_checked parts.now) (names_of scope.now) (refused place NoOverload)) }
+        (after_each (each_checked parts.now) (names_of (choice_in patterns.now) scope.now) (refused place NoOverload)) }
 {
     for part in parts {
-        typed_tree(alloc, scope, part)?;
-    }
-    untyped(place)
-}
-
-// The same, of keys and values.
-#[cycle(checking)]
-fn untyped_behind_entries(
-    alloc: Global,
-    scope: &Scope,
-    place: usize,
-    entries: &[Entry<Expr>],
-) -> Result<Boxed<TypedTree>, CheckError>
-    ensures { Answers result (λ tree. tree)
-        (after_entries (entries_checked entries.now) (names_of scope.now) (refused place NoOverload)) }
-{
-    for entry in entries {
-        typed_tree(alloc, scope, &entry.key)?;
-        typed_tree(alloc, scope, &entry.value)?;
+        typed_tree(alloc, scope, patterns, part)?;
     }
     untyped(place)
 }
 
 // The typed trees of parts one after another.
 #[cycle(checking)]
-fn typed_trees(alloc: Global, scope: &Scope, parts: &[Expr]) -> Result<Items<TypedTree>, CheckError>
-    ensures { Answers result (λ trees. trees) (each_tree (each_checked parts.now) (names_of scope.now)) }
+fn typed_trees(
+    alloc: Global,
+    scope: &Scope,
+    patterns: &Patterns,
+    parts: &[Expr],
+) -> Result<Items<TypedTree>, CheckError>
+    ensures { Answers result (λ trees. trees) (each_tree (each_checked parts.now) (names_of (choice_in patterns.now) scope.now)) }
 {
     let mut trees = Items::new(alloc);
     for part in parts {
-        let tree = typed_tree(alloc, scope, part)?;
+        let tree = typed_tree(alloc, scope, patterns, part)?;
         trees.push(tree.into_inner())?;
     }
     Ok(trees)
+}
+
+// The typed keys and values of entries one after another.
+#[cycle(checking)]
+fn typed_entries(
+    alloc: Global,
+    scope: &Scope,
+    patterns: &Patterns,
+    entries: &[Entry<Expr>],
+) -> Result<Items<Entry<TypedTree>>, CheckError>
+    ensures { Answers result (λ entries. entries)
+        (each_entry (entries_checked entries.now) (names_of (choice_in patterns.now) scope.now)) }
+{
+    let mut typed = Items::new(alloc);
+    for entry in entries {
+        let key = typed_tree(alloc, scope, patterns, &entry.key)?;
+        let value = typed_tree(alloc, scope, patterns, &entry.value)?;
+        push_entry(&mut typed, key, value)?;
+    }
+    Ok(typed)
 }
 
 // A function over its arguments; each that is known has one.
@@ -103,20 +137,21 @@ fn typed_trees(alloc: Global, scope: &Scope, parts: &[Expr]) -> Result<Items<Typ
 fn call(
     alloc: Global,
     scope: &Scope,
+    patterns: &Patterns,
     place: usize,
     name: &str,
     parts: &[Expr],
 ) -> Result<Boxed<TypedTree>, CheckError>
-    ensures { Answers result (λ tree. tree) (called place name.now (each_checked parts.now) (names_of scope.now)) }
+    ensures { Answers result (λ tree. tree) (called place name.now (each_checked parts.now) (names_of (choice_in patterns.now) scope.now)) }
 {
     let [part] = parts else {
-        return untyped_behind_each(alloc, scope, place, parts);
+        return untyped_behind_each(alloc, scope, patterns, place, parts);
     };
     unary(
         alloc,
         place,
         function_overloads(name),
-        typed_tree(alloc, scope, part),
+        typed_tree(alloc, scope, patterns, part),
     )
 }
 
@@ -125,27 +160,47 @@ fn call(
 fn method(
     alloc: Global,
     scope: &Scope,
+    patterns: &Patterns,
     place: usize,
     name: &str,
     parts: &[Expr],
     operand: Boxed<TypedTree>,
 ) -> Result<Boxed<TypedTree>, CheckError>
     ensures { Answers result (λ tree. tree)
-        (called_on place name.now operand (each_checked parts.now) (names_of scope.now)) }
+        (called_on place name.now operand (each_checked parts.now) (names_of (choice_in patterns.now) scope.now)) }
 {
     match parts {
         [] => unary(alloc, place, method_overloads(name), Ok(operand)),
         [part] => {
-            let argument = typed_tree(alloc, scope, part);
-            binary(alloc, place, method_overloads_with(name), operand, argument)
+            let argument = typed_tree(alloc, scope, patterns, part);
+            method_with(alloc, place, patterns, name, operand, argument)
         }
-        _ => untyped_behind_each(alloc, scope, place, parts),
+        _ => untyped_behind_each(alloc, scope, patterns, place, parts),
     }
 }
 
+// The tree of a part that is read.
 #[cycle(checking)]
-fn typed_tree(alloc: Global, scope: &Scope, expr: &Expr) -> Result<Boxed<TypedTree>, CheckError>
-    ensures { Answers result (λ tree. tree) (checked expr.now (names_of scope.now)) }
+fn typed_tree(
+    alloc: Global,
+    scope: &Scope,
+    patterns: &Patterns,
+    expr: &Expr,
+) -> Result<Boxed<TypedTree>, CheckError>
+    ensures { Answers result (λ tree. tree) (checked expr.now (names_of (choice_in patterns.now) scope.now)) }
+{
+    used(expr.place, found_tree(alloc, scope, patterns, expr))
+}
+
+// The tree of an expression, which may be Opaque.
+#[cycle(checking)]
+fn found_tree(
+    alloc: Global,
+    scope: &Scope,
+    patterns: &Patterns,
+    expr: &Expr,
+) -> Result<Boxed<TypedTree>, CheckError>
+    ensures { Answers result (λ tree. tree) (checked expr.now (with_opaque true (names_of (choice_in patterns.now) scope.now))) }
 {
     let place = expr.place;
     match &expr.form {
@@ -155,60 +210,93 @@ fn typed_tree(alloc: Global, scope: &Scope, expr: &Expr) -> Result<Boxed<TypedTr
         Syntax::Null => literal(alloc, CelType::Null, Value::Null),
         Syntax::Uint(value) => literal(alloc, CelType::Uint, Value::Uint(*value)),
         Syntax::Text(value) => text_literal(alloc, place, value),
-        Syntax::Select(operand, _) | Syntax::Has(operand, _) => {
-            untyped_behind(place, typed_tree(alloc, scope, operand.get()))
+        Syntax::Select(operand, name) => {
+            let operand = typed_tree(alloc, scope, patterns, operand.get());
+            selection(alloc, place, TextOperator::Select, name.as_str(), operand)
+        }
+        Syntax::Has(operand, name) => {
+            let operand = typed_tree(alloc, scope, patterns, operand.get());
+            selection(alloc, place, TextOperator::Has, name.as_str(), operand)
         }
         Syntax::Index(left, right) => {
-            let left = typed_tree(alloc, scope, left.get())?;
-            let right = typed_tree(alloc, scope, right.get());
+            let left = typed_tree(alloc, scope, patterns, left.get())?;
+            let right = typed_tree(alloc, scope, patterns, right.get());
             binary(alloc, place, index_overloads(), left, right)
         }
         Syntax::Loop(_, range, _, body) => {
-            typed_tree(alloc, scope, range.get())?;
-            untyped_behind(place, typed_tree(alloc, scope, body.get()))
+            typed_tree(alloc, scope, patterns, range.get())?;
+            untyped_behind(place, typed_tree(alloc, scope, patterns, body.get()))
         }
         Syntax::MapWhere(range, _, predicate, transform) => {
-            typed_tree(alloc, scope, range.get())?;
-            typed_tree(alloc, scope, predicate.get())?;
-            untyped_behind(place, typed_tree(alloc, scope, transform.get()))
+            typed_tree(alloc, scope, patterns, range.get())?;
+            typed_tree(alloc, scope, patterns, predicate.get())?;
+            untyped_behind(place, typed_tree(alloc, scope, patterns, transform.get()))
         }
-        Syntax::Call(name, parts) => call(alloc, scope, place, name.as_str(), parts.as_slice()),
+        Syntax::Call(name, parts) => call(
+            alloc,
+            scope,
+            patterns,
+            place,
+            name.as_str(),
+            parts.as_slice(),
+        ),
         Syntax::List(parts) => {
-            list_literal(alloc, place, typed_trees(alloc, scope, parts.as_slice()))
+            let items = typed_trees(alloc, scope, patterns, parts.as_slice());
+            list_literal(alloc, place, items)
         }
         Syntax::Method(operand, name, parts) => {
-            let operand = typed_tree(alloc, scope, operand.get())?;
+            let operand = typed_tree(alloc, scope, patterns, operand.get())?;
             method(
                 alloc,
                 scope,
+                patterns,
                 place,
                 name.as_str(),
                 parts.as_slice(),
                 operand,
             )
         }
-        Syntax::Map(entries) => untyped_behind_entries(alloc, scope, place, entries.as_slice()),
+        Syntax::Map(entries) => {
+            let typed = typed_entries(alloc, scope, patterns, entries.as_slice());
+            map_literal(alloc, place, typed)
+        }
         Syntax::Unary(operator, operand) => {
-            let operand = typed_tree(alloc, scope, operand.get());
+            let operand = typed_tree(alloc, scope, patterns, operand.get());
             unary(alloc, place, unary_overloads(*operator), operand)
         }
         Syntax::Binary(operator, left, right) => {
-            let left = typed_tree(alloc, scope, left.get())?;
-            let right = typed_tree(alloc, scope, right.get());
+            if is_equality(*operator) {
+                let tree = found_tree(alloc, scope, patterns, left.get())?;
+                let found = found_tree(alloc, scope, patterns, right.get());
+                let (left_place, right_place) = (left.get().place, right.get().place);
+                return equality(
+                    alloc,
+                    place,
+                    *operator,
+                    left_place,
+                    tree,
+                    right_place,
+                    found,
+                );
+            }
+            let left = typed_tree(alloc, scope, patterns, left.get())?;
+            let right = typed_tree(alloc, scope, patterns, right.get());
             binary(alloc, place, binary_overloads(*operator), left, right)
         }
         Syntax::And(left, right) => {
-            let left = typed_tree(alloc, scope, left.get())?;
-            conjunction(alloc, place, left, typed_tree(alloc, scope, right.get()))
+            let left = typed_tree(alloc, scope, patterns, left.get())?;
+            let right = typed_tree(alloc, scope, patterns, right.get());
+            conjunction(alloc, place, left, right)
         }
         Syntax::Or(left, right) => {
-            let left = typed_tree(alloc, scope, left.get())?;
-            disjunction(alloc, place, left, typed_tree(alloc, scope, right.get()))
+            let left = typed_tree(alloc, scope, patterns, left.get())?;
+            let right = typed_tree(alloc, scope, patterns, right.get());
+            disjunction(alloc, place, left, right)
         }
         Syntax::Conditional(condition, yes, no) => {
-            let condition = typed_tree(alloc, scope, condition.get())?;
-            let yes = typed_tree(alloc, scope, yes.get())?;
-            let no = typed_tree(alloc, scope, no.get());
+            let condition = typed_tree(alloc, scope, patterns, condition.get())?;
+            let yes = typed_tree(alloc, scope, patterns, yes.get())?;
+            let no = typed_tree(alloc, scope, patterns, no.get());
             conditional(alloc, place, condition, yes, no)
         }
     }

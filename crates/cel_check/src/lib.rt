@@ -1,32 +1,32 @@
 //! Types of expressions, and the operators that they choose: [`check`] answers the typed tree of an expression in a
 //! scope of names, or the first rule that it breaks.
 //!
-//! The table of the operators is here, with what each charges at most, and so are the value and the cost of a typed tree.
+//! The value and the cost of a typed tree are defined here. The table of the operators, with what each charges at most, is in
+//! `cel_operators`, and what it hands out of that is handed on.
 #![tactic(auto)]
 
-mod answer_type;
+mod asking;
 mod checker;
-mod equating;
 mod fault;
-mod greatest;
-mod limit;
 mod lists;
+mod maps;
+mod matching;
 mod node;
-mod operands;
-mod operator;
 mod overload;
 mod scope;
+mod selecting;
 mod size;
 mod tree;
 mod typed;
+mod used;
 
-pub use checker::check;
-pub use fault::{CheckError, TypeFault, TypeRule, Untyped};
-pub use greatest::{greatest_of_one, greatest_of_two};
-pub use limit::{is_natural, is_ordered, is_truth, is_whole, takes};
-pub use lists::{join_next, plain_list};
-pub use operands::{Operands, Want};
-pub use operator::{Made, Operator, Overload};
+pub use cel_operators::{
+    Made, Operands, Operator, Overload, TextOperator, TypeRule, Untyped, Want, greater_limit,
+    greatest_of_one, greatest_of_two, is_natural, is_ordered, is_truth, is_whole, join_next,
+    map_type, matching_charge, plain_list, takes, text_limit,
+};
+pub use checker::{check, check_with};
+pub use fault::{CheckError, TypeFault};
 pub use scope::Scope;
 pub use tree::{Form, TypedTree};
 pub use typed::Typed;

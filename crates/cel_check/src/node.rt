@@ -2,15 +2,14 @@
 
 ghost use Rattle.std.specs.Prelude.{◌≡◌, Ok};
 ghost use Rattle.cel_check.specs.declared.tree.Form.TheVariants as form;
-ghost use Rattle.cel_check.specs.declared.fault.TypeRule.TheVariants.{UnknownName, NoOverload};
+ghost use Rattle.cel_operators.specs.declared.type_rule.TypeRule.TheVariants.{UnknownName, NoOverload};
 ghost use Rattle.cel_check.specs.Typing.{node, refused, over_one, over_two, logic, conditional, Answers, Follows};
 ghost use Rattle.cel_check.specs.Typing.{named, slot_from, text_literal};
 
-use crate::fault::{CheckError, TypeFault, TypeRule, Untyped};
-use crate::limit::is_truth;
-use crate::operator::Operator;
+use crate::fault::{CheckError, TypeFault};
 use crate::overload::{first_of_one, first_of_two};
 use crate::tree::{Form, TypedTree};
+use cel_operators::{Operator, TypeRule, Untyped, is_truth};
 use cel_value::{CelType, Value, code_points, join};
 use plain::{Boxed, Keyed, Text};
 use std::alloc::Global;

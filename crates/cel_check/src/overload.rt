@@ -1,9 +1,9 @@
 ghost use Rattle.std.specs.Prelude.{◌≡◌, Ok, Err};
-ghost use Rattle.cel_check.specs.Typing.{unary_overloads, binary_overloads, first_of_one, first_of_two, Tells};
+ghost use Rattle.cel_check.specs.Typing.{unary_overloads, binary_overloads, first_of_one, first_of_two};
+ghost use Rattle.cel_operators.specs.Operators.{Tells};
 ghost use Rattle.cel_check.specs.Typing.{index_overloads, function_overloads, method_overloads, method_overloads_with};
 
-use crate::fault::{TypeRule, Untyped};
-use crate::operator::{Operator, Overload};
+use cel_operators::{Operator, Overload, TypeRule, Untyped};
 use cel_parse::{BinaryOperator, UnaryOperator};
 use cel_value::CelType;
 use std::alloc::Global;

@@ -1,6 +1,7 @@
-use crate::operator::Operator;
+use cel_operators::{Operator, TextOperator};
+use cel_parse::Entry;
 use cel_value::{CelType, Value};
-use plain::{Boxed, Items};
+use plain::{Boxed, Items, Text};
 
 /// One level of a typed expression.
 #[derive(Drop)]
@@ -15,6 +16,10 @@ pub enum Form<T> {
     Conditional(Boxed<T>, Boxed<T>, Boxed<T>),
     /// A list of these items.
     ListOf(Items<T>),
+    /// A map of these keys and values.
+    MapOf(Items<Entry<T>>),
+    /// An operator with a literal text beside its operand. Of a field it is the property's own name.
+    WithText(TextOperator, Boxed<T>, Text),
 }
 
 /// An expression whose operators are chosen, each node with its type.

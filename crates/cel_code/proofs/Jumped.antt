@@ -5,6 +5,7 @@ use Rattle.std.specs.Prelude.{slice_get, if◌then◌else◌}
 use Rattle.std.proofs.lemmas.Bool.{cases_lt}
 use Rattle.cel_value.specs.declared.cel_type.CelType.{CelType}
 use Rattle.cel_check.specs.declared.tree.TypedTree.{TypedTree}
+use Rattle.cel_check.specs.Meaning.{by_turns}
 use Rattle.cel_code.specs.declared.image.Image.{Image}
 use Rattle.cel_code.specs.declared.image.Target.{Target}
 use Rattle.cel_code.specs.declared.instr.Instr.{Instr}
@@ -13,8 +14,8 @@ use Rattle.cel_code.specs.Compiled.{IsCompiled, Layout, target, target_at_end, t
 use Rattle.cel_code.specs.Drafts.{layouts_of}
 use Rattle.cel_code.specs.Jumps.{Jumps, IsJumpedTo, IsTarget, Rises, TargetsAreJumps}
 use Rattle.cel_code.specs.Placed.{Code, code_in, Has, Stands, literal, unary, binary, both, either, conditional, items, StandEach}
-use Rattle.cel_code.specs.Placed.{no_items, first_item, slot}
-use Rattle.cel_code.proofs.Written.{laid}
+use Rattle.cel_code.specs.Placed.{no_items, first_item, slot, entries, with_text}
+use Rattle.cel_code.proofs.Written.{laid, laid_map}
 
 -- one list of targets behind another
 rises_from : (ts : List Target) (a b c : ℕ) → a ≤ b → Rises b ts c → Rises a ts c
@@ -87,6 +88,9 @@ module _ (code : Code) where
     sized e from to (conditional c a b m n f h i k j l) =
         let x = sized c from m h in let y = sized a (m + 1) n k in let z = sized b (n + 1) to l in rw (laid e _ f.is) (omega (arith, x, y, z))
     sized e from to (items xs m f hs i after) = let x = sized_each xs from m hs in rw (laid e _ f.is) (omega (arith, x, after))
+    sized e from to (entries es m f hs i after) =
+        let x = sized_each (by_turns es) from m hs in rw (laid_map e es f.is) (omega (arith, x, after))
+    sized e from to (with_text op a text m f h i after) = let x = sized a from m h in rw (laid e _ f.is) (omega (arith, x, after))
 
     sized_each : (xs : List TypedTree) (from to : ℕ) → StandEach code xs from to → from + sizes_of (layouts_of xs) ≡ to
     sized_each xs from to (no_items none same) = rw none (omega (arith, same))
@@ -140,6 +144,11 @@ module _ (code : Code) where
         (rises_on _ _ (from + 1) (m + 1) (n + 1) p (rises_from _ (m + 1) (m + 1 + 1) (n + 1) (omega arith) q))
         (omega arith, rises_from _ (no_at + 1) (n + 1 + 1) to (omega arith) r))
     rise e from to (items xs m f hs i after) at same below = rw (laid e _ f.is, after) (rise_each xs from m hs at same below)
+    rise e from to (entries es m f hs i after) at same below =
+        rw (laid_map e es f.is, after) (rise_each (by_turns es) from m hs at same below)
+    rise e from to (with_text op a text m f h i after) at same below =
+        let x = sized a from m h in
+        rw (laid e _ f.is, after) (all_rise (layout_of a) (from + 1) at m below (omega arith) (rise a from m h at same below))
 
     rise_each : (xs : List TypedTree) (from to : ℕ) → StandEach code xs from to → (at : ℕ) → at ≡ from → (below : List CelType)
         → Rises (from + 1) (targets_of (layouts_of xs) at below) (to + 1)
@@ -258,6 +267,17 @@ module _ (code : Code) where
           | inl less ↦ inl (go_each xs from m hs at same below s le less instr' has x j)
           | inr more ↦ absurd (here s m instr' _ has i (omega arith) x j)
         ])
+    go e from to (entries es m f hs i after) at same below s le lt instr' has x j =
+        rw (laid_map e es f.is) (elim (cases_lt s m) [
+          | inl less ↦ inl (go_each (by_turns es) from m hs at same below s le less instr' has x j)
+          | inr more ↦ absurd (here s m instr' _ has i (omega arith) x j)
+        ])
+    go e from to (with_text op a text m f h i after) at same below s le lt instr has x j =
+        let u = sized a from m h in
+        rw (laid e _ f.is) (elim (cases_lt s m) [
+          | inl less ↦ inl (all_go (layout_of a) at m below x (omega arith) (go a from m h at same below s le less instr has x j))
+          | inr more ↦ absurd (here s m instr _ has i.instr (omega arith) x j)
+        ])
 
     go_each : (xs : List TypedTree) (from to : ℕ) → StandEach code xs from to → (at : ℕ) → at ≡ from → (below : List CelType) → (s : ℕ)
         → from ≤ s → s < to → (instr : Instr) → Has code s instr → (x : ℕ) → Jumps instr x
@@ -281,6 +301,8 @@ module _ (code : Code) where
   come_end e from to (both a b m n f h i k j next) q = record { from = m; instr = AndTest to; stands = i.is; jumps = refl }
   come_end e from to (either a b m n f h i k j next) q = record { from = m; instr = OrTest to; stands = i.is; jumps = refl }
   come_end e from to (items xs m f hs i after) q = let no_join : false ≡ true = rw (laid e _ f.is) at q in cc
+  come_end e from to (entries es m f hs i after) q = let no_join : false ≡ true = rw (laid e _ f.is) at q in cc
+  come_end e from to (with_text op a text m f h i after) q = let no_join : false ≡ true = rw (laid e _ f.is) at q in cc
   come_end e from to (conditional c a b m n f h i k j l) q = record { from = n; instr = Jump to; stands = j.is; jumps = refl }
 
   all_come : (l : Layout) (at to : ℕ) (below : List CelType) (x : ℕ) → at + l.size ≡ to
@@ -350,6 +372,11 @@ module _ (code : Code) where
           ]
         ]
     come e from to (items xs m f hs i after) at same below x t = come_each xs from m hs at same below x (rw (laid e _ f.is) at t)
+    come e from to (entries es m f hs i after) at same below x t =
+        come_each (by_turns es) from m hs at same below x (rw (laid_map e es f.is) at t)
+    come e from to (with_text op a text m f h i after) at same below x t =
+        let u = sized a from m h in
+        all_come (layout_of a) at m below x (omega arith) (come a from m h at same below x) (come_end a from m h) (rw (laid e _ f.is) at t)
 
     come_each : (xs : List TypedTree) (from to : ℕ) → StandEach code xs from to → (at : ℕ) → at ≡ from → (below : List CelType) → (x : ℕ)
         → IsTarget (targets_of (layouts_of xs) at below) x → IsJumpedTo code.instrs x

@@ -1,5 +1,5 @@
 -- Types that stay below what an expression puts on them, and code that is written part by part.
-use Rattle.std.proofs.Common.{◌≡◌, ℕ, zero, suc, ◌+◌, ◌<◌, ◌≤◌, List, [], ◌∷◌, ◌++◌, length, take, drop, get_or, refl, sym, ap, ◌∙◌, subst, arith}
+use Rattle.std.proofs.Common.{◌≡◌, ℕ, zero, suc, ◌+◌, ◌<◌, ◌≤◌, List, [], ◌∷◌, ◌++◌, length, take, drop, get_or, refl, sym, ap, ◌∙◌, arith}
 use Rattle.std.proofs.Common.{drop-cons, add-one}
 use Rattle.cel_value.specs.declared.cel_type.CelType.{CelType}
 use Rattle.cel_check.specs.declared.tree.TypedTree.{TypedTree}
@@ -37,11 +37,11 @@ none_more first now below types n h le e long =
     sym (take_whole now n le) ∙ (h ∙ (ap (take n) e ∙ (ap (λ k. take k (below ++ types)) long ∙ take_front below types)))
 
 -- an element, and those behind it
-pub split_at : (xs : List TypedTree) (i : ℕ) (x : TypedTree) → i < length xs → x ≡ get_or xs i x → drop i xs ≡ x ∷ drop (i + 1) xs
+pub split_at : {X : Type 0} (xs : List X) (i : ℕ) (x : X) → i < length xs → x ≡ get_or xs i x → drop i xs ≡ x ∷ drop (i + 1) xs
 split_at xs i x lt is =
     drop-cons xs i x lt ∙ ap (λ y. y ∷ drop (suc i) xs) (sym is) ∙ ap (λ k. x ∷ drop k xs) (sym (add-one i))
 
-pub none_left : (xs : List TypedTree) (i : ℕ) → length xs ≤ i → drop i xs ≡ []
+pub none_left : {X : Type 0} (xs : List X) (i : ℕ) → length xs ≤ i → drop i xs ≡ []
 none_left [] zero h = refl
 none_left [] (suc i) h = refl
 none_left (x ∷ xs) zero h = absurd (omega (arith, h))
@@ -65,6 +65,15 @@ goes_on first now d1 d2 all left rest a split g ea wa code targets below =
       stands = λ new h. g.stands new (emits_first _ _ _ a rest ea h);
       writes = λ new h. g.writes new (writes_first now d1 d2 new a rest wa code targets below h);
     }
+
+-- likewise a key and its value
+pub entry_goes_on : (first now d1 d2 d3 d4 : Draft) (all left rest : List TypedTree) (a b : TypedTree) → left ≡ a ∷ b ∷ rest
+    → GoesOn first now all left → Writes now d1 a now.below → Emits (drafted now) (drafted d1) a → Writes d2 d3 b d2.below
+    → Emits (drafted d2) (drafted d3) b → drafted d2 ≡ drafted d1 → d2.targets ≡ d1.targets → d2.below ≡ d1.below ++ type_of a ∷ []
+    → drafted d4 ≡ drafted d3 → d4.targets ≡ d3.targets → d4.below ≡ d3.below ++ type_of b ∷ [] → GoesOn first d4 all rest
+entry_goes_on first now d1 d2 d3 d4 all left rest a b split g wa ea wb eb code targets below code' targets' below' =
+    let key = goes_on first now d1 d2 all left (b ∷ rest) a split g ea wa code targets below in
+    goes_on first d2 d3 d4 all (b ∷ rest) rest b refl key eb wb code' targets' below'
 
 pub all_stand : (first now : Draft) (all left : List TypedTree) → left ≡ [] → GoesOn first now all left
     → EmitsEach (drafted first) (drafted now) all

@@ -1,7 +1,7 @@
 -- An image has one run: where two runs end, they end with one outcome, for one charge, after as many steps.
 use Rattle.std.proofs.Common.{◌≡◌, ℕ, List, [], sym, ap, ◌∙◌, subst, arith}
 use Rattle.cel_code.specs.declared.image.Image.{Image}
-use Rattle.cel_check.specs.Outcomes.{Outcome}
+use Rattle.cel_operators.specs.Outcomes.{Outcome}
 use Rattle.cel_code.specs.Machine.{State, on, Next, Goes, Ends, Stuck, step, Gets, Stays, Moves, Run}
 
 -- two ends of one run

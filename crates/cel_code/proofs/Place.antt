@@ -4,15 +4,19 @@ use Rattle.std.proofs.Common.{◌++◌, length, Some, refl, sym, ap, ◌∙◌, 
 use Rattle.std.specs.Prelude.{slice_get, slice_set, Contains}
 use Rattle.std.proofs.Math.ListN.{length-set}
 use Rattle.cel_value.specs.declared.value.Value.{Value}
-use Rattle.cel_check.specs.declared.operator.Operator.{Operator}
+use Rattle.cel_value.specs.declared.value.Value as value
+use Rattle.cel_grammar.specs.declared.tree.Entry.{Entry}
+use Rattle.cel_operators.specs.declared.text_operator.TextOperator.{TextOperator}
+use Rattle.cel_check.specs.Meaning.{by_turns}
+use Rattle.cel_operators.specs.declared.operator.Operator.{Operator}
 use Rattle.cel_check.specs.declared.tree.TypedTree.{TypedTree, out-TypedTree}
 use Rattle.cel_check.specs.declared.tree.Form.TheVariants as form
 use Rattle.cel_code.specs.declared.instr.Instr.{Instr}
 use Rattle.cel_code.specs.declared.instr.Instr.TheVariants.{Const, Slot, Op, AndTest, OrTest, And, Or, Cond, Jump, End}
-use Rattle.cel_check.specs.Operators.{code_of}
+use Rattle.cel_operators.specs.Operators.{code_of}
 use Rattle.cel_code.specs.Placed.{Code, with_instr, patched, Interns, Has, Pushes, Stands, literal, slot}
 use Rattle.cel_code.specs.Placed.{unary, binary, both, either, conditional, Same, Keeps, Emits}
-use Rattle.cel_code.specs.Placed.{items, StandEach, no_items, first_item, EmitsEach}
+use Rattle.cel_code.specs.Placed.{items, entries, with_text, HasText, StandEach, no_items, first_item, EmitsEach}
 use Rattle.cel_code.specs.declared.instr.Instr.TheVariants as instr
 
 -- one element more
@@ -76,6 +80,8 @@ mutual
   stands_lt code e from to (conditional c a b m n f h i k j l) =
       omega (arith, stands_lt code c from m h, stands_lt code a (m + 1) n k, stands_lt code b (n + 1) to l)
   stands_lt code e from to (items xs m f hs i after) = omega (arith, stands_le code xs from m hs, after)
+  stands_lt code e from to (entries es m f hs i after) = omega (arith, stands_le code (by_turns es) from m hs, after)
+  stands_lt code e from to (with_text op a text m f h i after) = omega (arith, stands_lt code a from m h, after)
 
   stands_le : (code : Code) (xs : List TypedTree) (from to : ℕ) → StandEach code xs from to → from ≤ to
   stands_le code xs from to (no_items none same) = omega (arith, same)
@@ -88,6 +94,11 @@ module _ (old new : Code) where
   push_moved : (v : Value) (from to : ℕ) → Pushes old from to v → Same old new from to → Pushes new from to v
   push_moved v from to p s =
       record { number = p.number; instr = has_moved _ from from to p.instr s (omega arith) (omega (arith, p.next)); constant = s.constant _ v p.constant; next = p.next }
+
+  text_moved : (op : TextOperator) (text : List ℕ) (at from to : ℕ) → HasText old at op text → Same old new from to → from ≤ at → at < to
+      → HasText new at op text
+  text_moved op text at from to h s le lt =
+      record { number = h.number; instr = has_moved _ at from to h.instr s le lt; constant = s.constant _ _ h.constant }
 
   -- an expression's instructions stand in each code that has the same ones there
   mutual
@@ -131,6 +142,14 @@ module _ (old new : Code) where
         let x = stands_le old xs from m hs in
         items xs m f (each_moved xs from m hs (narrow old new from to _ _ s (omega arith) (omega (arith, after))))
         (has_moved _ m from to i s (omega arith) (omega (arith, after))) after
+    moved e from to (entries es m f hs i after) s =
+        let x = stands_le old (by_turns es) from m hs in
+        entries es m f (each_moved (by_turns es) from m hs (narrow old new from to _ _ s (omega arith) (omega (arith, after))))
+        (has_moved _ m from to i s (omega arith) (omega (arith, after))) after
+    moved e from to (with_text op a text m f h i after) s =
+        let x = stands_lt old a from m h in
+        with_text op a text m f (moved a from m h (narrow old new from to _ _ s (omega arith) (omega (arith, after))))
+        (text_moved op text m from to i s (omega arith) (omega (arith, after))) after
 
     each_moved : (xs : List TypedTree) (from to : ℕ) → StandEach old xs from to → Same old new from to → StandEach new xs from to
     each_moved xs from to (no_items none same) s = no_items none same
@@ -236,6 +255,41 @@ emits_items old c1 c2 new e xs ys n is same ex left long put =
           (each_moved c1 (with_instr c1 i) xs _ _ ex.stands (narrow c1 _ 0 _ _ _ (same_put c1 i) (omega arith) (omega arith)))
           (has_put c1 i) (length_put c1 i);
       keeps = keeps_on old c1 _ ex.keeps (keeps_put c1 i);
+    })
+
+pub emits_entries : (old c1 c2 new : Code) (e : TypedTree) (es fs : List (Entry TypedTree)) (n : ℕ)
+    → (out-TypedTree e).form ≡ form.MapOf es → fs ≡ es → EmitsEach old c1 (by_turns fs) → c2 ≡ c1 → n ≡ length es
+    → new ≡ with_instr c2 (instr.Map n) → Emits old new e
+emits_entries old c1 c2 new e es fs n is same ex left long put =
+    let i = instr.Map (length es) in
+    let ex : EmitsEach old c1 (by_turns es) = rw (sym same) ex in
+    rw (put, left, long)
+    (record {
+      stands =
+          entries es (length c1.instrs) (record { is = is })
+          (each_moved c1 (with_instr c1 i) (by_turns es) _ _ ex.stands (narrow c1 _ 0 _ _ _ (same_put c1 i) (omega arith) (omega arith)))
+          (has_put c1 i) (length_put c1 i);
+      keeps = keeps_on old c1 _ ex.keeps (keeps_put c1 i);
+    })
+
+pub emits_with_text : (old c1 c2 new : Code) (e : TypedTree) (op : TextOperator) (a a' : TypedTree) (text : List ℕ) (k : ℕ)
+    → (out-TypedTree e).form ≡ form.WithText op a text → a' ≡ a → Emits old c1 a' → Interns c1 c2 (value.Text text) k
+    → new ≡ with_instr c2 (instr.WithText op k) → Emits old new e
+emits_with_text old c1 c2 new e op a a' text k is same ea n put =
+    let i = instr.WithText op k in
+    let ea : Emits old c1 a = rw (sym same) ea in
+    let kept = keeps_interned c1 c2 _ k n in
+    let s1 : Same c1 (with_instr c2 i) 0 (length c1.instrs) =
+    same_on c1 c2 _ 0 _ kept.same (narrow c2 _ 0 _ 0 _ (same_put c2 i) (omega arith) kept.grows) in
+    let here : Has (with_instr c2 i) (length c1.instrs) i = subst (λ is. Has (with_instr c2 i) (length is) i) n.instrs (has_put c2 i) in
+    let grown : length (with_instr c2 i).instrs ≡ length c1.instrs + 1 = length_put c2 i ∙ ap (λ is. length is + 1) n.instrs in
+    rw put
+    (record {
+      stands =
+          with_text op a text (length c1.instrs) (record { is = is })
+          (moved c1 (with_instr c2 i) a _ _ ea.stands (narrow c1 _ 0 _ _ _ s1 (omega arith) (omega arith)))
+          (record { number = k; instr = here; constant = n.constant }) grown;
+      keeps = keeps_on old c1 _ ea.keeps (keeps_on c1 c2 _ kept (keeps_put c2 i));
     })
 
 -- where both sides of `&&` or `||` stand, with the jump patched

@@ -4,28 +4,35 @@ use Rattle.std.proofs.Common.{sym, ap, ◌∙◌, subst, arith}
 use Rattle.std.proofs.lemmas.List.{append-nil}
 use Rattle.std.specs.Prelude.{Result, Ok, Err, slice_get}
 use Rattle.cel_value.specs.declared.value.Value.{Value}
-use Rattle.cel_check.specs.declared.operator.Operator.{Operator}
+use Rattle.cel_grammar.specs.declared.tree.Entry.{Entry}
+use Rattle.cel_operators.specs.declared.operator.Operator.{Operator}
+use Rattle.cel_operators.specs.declared.text_operator.TextOperator.{TextOperator}
 use Rattle.cel_check.specs.declared.tree.TypedTree.{TypedTree}
 use Rattle.cel_code.specs.declared.instr.Instr.{Instr}
 use Rattle.cel_code.specs.declared.instr.Instr.TheVariants.{Const, Slot, Op, AndTest, OrTest, And, Or, Cond, Jump, End}
 use Rattle.cel_code.specs.declared.image.Image.{Image}
-use Rattle.cel_check.specs.Outcomes.{Outcome, Env, Side, and_of, or_of, both_sides, and_value, or_value, conditional_value, unless_false, unless_true, of_branch, outside}
+use Rattle.cel_operators.specs.Outcomes.{Outcome, Env, Side, and_of, or_of, both_sides, and_value, or_value, conditional_value}
+use Rattle.cel_operators.specs.Outcomes.{unless_false, unless_true, of_branch, outside}
 use Rattle.cel_value.specs.declared.cel_error.CelError.{CelError}
-use Rattle.cel_check.specs.Wants.{side_of, taken}
-use Rattle.cel_check.specs.declared.operator.Made.{Made}
-use Rattle.cel_check.specs.Operators.{Row, One, Two, row, code_of, makes, two, at_one, at_two, outcome_made, charge_made}
-use Rattle.cel_check.specs.Meaning.{value_of, priced_of, cost_of, values_at, values_priced, costs_at}
-use Rattle.cel_check.specs.Lists.{in_front, each_there, list_made, list_where}
+use Rattle.cel_operators.specs.Wants.{side_of, taken}
+use Rattle.cel_operators.specs.declared.operator.Made.{Made}
+use Rattle.cel_operators.specs.Operators.{Row, One, Two, row, code_of, makes, two, at_one, at_two, outcome_made, charge_made}
+use Rattle.cel_check.specs.Meaning.{value_of, priced_of, cost_of, values_at, values_priced, costs_at, by_turns}
+use Rattle.cel_operators.specs.Lists.{in_front, each_there, list_made, list_where}
+use Rattle.cel_operators.specs.Maps.{map_made, map_where}
+use Rattle.cel_operators.specs.TextOperators.{row_with}
+use Rattle.cel_check.specs.Typing.{literal_text_at}
+use Rattle.cel_code.specs.Machine.{constant_text, operate_with, mapped}
 use Rattle.cel_code.specs.Machine.{taken_off, listed, Frame, State, on, Goes, Ends, push, constant, made, operate, operate_by, and_test}
 use Rattle.cel_code.specs.Machine.{or_test, branch, joined, join, act, act_at, inputs_of, step, Gets, Stays, Moves, Run}
 use Rattle.cel_code.specs.Machine.{slot as read_slot}
 use Rattle.cel_code.specs.Placed.{Code, code_in, Has, Pushes, Stands, literal, unary, binary, both, either, conditional, items}
-use Rattle.cel_code.specs.Placed.{StandEach, no_items, first_item, slot}
+use Rattle.cel_code.specs.Placed.{StandEach, no_items, first_item, slot, entries, with_text, HasText}
 use Rattle.cel_code.specs.declared.instr.Instr.TheVariants as instr
 use Rattle.cel_code.specs.Correct.{Computes}
-use Rattle.cel_check.proofs.Opened.{outcome_of, side_of_outcome, side_is}
-use Rattle.cel_check.proofs.Levels.{value_is, value_level, cost_level}
-use Rattle.cel_check.proofs.Numbers.{operator_of-code_of}
+use Rattle.cel_operators.proofs.Opened.{outcome_of, side_of_outcome, side_is, out-Text}
+use Rattle.cel_check.proofs.Levels.{value_is, value_level, cost_level, turns_parts}
+use Rattle.cel_operators.proofs.Numbers.{operator_of-code_of}
 
 -- outcomes one after another on a stack, the last one on top
 abbrev over : List Outcome → List Outcome → List Outcome
@@ -57,6 +64,11 @@ there_long (o ∷ os) = front_long o (each_there os) (length os) (there_long os)
 values_long : (xs : List TypedTree) (env : Env) → length (values_at (map value_of xs) env) ≡ length xs
 values_long [] env = refl
 values_long (x ∷ xs) env = ap suc (values_long xs env)
+
+-- each entry has a key and a value
+turns_long : (es : List (Entry TypedTree)) → length (by_turns es) ≡ length es + length es
+turns_long [] = refl
+turns_long (e ∷ es) = omega (arith, turns_long es)
 
 -- the values that costs ask for
 all_asked : (xs : List TypedTree) → values_priced (map priced_of xs) ≡ map value_of xs
@@ -234,6 +246,20 @@ module _ (image : Image) (slots : List Outcome) where
         leads_on _ _ _ c (list_made xs).charge l
         (one_step _ _ _ (at_instr m (instr.List n) (over xs stack) h ∙ ap (λ p. listed p m frames) (all_taken xs stack n (sym long))))
 
+    map_runs : (n : ℕ) (os : Option (List Outcome)) (from m : ℕ) (stack : List Outcome) (c : ℕ) → LongOf (n + n) os
+        → Has code m (instr.Map n) → GivesEach from stack m os c
+        → Gives from stack (m + 1) (outcome_made (map_where os)) (c + charge_made (map_where os))
+    map_runs n None from m stack c long h l = tt
+    map_runs n (Some xs) from m stack c long h l =
+        made_runs (map_made xs) from m stack (over xs stack) c l
+        (at_instr m (instr.Map n) (over xs stack) h ∙ ap (λ p. mapped p m frames) (all_taken xs stack (n + n) (sym long)))
+
+    text_step : (op : TextOperator) (text : List ℕ) (at : ℕ) (s : List Outcome) → HasText code at op text
+        → step image slots (on at s frames) ≡ operate (row_with op text) at s frames
+    text_step op text at s h =
+        at_instr at (instr.WithText op h.number) s h.instr ∙ ap (λ o. operate_with op (constant_text o) at s frames) h.constant
+        ∙ ap (λ v. operate_with op (literal_text_at v) at s frames) (out-Text text)
+
     op_step : (op : Operator) (at : ℕ) (s : List Outcome) → Has code at (Op (code_of op)) → step image slots (on at s frames) ≡ operate (row op) at s frames
     op_step op at s h = at_instr at _ s h ∙ ap (λ o. operate_by o at s frames) (operator_of-code_of op)
 
@@ -275,6 +301,22 @@ module _ (image : Image) (slots : List Outcome) where
             (list_runs (length xs) (each_there (values_at (map value_of xs) env)) from m stack (costs_at (map priced_of xs) env)
             (subst (λ n. LongOf n (each_there (values_at (map value_of xs) env))) (values_long xs env) (there_long (values_at (map value_of xs) env)))
             i (each_runs xs from m stack hs))
+        tree_runs e from to stack (entries es m f hs i after) =
+            let xs = by_turns es in
+            let os = each_there (values_at (map value_of xs) env) in
+            gives_as from (m + 1) to stack _ _ _ _ after
+            (value_level e _ env f ∙ ap (λ vs. outcome_made (map_where (each_there (values_at vs env)))) (turns_parts _ _ value_of es))
+            (cost_level e _ env f
+            ∙ ap (λ ps. costs_at ps env + charge_made (map_where (each_there (values_at (values_priced ps) env)))) (turns_parts _ _ priced_of es)
+            ∙ ap (λ vs. costs_at (map priced_of xs) env + charge_made (map_where (each_there (values_at vs env)))) (all_asked xs))
+            (map_runs (length es) os from m stack (costs_at (map priced_of xs) env)
+            (subst (λ n. LongOf n os) (values_long xs env ∙ turns_long es) (there_long (values_at (map value_of xs) env)))
+            i (each_runs xs from m stack hs))
+        tree_runs e from to stack (with_text op a text m f h i after) =
+            let r = row_with op text in
+            gives_as from (m + 1) to stack _ _ _ _ after (value_level e _ env f)
+            (cost_level e _ env f ∙ ap (λ o. cost_of a env + charge_made (at_one r o)) (asked a))
+            (unary_runs r (value_of a env) from m stack (cost_of a env) (λ s. text_step op text m s i) (tree_runs a from m stack h))
 
         each_runs : (xs : List TypedTree) (from to : ℕ) (stack : List Outcome) → StandEach code xs from to
             → GivesEach from stack to (each_there (values_at (map value_of xs) env)) (costs_at (map priced_of xs) env)

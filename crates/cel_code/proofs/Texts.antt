@@ -1,14 +1,14 @@
 -- Texts among constants, and the numbers under which they stand.
-use Rattle.std.proofs.Common.{◌≡◌, ◌≢◌, ℕ, List, [], ◌∷◌, ◌++◌, length, Bool, true, false, cond}
-use Rattle.std.proofs.Common.{Option, Some, refl, sym, ap, ◌∙◌, subst, inl, inr, ⊎_elim, rules}
-use Rattle.std.specs.Prelude.{slice_get, Contains, ◌⊎◌, Result, Ok, Err, OnOk, OnErr}
+use Rattle.std.proofs.Common.{◌≡◌, ◌≢◌, ℕ, List, [], ◌∷◌, ◌++◌, length, true, cond}
+use Rattle.std.proofs.Common.{Option, Some, refl, sym, ap, ◌∙◌, subst, inl, inr, ⊎_elim}
+use Rattle.std.specs.Prelude.{Contains, Result, Ok, Err, OnOk, OnErr}
 use Rattle.std.specs.Str.{bytes_eq}
 use Rattle.std.proofs.lemmas.Slice.Eq.{bytes_eq-Decides}
-use Rattle.std.proofs.lemmas.Bool.{cases_Bool, true≢false}
+use Rattle.std.proofs.lemmas.Bool.{cases_Bool}
 use Rattle.cel_value.specs.declared.value.Value as value
 use Rattle.cel_value.specs.declared.value.Value.{Value, out-Value, the_lemmas}
 use Rattle.cel_value.specs.declared.value.Value.TheOpen.{Value-F}
-use Rattle.cel_check.proofs.Opened.{out-Text}
+use Rattle.cel_operators.proofs.Opened.{out-Text}
 use Rattle.cel_code.specs.Numbered.{Values, AreTextsNumbered, NotesText}
 use Rattle.cel_code.proofs.Numbering.{last_or_before}
 use Rattle.cel_code.proofs.Place.{contains_at, get_kept, get_last}

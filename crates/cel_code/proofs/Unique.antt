@@ -5,6 +5,8 @@ use Rattle.std.specs.Prelude.{slice_get}
 use Rattle.std.proofs.lemmas.Bool.{cases_lt}
 use Rattle.cel_value.specs.declared.cel_type.CelType.{CelType}
 use Rattle.cel_value.specs.declared.value.Value.{Value}
+use Rattle.cel_value.specs.declared.value.Value as value
+use Rattle.cel_check.specs.Meaning.{by_turns}
 use Rattle.cel_check.specs.declared.tree.TypedTree.{TypedTree, out-TypedTree}
 use Rattle.cel_check.specs.declared.tree.Form.{Form}
 use Rattle.cel_check.specs.declared.tree.Form.TheVariants as form
@@ -12,9 +14,9 @@ use Rattle.cel_code.specs.declared.image.Image.{Image}
 use Rattle.cel_code.specs.declared.instr.Instr.{Instr}
 use Rattle.cel_code.specs.declared.instr.Instr.TheVariants.{Const, Slot, Op, AndTest, OrTest, And, Or, Cond, Jump}
 use Rattle.cel_code.specs.Compiled.{EachOnce, nothing, first, again, IsCompiled, layout_of}
-use Rattle.cel_check.specs.Operators.{code_of}
+use Rattle.cel_operators.specs.Operators.{code_of}
 use Rattle.cel_code.specs.Placed.{Code, code_in, Has, Pushes, Stands, literal, unary, binary, both, either, conditional, items}
-use Rattle.cel_code.specs.Placed.{StandEach, no_items, first_item, slot}
+use Rattle.cel_code.specs.Placed.{StandEach, no_items, first_item, slot, entries, with_text, HasText}
 use Rattle.cel_code.specs.declared.instr.Instr.TheVariants as instr
 use Rattle.cel_code.proofs.Place.{contains_at, get_last}
 
@@ -114,6 +116,8 @@ Parts code (form.Conditional c a b) from to =
     (m n : ℕ) × Stands code c from m × Has code m (Cond (n + 1) to) × Stands code a (m + 1) n × Has code n (Jump to)
     × Stands code b (n + 1) to
 Parts code (form.ListOf xs) from to = (m : ℕ) × StandEach code xs from m × Has code m (instr.List (length xs)) × (to ≡ m + 1)
+Parts code (form.MapOf es) from to = (m : ℕ) × StandEach code (by_turns es) from m × Has code m (instr.Map (length es)) × (to ≡ m + 1)
+Parts code (form.WithText op a text) from to = (m : ℕ) × Stands code a from m × HasText code m op text × (to ≡ m + 1)
 
 -- the parts of what stands one after another, by the list
 abbrev EachPart : Code → List TypedTree → ℕ → ℕ → Type 0
@@ -134,6 +138,8 @@ parts code e f from to is (both a b m n g h i k j l) = subst (λ x. Parts code x
 parts code e f from to is (either a b m n g h i k j l) = subst (λ x. Parts code x from to) (sym g.is ∙ is) (m, n, h, i, k, j, l)
 parts code e f from to is (conditional c a b m n g h i k j l) = subst (λ x. Parts code x from to) (sym g.is ∙ is) (m, n, h, i, k, j, l)
 parts code e f from to is (items xs m g hs i n) = subst (λ x. Parts code x from to) (sym g.is ∙ is) (m, hs, i, n)
+parts code e f from to is (entries es m g hs i n) = subst (λ x. Parts code x from to) (sym g.is ∙ is) (m, hs, i, n)
+parts code e f from to is (with_text op a text m g h i n) = subst (λ x. Parts code x from to) (sym g.is ∙ is) (m, h, i, n)
 
 module _ (c d : Code) where
   -- the same instructions from one place up to another
@@ -202,6 +208,20 @@ module _ (c d : Code) where
           let p = parts d e (form.ListOf xs) from to' f.is s in
           let t = each_twins xs from m p.0 hs p.1 in
           record { ends = omega (arith, after, p.3, t.ends); alike = rw after (on from m (m + 1) t.alike (one m _ _ i (rw t.ends at p.2) refl)) }
+      twins e from to to' (entries es m f hs i after) s =
+          let p = parts d e (form.MapOf es) from to' f.is s in
+          let t = each_twins (by_turns es) from m p.0 hs p.1 in
+          record { ends = omega (arith, after, p.3, t.ends); alike = rw after (on from m (m + 1) t.alike (one m _ _ i (rw t.ends at p.2) refl)) }
+      twins e from to to' (with_text op a text m f h i after) s =
+          let p = parts d e (form.WithText op a text) from to' f.is s in
+          let t = twins a from m p.0 h p.1 in
+          let q : HasText d m op text = rw t.ends at p.2 in
+          let there : slice_get d.constants i.number ≡ Some (value.Text text) = rw (sym same) i.constant in
+          let number = once (value.Text text) i.number q.number there q.constant in
+          record {
+            ends = omega (arith, after, p.3, t.ends);
+            alike = rw after (on from m (m + 1) t.alike (one m _ _ i.instr q.instr (ap (instr.WithText op) number)));
+          }
 
       each_twins : (xs : List TypedTree) (from to to' : ℕ) → StandEach c xs from to → StandEach d xs from to' → Twins from to to'
       each_twins xs from to to' (no_items none same') s =

@@ -1,12 +1,16 @@
 -- What is written for an expression is as the expression is laid out.
-use Rattle.std.proofs.Common.{◌≡◌, ℕ, ◌+◌, Some, List, [], ◌∷◌, ◌++◌}
+use Rattle.std.proofs.Common.{◌≡◌, ℕ, ◌+◌, Some, List, [], ◌∷◌, ◌++◌, false}
 use Rattle.std.proofs.Common.{length, refl, sym, ap, ◌∙◌, subst, arith, append_assoc}
 use Rattle.std.specs.Prelude.{slice_get, Contains}
 use Rattle.std.proofs.lemmas.List.{append-nil}
 use Rattle.std.proofs.Math.Seq.{append_snoc}
 use Rattle.cel_value.specs.declared.cel_type.CelType.{CelType}
 use Rattle.cel_value.specs.declared.value.Value.{Value}
-use Rattle.cel_check.specs.declared.operator.Operator.{Operator}
+use Rattle.cel_value.specs.declared.value.Value as value
+use Rattle.cel_grammar.specs.declared.tree.Entry.{Entry}
+use Rattle.cel_operators.specs.declared.text_operator.TextOperator.{TextOperator}
+use Rattle.cel_check.proofs.Levels.{turns_parts}
+use Rattle.cel_operators.specs.declared.operator.Operator.{Operator}
 use Rattle.cel_check.specs.declared.tree.TypedTree.{TypedTree, out-TypedTree}
 use Rattle.cel_check.specs.declared.tree.TypedTree.TheFolds.{map-TypedTree, fold_out-TypedTree}
 use Rattle.cel_check.specs.declared.tree.Form.{Form}
@@ -19,7 +23,7 @@ use Rattle.cel_code.specs.Compiled.{EachOnce, nothing, first, again, IsCompiled,
 use Rattle.cel_code.specs.Compiled.{sizes_of, literals_of, targets_of}
 use Rattle.cel_check.specs.Typing.{root_types}
 use Rattle.cel_code.specs.Drafts.{drafted, Grows, WritesWithin, Writes, WritesEach, layouts_of}
-use Rattle.cel_check.specs.Meaning.{type_of}
+use Rattle.cel_check.specs.Meaning.{type_of, by_turns}
 use Rattle.cel_code.specs.Placed.{code_in, with_instr, Emits}
 use Rattle.cel_code.proofs.Place.{contains_at, placed}
 
@@ -29,6 +33,15 @@ pub laid : (e : TypedTree) (f : Form TypedTree) → (out-TypedTree e).form ≡ f
 laid e f h =
     fold_out-TypedTree Layout layout_step e
     ∙ ap (λ g. layout_step (map-TypedTree _ _ layout_of (record { cel_type = type_of e; form = g }))) h
+
+-- a level of several parts and one instruction
+abbrev laid_each : CelType → List Layout → Layout
+laid_each t xs = record { type = t; size = sizes_of xs + 1; literals = literals_of xs; joins = false; within = targets_of xs }
+
+-- the layout of keys and values by turns
+pub laid_map : (e : TypedTree) (es : List (Entry TypedTree)) → (out-TypedTree e).form ≡ form.MapOf es
+    → layout_of e ≡ laid_each (type_of e) (layouts_of (by_turns es))
+laid_map e es h = laid e _ h ∙ ap (laid_each (type_of e)) (turns_parts TypedTree Layout layout_of es)
 
 type_laid : (e : TypedTree) → (layout_of e).type ≡ type_of e
 type_laid e = ap (λ l. l.type) (fold_out-TypedTree Layout layout_step e)
@@ -172,19 +185,31 @@ writes_first old d1 d2 new a rest wa code targets under w =
       below = w.below ∙ ap (λ b. b ++ root_types rest) below_is ∙ append_assoc old.below (type_of a ∷ []) (root_types rest);
     }
 
-pub writes_items : (old d1 d2 new : Draft) (e : TypedTree) (xs ys : List TypedTree) → (out-TypedTree e).form ≡ form.ListOf xs
-    → ys ≡ xs → WritesEach old d1 ys → drafted d2 ≡ drafted d1 → d2.targets ≡ d1.targets → d2.below ≡ old.below
+-- keys and values by turns, and the instruction behind them
+pub writes_entries : (old d1 d2 new : Draft) (e : TypedTree) (es fs : List (Entry TypedTree)) → (out-TypedTree e).form ≡ form.MapOf es
+    → fs ≡ es → WritesEach old d1 (by_turns fs) → drafted d2 ≡ drafted d1 → d2.targets ≡ d1.targets → d2.below ≡ old.below
     → Grows d2 new 1 [] [] → WritesWithin old new e old.below
-writes_items old d1 d2 new e xs ys is same w code targets under g =
-    let w : WritesEach old d1 xs = rw (sym same) w in
-    let all : Grows old d2 (sizes_of (layouts_of xs)) (literals_of (layouts_of xs)) (targets_of (layouts_of xs) (length old.code) old.below) =
+writes_entries old d1 d2 new e es fs is same w code targets under g =
+    let w : WritesEach old d1 (by_turns es) = rw (sym same) w in
+    let xs = layouts_of (by_turns es) in
+    let all : Grows old d2 (sizes_of xs) (literals_of xs) (targets_of xs (length old.code) old.below) =
     record {
       size = ap (λ c. length c.instrs) code ∙ w.size;
-      constants = λ before once. subst (λ cs. EachOnce (before ++ literals_of (layouts_of xs)) cs) (sym (ap (λ c. c.constants) code)) (w.constants before once);
+      constants = λ before once. subst (λ cs. EachOnce (before ++ literals_of xs) cs) (sym (ap (λ c. c.constants) code)) (w.constants before once);
       targets = targets ∙ w.targets;
       below = under;
     } in
-    record { grows = rw (laid e _ is) (grows_code old d2 new _ _ _ _ all g) }
+    record { grows = rw (laid_map e es is) (grows_code old d2 new _ _ _ _ all g) }
+
+-- an operand, the text among the constants, and the instruction
+pub writes_with_text : (old d1 d2 new : Draft) (e : TypedTree) (op : TextOperator) (a a' : TypedTree) (text : List ℕ)
+    → (out-TypedTree e).form ≡ form.WithText op a text → a' ≡ a → Writes old d1 a' old.below
+    → Grows d1 d2 0 (value.Text text ∷ []) [] → Grows d2 new 1 [] [] → WritesWithin old new e old.below
+writes_with_text old d1 d2 new e op a a' text is same wa gi gp =
+    let wa : Writes old d1 a old.below = rw (sym same) wa in
+    let ts = targets_from (layout_of a) (length old.code) old.below in
+    let both = grows_on old d1 d2 _ _ _ _ _ _ wa.grows gi in
+    record { grows = rw (laid e _ is) (grows_as _ _ _ _ _ _ _ _ (omega arith) refl (sym (append-nil ts)) (grows_code old d2 new _ _ _ _ both gp)) }
 
 -- what was written from nothing on, and END
 pub compiled : (start draft all : Draft) (image : Image) (e tree : TypedTree) (types : List CelType) → e ≡ tree

@@ -3,14 +3,15 @@ use Rattle.std.specs.Prelude.{◌≡◌, ℕ, ◌+◌, Bool, true, false, List}
 use Rattle.std.specs.Prelude.{[], ◌∷◌, ◌++◌, length, Contains, if◌then◌else◌}
 use Rattle.cel_value.specs.declared.cel_type.CelType.{CelType}
 use Rattle.cel_value.specs.declared.value.Value.{Value}
+use Rattle.cel_value.specs.declared.value.Value as value
 use Rattle.cel_check.specs.declared.tree.TypedTree.{TypedTree, fold-TypedTree}
 use Rattle.cel_check.specs.declared.tree.TypedTree.TheOpen.{TypedTree-F}
 use Rattle.cel_check.specs.declared.tree.Form.{Form}
-use Rattle.cel_check.specs.declared.tree.Form.TheVariants.{Literal, Unary, Binary, And, Or, Conditional, ListOf, Slot}
+use Rattle.cel_check.specs.declared.tree.Form.TheVariants.{Literal, Unary, Binary, And, Or, Conditional, ListOf, MapOf, WithText, Slot}
 use Rattle.cel_code.specs.declared.instr.Instr.TheVariants.{End}
 use Rattle.cel_code.specs.declared.image.Image.{Image}
 use Rattle.cel_code.specs.declared.image.Target.{Target}
-use Rattle.cel_check.specs.Meaning.{type_of}
+use Rattle.cel_check.specs.Meaning.{type_of, by_turns}
 use Rattle.cel_code.specs.Placed.{code_in, Has, Stands}
 
 -- the values of a list, each once, in the order in which they come first: of nothing there are none, a last value that is
@@ -47,6 +48,8 @@ size_at (And a b) = a.size + 1 + b.size + 1
 size_at (Or a b) = a.size + 1 + b.size + 1
 size_at (Conditional c a b) = c.size + 1 + a.size + 1 + b.size
 size_at (ListOf xs) = sizes_of xs + 1
+size_at (MapOf es) = sizes_of (by_turns es) + 1
+size_at (WithText op a text) = a.size + 1
 
 -- the literals of several, from left to right
 abbrev pub literals_of : List Layout → List Value
@@ -63,6 +66,8 @@ literals_at (And a b) = a.literals ++ b.literals
 literals_at (Or a b) = a.literals ++ b.literals
 literals_at (Conditional c a b) = c.literals ++ a.literals ++ b.literals
 literals_at (ListOf xs) = literals_of xs
+literals_at (MapOf es) = literals_of (by_turns es)
+literals_at (WithText op a text) = a.literals ++ value.Text text ∷ []
 
 -- whether jumps of a level go to its end
 abbrev pub joins_at : {A : Type 0} → Form A → Bool
@@ -104,6 +109,8 @@ within_at (Or a b) from below = targets_from a from below ++ targets_from b (fro
 within_at (Conditional c a b) from below =
     targets_from c from below ++ targets_from a (from + c.size + 1) below ++ second_branch b (from + c.size + 1 + a.size + 1) below
 within_at (ListOf xs) from below = targets_of xs from below
+within_at (MapOf es) from below = targets_of (by_turns es) from below
+within_at (WithText op a text) from below = targets_from a from below
 
 -- a node by the layouts of its parts
 abbrev pub layout_step : TypedTree-F Layout → Layout

@@ -3,7 +3,7 @@ use Rattle.std.specs.Prelude.{◌≡◌, ℕ, IsTrue, List, Some}
 use Rattle.cel_value.specs.declared.cel_type.CelType.{CelType}
 use Rattle.cel_check.specs.declared.tree.TypedTree.{TypedTree}
 use Rattle.cel_code.specs.declared.image.Image.{Image}
-use Rattle.cel_check.specs.Outcomes.{Outcome, slots_fit, outcome_fits, outside}
+use Rattle.cel_operators.specs.Outcomes.{Outcome, slots_fit, outcome_fits, outside}
 use Rattle.cel_check.specs.Meaning.{type_of, value_of, cost_of}
 use Rattle.cel_code.specs.Machine.{Run}
 

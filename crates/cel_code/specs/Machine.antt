@@ -1,16 +1,20 @@
 -- What the machine does with an image, one instruction at a time.
 use Rattle.std.specs.Prelude.{◌≡◌, ℕ, zero, suc, ◌+◌, true, false, List, [], ◌∷◌, Option, Some, None, Ok, Err, slice_get}
-use Rattle.cel_value.specs.declared.value.Value.{Value}
-use Rattle.cel_check.specs.declared.operator.Operator.{Operator}
+use Rattle.cel_value.specs.declared.value.Value.{Value, out-Value}
+use Rattle.cel_operators.specs.declared.operator.Operator.{Operator}
 use Rattle.cel_code.specs.declared.instr.Instr.{Instr}
-use Rattle.cel_code.specs.declared.instr.Instr.TheVariants.{Const, Op, AndTest, OrTest, And, Or, Cond, Jump, End, Slot}
+use Rattle.cel_code.specs.declared.instr.Instr.TheVariants.{Const, Op, WithText, AndTest, OrTest, And, Or, Cond, Jump, End, Slot}
 use Rattle.cel_code.specs.declared.instr.Instr.TheVariants as instr
 use Rattle.cel_code.specs.declared.image.Image.{Image}
-use Rattle.cel_check.specs.Outcomes.{Outcome, Side, and_of, or_of, both_sides}
-use Rattle.cel_check.specs.Wants.{side_of}
-use Rattle.cel_check.specs.declared.operator.Made.{Made}
-use Rattle.cel_check.specs.Operators.{Row, One, Two, row, operator_of, at_one, at_two}
-use Rattle.cel_check.specs.Lists.{list_made}
+use Rattle.cel_operators.specs.Outcomes.{Outcome, Side, and_of, or_of, both_sides}
+use Rattle.cel_operators.specs.Wants.{side_of}
+use Rattle.cel_operators.specs.declared.operator.Made.{Made}
+use Rattle.cel_operators.specs.Operators.{Row, One, Two, row, operator_of, at_one, at_two}
+use Rattle.cel_operators.specs.Lists.{list_made}
+use Rattle.cel_operators.specs.Maps.{map_made}
+use Rattle.cel_operators.specs.TextOperators.{row_with}
+use Rattle.cel_check.specs.Typing.{literal_text_at}
+use Rattle.cel_operators.specs.declared.text_operator.TextOperator.{TextOperator}
 
 -- an open loop: where it begins and where it leads, and the items of its range, the present one first
 pub record Frame : Type 0 where
@@ -71,6 +75,16 @@ abbrev pub operate_by : Option Operator → ℕ → List Outcome → List Frame 
 operate_by None at stack frames = Stuck
 operate_by (Some op) at stack frames = operate (row op) at stack frames
 
+-- the text that a constant is, if it is one
+abbrev pub constant_text : Option Value → Option (List ℕ)
+constant_text None = None
+constant_text (Some v) = literal_text_at (out-Value v)
+
+-- an operator with a text, where there is one
+abbrev pub operate_with : TextOperator → Option (List ℕ) → ℕ → List Outcome → List Frame → Next
+operate_with op None at stack frames = Stuck
+operate_with op (Some text) at stack frames = operate (row_with op text) at stack frames
+
 -- so many off the top of a stack, in front of those that were taken before, and what is below; None where there are fewer
 abbrev pub taken_off : {A : Type 0} → ℕ → List A → List A → Option (List A × List A)
 taken_off zero taken stack = Some (taken, stack)
@@ -81,6 +95,11 @@ taken_off (suc n) taken (x ∷ stack) = taken_off n (x ∷ taken) stack
 abbrev pub listed : Option (List Outcome × List Outcome) → ℕ → List Frame → Next
 listed None at frames = Stuck
 listed (Some p) at frames = made (Some (list_made p.0)) at p.1 frames
+
+-- the map of what was taken, keys and values by turns, on what is below
+abbrev pub mapped : Option (List Outcome × List Outcome) → ℕ → List Frame → Next
+mapped None at frames = Stuck
+mapped (Some p) at frames = made (map_made p.0) at p.1 frames
 
 -- a false left of `&&` jumps; the stack stays
 abbrev pub and_test : Option Side → ℕ → ℕ → List Outcome → List Frame → Next
@@ -118,7 +137,9 @@ abbrev pub act : Inputs → Instr → ℕ → List Outcome → List Frame → Ne
 act inputs (Const k) at stack frames = push (constant (slice_get inputs.constants k)) at stack frames
 act inputs (Slot n) at stack frames = slot (slice_get inputs.slots n) at stack frames
 act inputs (Op o) at stack frames = operate_by (operator_of o) at stack frames
+act inputs (WithText op k) at stack frames = operate_with op (constant_text (slice_get inputs.constants k)) at stack frames
 act inputs (instr.List n) at stack frames = listed (taken_off n [] stack) at frames
+act inputs (instr.Map n) at stack frames = mapped (taken_off (n + n) [] stack) at frames
 act inputs (AndTest to) at (x ∷ stack) frames = and_test (side_of (Some x)) to at (x ∷ stack) frames
 act inputs (OrTest to) at (x ∷ stack) frames = or_test (side_of (Some x)) to at (x ∷ stack) frames
 act inputs And at (y ∷ x ∷ stack) frames = joined (join and_of (side_of (Some x)) (side_of (Some y))) at stack frames

@@ -2,15 +2,18 @@
 use Rattle.std.specs.Prelude.{◌≡◌, ℕ, ◌+◌, ◌<◌, ◌≤◌, List, []}
 use Rattle.std.specs.Prelude.{◌∷◌, ◌++◌, length, Some, slice_get, slice_set}
 use Rattle.cel_value.specs.declared.value.Value.{Value}
-use Rattle.cel_check.specs.declared.operator.Operator.{Operator}
+use Rattle.cel_value.specs.declared.value.Value as value
+use Rattle.cel_grammar.specs.declared.tree.Entry.{Entry}
+use Rattle.cel_operators.specs.declared.text_operator.TextOperator.{TextOperator}
+use Rattle.cel_operators.specs.declared.operator.Operator.{Operator}
 use Rattle.cel_check.specs.declared.tree.TypedTree.{TypedTree}
 use Rattle.cel_check.specs.declared.tree.Form.TheVariants as form
 use Rattle.cel_code.specs.declared.instr.Instr.{Instr}
-use Rattle.cel_code.specs.declared.instr.Instr.TheVariants.{Const, Op, AndTest, OrTest, And, Or, Cond, Jump, Slot}
+use Rattle.cel_code.specs.declared.instr.Instr.TheVariants.{Const, Op, WithText, AndTest, OrTest, And, Or, Cond, Jump, Slot}
 use Rattle.cel_code.specs.declared.instr.Instr.TheVariants as instr
 use Rattle.cel_code.specs.declared.image.Image.{Image}
-use Rattle.cel_check.specs.Meaning.{IsForm}
-use Rattle.cel_check.specs.Operators.{code_of}
+use Rattle.cel_check.specs.Meaning.{IsForm, by_turns}
+use Rattle.cel_operators.specs.Operators.{code_of}
 
 -- what the machine reads of an image: constants and instructions
 pub record Code : Type 0 where
@@ -46,6 +49,12 @@ pub record Pushes (code : Code) (from to : ℕ) (v : Value) : Type 0 where
   pub constant : slice_get code.constants number ≡ Some v
   pub next : to ≡ from + 1
 
+-- an operator with a text stands at a place
+pub record HasText (code : Code) (at : ℕ) (op : TextOperator) (text : List ℕ) : Type 0 where
+  pub number : ℕ
+  pub instr : Has code at (WithText op number)
+  pub constant : slice_get code.constants number ≡ Some (value.Text text)
+
 mutual
   -- the instructions of an expression stand from one place up to another
   pub data Stands (code : Code) : TypedTree → ℕ → ℕ → Type 0 where
@@ -57,6 +66,8 @@ mutual
     either : {e : TypedTree} {from to : ℕ} (a b : TypedTree) (m n : ℕ) → IsForm e (form.Or a b) → Stands code a from m → Has code m (OrTest to) → Stands code b (m + 1) n → Has code n Or → to ≡ n + 1 → Stands code e from to
     conditional : {e : TypedTree} {from to : ℕ} (c a b : TypedTree) (m n : ℕ) → IsForm e (form.Conditional c a b) → Stands code c from m → Has code m (Cond (n + 1) to) → Stands code a (m + 1) n → Has code n (Jump to) → Stands code b (n + 1) to → Stands code e from to
     items : {e : TypedTree} {from to : ℕ} (xs : List TypedTree) (m : ℕ) → IsForm e (form.ListOf xs) → StandEach code xs from m → Has code m (instr.List (length xs)) → to ≡ m + 1 → Stands code e from to
+    entries : {e : TypedTree} {from to : ℕ} (es : List (Entry TypedTree)) (m : ℕ) → IsForm e (form.MapOf es) → StandEach code (by_turns es) from m → Has code m (instr.Map (length es)) → to ≡ m + 1 → Stands code e from to
+    with_text : {e : TypedTree} {from to : ℕ} (op : TextOperator) (a : TypedTree) (text : List ℕ) (m : ℕ) → IsForm e (form.WithText op a text) → Stands code a from m → HasText code m op text → to ≡ m + 1 → Stands code e from to
 
   -- the instructions of several expressions stand one after another
   pub data StandEach (code : Code) : List TypedTree → ℕ → ℕ → Type 0 where

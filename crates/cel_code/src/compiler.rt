@@ -1,7 +1,8 @@
 ghost use Rattle.std.specs.Prelude.{◌≡◌, ◌+◌, ◌<◌, List, [], ◌∷◌, ◌++◌, length, IfOk, OnOk, Some};
 ghost use Rattle.cel_value.specs.declared.cel_type.CelType.{CelType};
+ghost use Rattle.cel_value.specs.declared.value.Value as value;
 ghost use Rattle.cel_code.specs.declared.image.Image.{Image};
-ghost use Rattle.cel_check.specs.Meaning.{IsForm, type_of};
+ghost use Rattle.cel_check.specs.Meaning.{IsForm, type_of, by_turns};
 ghost use Rattle.cel_code.specs.Placed.{with_instr, patched, Interns, Emits, EmitsEach};
 ghost use Rattle.cel_check.specs.declared.tree.Form.TheVariants as form;
 ghost use Rattle.cel_code.specs.Compiled.{IsCompiled, joins_at, target};
@@ -13,8 +14,9 @@ use crate::constants::Constants;
 use crate::image::{Image, Target};
 use crate::instr::Instr;
 use cel_check::{Form, Typed, TypedTree};
+use cel_parse::Entry;
 use cel_value::{CelType, Value, copy_types};
-use plain::Items;
+use plain::{Items, Text};
 use std::alloc::{AllocError, Global};
 
 /// The image of an expression: its run gives the expression's value or error, and charges exactly what the
@@ -119,6 +121,14 @@ impl Draft {
         Ok(number)
     }
 
+    /// The number of a constant text, likewise.
+    fn intern_text(&mut self, text: &Text) -> Result<usize, AllocError>
+        ensures number { IfOk result (λ k. Interns (drafted self.old) (drafted self.new) (value.Text text.now) k) }
+        ensures grows { IfOk result (λ k. Grows self.old self.new 0 (value.Text text.now ∷ []) []) }
+    {
+        self.intern(&Value::Text(text.copy()?))
+    }
+
     /// Leaves so many types where the code goes on.
     fn leave(&mut self, count: usize)
         ensures code { drafted self.new ≡ drafted self.old }
@@ -187,29 +197,61 @@ impl Draft {
                 self.emit_over(right.get(), &left.get().cel_type)?;
                 self.put(Instr::Op(operator.code()))
             }
-            Form::And(left, right) => {
-                self.emit(left.get())?;
-                let test = self.len();
-                self.put(Instr::AndTest(0))?;
-                self.emit_over(right.get(), &left.get().cel_type)?;
-                self.put(Instr::And)?;
-                self.patch(test, Instr::AndTest(self.len()));
-                Ok(())
-            }
-            Form::Or(left, right) => {
-                self.emit(left.get())?;
-                let test = self.len();
-                self.put(Instr::OrTest(0))?;
-                self.emit_over(right.get(), &left.get().cel_type)?;
-                self.put(Instr::Or)?;
-                self.patch(test, Instr::OrTest(self.len()));
-                Ok(())
-            }
+            Form::And(left, right) => self.emit_and(tree, left.get(), right.get()),
+            Form::Or(left, right) => self.emit_or(tree, left.get(), right.get()),
             Form::Conditional(condition, yes, no) => {
                 self.emit_conditional(tree, condition.get(), yes.get(), no.get())
             }
             Form::ListOf(items) => self.emit_list(tree, items),
+            Form::MapOf(entries) => self.emit_map(tree, entries),
+            Form::WithText(operator, operand, text) => {
+                self.emit(operand.get())?;
+                let number = self.intern_text(text)?;
+                self.put(Instr::WithText(*operator, number))
+            }
         }
+    }
+
+    /// The instructions of both sides of `&&`, and the test between them.
+    #[cycle(emit)]
+    fn emit_and(
+        &mut self,
+        tree: &TypedTree,
+        left: &TypedTree,
+        right: &TypedTree,
+    ) -> Result<(), AllocError>
+        requires { IsForm tree.now (form.And left.now right.now) }
+        ensures stands { OnOk result (Emits (drafted self.old) (drafted self.new) tree.now) }
+        ensures writes { OnOk result (WritesWithin self.old self.new tree.now self.old.below) }
+    {
+        self.emit(left)?;
+        let test = self.len();
+        self.put(Instr::AndTest(0))?;
+        self.emit_over(right, &left.cel_type)?;
+        self.put(Instr::And)?;
+        self.patch(test, Instr::AndTest(self.len()));
+        Ok(())
+    }
+
+    /// The instructions of both sides of `||`, and the test between them.
+    #[cycle(emit)]
+    fn emit_or(
+        &mut self,
+        tree: &TypedTree,
+        left: &TypedTree,
+        right: &TypedTree,
+    ) -> Result<(), AllocError>
+        requires { IsForm tree.now (form.Or left.now right.now) }
+        ensures stands { OnOk result (Emits (drafted self.old) (drafted self.new) tree.now) }
+        ensures writes { OnOk result (WritesWithin self.old self.new tree.now self.old.below) }
+    {
+        self.emit(left)?;
+        let test = self.len();
+        self.put(Instr::OrTest(0))?;
+        self.emit_over(right, &left.cel_type)?;
+        self.put(Instr::Or)?;
+        self.patch(test, Instr::OrTest(self.len()));
+        Ok(())
     }
 
     /// The instructions of a condition and of its branches. The second branch ends where the conditional does, whose
@@ -251,6 +293,38 @@ impl Draft {
         self.emit_each(items.as_slice())?;
         self.leave(below);
         self.put(Instr::List(items.len()))
+    }
+
+    /// The instructions of keys and values, and of their map.
+    #[cycle(emit)]
+    fn emit_map(
+        &mut self,
+        tree: &TypedTree,
+        entries: &Items<Entry<TypedTree>>,
+    ) -> Result<(), AllocError>
+        requires { IsForm tree.now (form.MapOf entries.now) }
+        ensures stands { OnOk result (Emits (drafted self.old) (drafted self.new) tree.now) }
+        ensures writes { OnOk result (WritesWithin self.old self.new tree.now self.old.below) }
+    {
+        let below = self.below.len();
+        self.emit_entries(entries.as_slice())?;
+        self.leave(below);
+        self.put(Instr::Map(entries.len()))
+    }
+
+    /// The instructions of keys and values by turns, each over the types of those before it, which stay.
+    #[cycle(emit)]
+    fn emit_entries(&mut self, entries: &[Entry<TypedTree>]) -> Result<(), AllocError>
+        ensures stands { OnOk result (EmitsEach (drafted self.old) (drafted self.new) (by_turns entries.now)) }
+        ensures writes { OnOk result (WritesEach self.old self.new (by_turns entries.now)) }
+    {
+        for entry in entries {
+            self.emit(&entry.key)?;
+            self.below.push(entry.key.cel_type.copy()?)?;
+            self.emit(&entry.value)?;
+            self.below.push(entry.value.cel_type.copy()?)?;
+        }
+        Ok(())
     }
 
     /// The instructions of expressions one after another, each over the types of those before it, which stay.

@@ -12,7 +12,8 @@ fn is(word: &[u8], other: &str) -> bool
     word == other.as_bytes()
 }
 
-fn keyword_at(word: &[u8]) -> Option<TokenKind>
+/// The token of a word that is a keyword.
+pub fn keyword_at(word: &[u8]) -> Option<TokenKind>
     ensures { result ≡ keyword word.now }
 {
     if is(word, "true") {
@@ -28,7 +29,8 @@ fn keyword_at(word: &[u8]) -> Option<TokenKind>
     }
 }
 
-fn is_reserved_word(word: &[u8]) -> bool
+/// Whether a word is reserved: no name, and no keyword.
+pub fn is_reserved_word(word: &[u8]) -> bool
     ensures { result ≡ is_reserved word.now }
 {
     is(word, "as")

@@ -1,8 +1,4 @@
-pub mod Counts
-pub mod Families
-pub mod Folds
-pub mod Joins
+pub mod Gathering
 pub mod Meters
 pub mod Running
-pub mod TextOrder
 pub mod Values

@@ -4,7 +4,7 @@ use Rattle.std.proofs.Common.{[], length, Some, refl, sym, ap, ◌∙◌, subst,
 use Rattle.std.specs.Prelude.{slice_get}
 use Rattle.cel_code.specs.declared.instr.Instr.{Instr}
 use Rattle.cel_code.specs.declared.image.Image.{Image}
-use Rattle.cel_check.specs.Outcomes.{Outcome, slots_fit}
+use Rattle.cel_operators.specs.Outcomes.{Outcome, slots_fit}
 use Rattle.cel_code.specs.Machine.{State, on, Next, Goes, Ends, Stuck, act, act_at, step, inputs_of, Gets, Run}
 use Rattle.cel_machine.specs.declared.step.Move.{Move}
 use Rattle.cel_machine.specs.declared.step.Move.TheVariants.{GoesTo, EndsWith, IsStuckHere}

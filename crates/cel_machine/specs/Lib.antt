@@ -1,7 +1,5 @@
-pub mod Families
+pub mod Faults
 pub mod Follow
-pub mod Kinds
-pub mod Lent
+pub mod Found
 pub mod Operand
 pub mod Room
-pub mod Parts

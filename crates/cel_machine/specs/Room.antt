@@ -1,6 +1,6 @@
 -- Stacks of operands with their room.
 use Rattle.std.specs.Prelude.{◌<◌, ℕ, List, length}
-use Rattle.cel_check.specs.Outcomes.{Outcome}
+use Rattle.cel_operators.specs.Outcomes.{Outcome}
 
 -- the operands, the top first, and how many there is room for
 pub record Operands : Type 0 where

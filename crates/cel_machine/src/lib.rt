@@ -1,28 +1,29 @@
 //! The machine.
 //!
 //! [`run`] runs a program that `cel_verify` accepted, where its slots hold what [`Slots`] has: it answers the
-//! definition's outcome, with what the run charges and how many steps it takes, and refuses nothing but for want of
-//! memory. [`slots_fit`] is the test of what slots may hold. What slots and constants hold is lent and not copied, and so
-//! is what [`field`] takes out of it; the items of a list literal are copied where they are lent.
+//! definition's outcome, with what the run charges and how many steps it takes. It is given up where memory is wanting
+//! or a pattern is not built, and refuses nothing else. [`slots_fit`] is the test of what slots may hold. What slots and
+//! constants hold is lent and not copied, and so is what [`field`] takes out of it; what a list or a map literal takes in
+//! is copied where it is lent. [`Matchers`] keeps the patterns that a run built for later ones.
 #![tactic(auto)]
 
-mod comparing;
 mod ended;
-mod folding;
-mod kinds;
+mod fault;
+mod indexing;
 mod listing;
-mod lists;
 mod machine;
-mod numbers;
+mod mapping;
 mod operand;
-mod operate;
 mod parts;
+mod searching;
 mod slots;
 mod stack;
 mod step;
-mod texts;
+mod with_text;
 
+pub use cel_patterns::Matchers;
 pub use ended::Run;
+pub use fault::RunFault;
 pub use machine::run;
 pub use operand::Operand;
 pub use parts::field;

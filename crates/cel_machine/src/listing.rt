@@ -1,14 +1,15 @@
 //! The instruction that makes a list.
 
 ghost use Rattle.std.specs.Prelude.{◌≡◌, ◌+◌, ◌<◌, ◌≤◌, ◌^◌, [], length, IfOk, MatchOption, None, Some};
-ghost use Rattle.cel_check.specs.Lists.{values_in, list_made};
+ghost use Rattle.cel_operators.specs.Lists.{values_in, list_made};
 ghost use Rattle.cel_code.specs.Machine.{taken_off, listed};
 ghost use Rattle.cel_machine.specs.Room.{HasRoom};
-ghost use Rattle.cel_machine.specs.Follow.{LeadsTo, counted};
+ghost use Rattle.cel_machine.specs.Follow.{LeadsTo};
+ghost use Rattle.cel_apply.specs.Counted.{counted};
 
 use crate::stack::Stack;
 use crate::step::{Move, finish};
-use cel_check::Made;
+use cel_operators::Made;
 use cel_value::{CelError, Value};
 use plain::Items;
 use std::alloc::{AllocError, Global};

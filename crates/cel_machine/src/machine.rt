@@ -1,22 +1,34 @@
 ghost use Rattle.std.specs.Prelude.{◌≡◌, ◌≤◌, true, length, IfOk};
-ghost use Rattle.cel_check.specs.Outcomes.{slots_fit};
+ghost use Rattle.cel_operators.specs.Outcomes.{slots_fit};
 ghost use Rattle.cel_code.specs.Machine.{Run as IsRun};
 ghost use Rattle.cel_verify.specs.StackTypes.{Fits};
 ghost use Rattle.cel_verify.specs.Paths.{path_cost};
 ghost use Rattle.cel_verify.specs.Accepted.{budget};
 
 use crate::ended::Run;
+use crate::fault::RunFault;
 use crate::slots::Slots;
 use crate::stack::Stack;
 use crate::step::{Move, step};
+use cel_patterns::Matchers;
 use cel_verify::Program;
-use std::alloc::{AllocError, Global};
+use std::alloc::Global;
 
 /// Runs a program where its slots hold these. The run is the definition's; it ends within as many steps as there are
 /// instructions, for no more than the dearest route and no more than the budget, with an outcome of the image's type.
 /// Constants and what the slots hold are lent to it: memory is taken for the stack, once, before the first step, for the
-/// lists that literals make, and for the outcome where it is a copy of a constant or of what a slot holds.
-pub fn run<'a>(alloc: Global, program: &'a Program, slots: &'a Slots<'_>) -> Result<Run, AllocError>
+/// lists and maps that literals make, for the texts, lists and copied items that operators answer with, for patterns that
+/// are built and searched for, and for the outcome where it is a copy of a constant or of what a slot holds.
+///
+/// `matchers` finds the patterns of the program, and keeps what it built for later runs; no answer depends on that.
+///
+/// The run is given up where memory is wanting, or where a pattern is found to take too much room to be built.
+pub fn run<'a>(
+    alloc: Global,
+    program: &'a Program,
+    slots: &'a Slots<'_>,
+    matchers: &mut Matchers,
+) -> Result<Run, RunFault>
     requires { slots_fit program.now.slots slots.now ≡ true }
     ensures run { IfOk result (λ r. IsRun program.now slots.now r.outcome r.charged r.steps) }
     ensures fits { IfOk result (λ r. Fits r.outcome program.now.result) }
@@ -30,7 +42,7 @@ pub fn run<'a>(alloc: Global, program: &'a Program, slots: &'a Slots<'_>) -> Res
     let mut charged: u64 = 0;
     let mut steps: u64 = 0;
     while let Some(instr) = image.code.get(at) {
-        match step(alloc, image, slots, *instr, at, &mut stack)? {
+        match step(alloc, image, slots, *instr, at, &mut stack, matchers)? {
             Move::GoesTo(charge, to) => {
                 charged += charge;
                 steps += 1;

@@ -1,5 +1,5 @@
 ghost use Rattle.std.specs.Prelude.{◌≡◌, IfOk};
-ghost use Rattle.cel_machine.specs.Lent.{lent};
+ghost use Rattle.cel_apply.specs.Lent.{lent};
 ghost use Rattle.cel_machine.specs.Operand.{content_of};
 
 use cel_value::{CelError, Value};

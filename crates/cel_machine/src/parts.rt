@@ -1,8 +1,14 @@
-ghost use Rattle.std.specs.Prelude.{◌≡◌, Ok, IfOk, option_map};
-ghost use Rattle.cel_machine.specs.Lent.{lent};
-ghost use Rattle.cel_machine.specs.Parts.{field_of};
+//! Fields of objects, and what maps hold under keys.
+
+ghost use Rattle.std.specs.Prelude.{◌≡◌, Some, Ok, IfOk, option_map};
+ghost use Rattle.cel_operators.specs.Operators.{at_one, outcome_made};
+ghost use Rattle.cel_operators.specs.TextOperators.{row_with};
+ghost use Rattle.cel_apply.specs.Counted.{counted};
+ghost use Rattle.cel_apply.specs.Lent.{lent};
 
 use crate::operand::{Held, Operand};
+use cel_apply::{alone, made, members};
+use cel_operators::{Made, TextOperator};
 use cel_value::{CelError, Value};
 use std::alloc::{AllocError, Global};
 
@@ -15,7 +21,7 @@ pub fn field<'a>(
     operand: Result<Operand<'a>, CelError>,
     name: &str,
 ) -> Result<Option<Result<Operand<'a>, CelError>>, AllocError>
-    ensures { IfOk result (λ part. part ≡ field_of name.now operand.entry) }
+    ensures { IfOk result (λ part. part ≡ outcome_made (at_one (row_with TextOperator.Select name.now) (Some operand.entry))) }
 {
     match operand {
         Err(error) => Ok(Some(Err(error))),
@@ -31,13 +37,22 @@ pub fn field<'a>(
 
 // A field, where it stands.
 fn field_in<'v>(value: &'v Value, name: &str) -> Option<Result<&'v Value, CelError>>
-    ensures { option_map lent result ≡ field_of name.now (Ok value.now) }
+    ensures { option_map lent result ≡ outcome_made (at_one (row_with TextOperator.Select name.now) (Some (Ok value.now))) }
 {
-    match value {
-        Value::Object(entries) => Some(entries.get(name).ok_or(CelError::NoSuchKey)),
-        Value::Map(entries) => Some(entries.get(name).ok_or(CelError::NoSuchKey)),
-        Value::Null => Some(Err(CelError::NullOperand)),
-        _ => None,
+    match members(Ok(value)) {
+        Some(Ok(entries)) => Some(entries.get(name).ok_or(CelError::NoSuchKey)),
+        Some(Err(error)) => Some(Err(error)),
+        None => None,
+    }
+}
+
+/// Whether an operand has the field, or holds something under the key.
+pub fn has_field(x: Result<&Value, CelError>, name: &str) -> Option<Made>
+    ensures { result ≡ counted (at_one (row_with TextOperator.Has name.now) (Some (lent x.entry))) }
+{
+    match alone(members(x)) {
+        Ok(entries) => made(Ok(Value::Bool(entries.get(name).is_some())), 1),
+        Err(made) => made,
     }
 }
 

@@ -1,6 +1,6 @@
 ghost use Rattle.std.specs.Prelude.{◌≡◌, Some, true, option_map, slice_get};
-ghost use Rattle.cel_check.specs.Outcomes.{outcome_fits, slots_fit as fits_slots};
-ghost use Rattle.cel_machine.specs.Lent.{lent, all_lent};
+ghost use Rattle.cel_operators.specs.Outcomes.{outcome_fits, slots_fit as fits_slots};
+ghost use Rattle.cel_apply.specs.Lent.{lent, all_lent};
 
 use cel_value::{CelError, CelType, Value, fits};
 use cel_verify::Program;
@@ -17,8 +17,8 @@ impl<'a> Model for Slots<'a> {
     ghost use Rattle.std.specs.Prelude.{List};
     ghost use Rattle.std.specs.Coded.{codes};
     ghost use Rattle.cel_value.specs.contracts.value.Value as cel_value;
-    ghost use Rattle.cel_check.specs.Outcomes.{Outcome};
-    ghost use Rattle.cel_machine.specs.Lent.{all_lent};
+    ghost use Rattle.cel_operators.specs.Outcomes.{Outcome};
+    ghost use Rattle.cel_apply.specs.Lent.{all_lent};
 
     ghost Value = { List Outcome };
 

@@ -1,6 +1,6 @@
 ghost use Rattle.std.specs.Prelude.{◌≡◌, ◌∷◌, [], IfOk, MatchOption, option_map};
 ghost use Rattle.cel_machine.specs.Follow.{top_of};
-ghost use Rattle.cel_machine.specs.Lent.{lent};
+ghost use Rattle.cel_apply.specs.Lent.{lent};
 ghost use Rattle.cel_machine.specs.Room.{HasRoom};
 
 use crate::operand::{Operand, read};

@@ -1,21 +1,26 @@
-ghost use Rattle.std.specs.Prelude.{◌≡◌, ◌+◌, ◌<◌, ◌^◌, IfOk, Some, slice_get};
-ghost use Rattle.cel_check.specs.Operators.{row};
-ghost use Rattle.cel_check.specs.Wants.{side_of};
+ghost use Rattle.std.specs.Prelude.{◌≡◌, ◌+◌, ◌<◌, ◌^◌, IfOk, Some, slice_get, option_map};
+ghost use Rattle.cel_operators.specs.Operators.{row};
+ghost use Rattle.cel_operators.specs.Wants.{side_of};
 ghost use Rattle.cel_code.specs.Machine.{Frame, act, inputs_of, push, constant as constant_of, slot as slot_of, operate_by};
 ghost use Rattle.cel_code.specs.Machine.{made as made_next, join as sides_joined};
-ghost use Rattle.cel_machine.specs.Lent.{lent};
+ghost use Rattle.cel_machine.specs.Found.{made_by};
+ghost use Rattle.cel_apply.specs.Lent.{lent};
 ghost use Rattle.cel_machine.specs.Room.{HasRoom};
 ghost use Rattle.cel_machine.specs.Follow.{LeadsTo, Comes, Finishes, metered_one, metered_two, test_of, join_of, sides_of, branch_of};
 
-use crate::kinds::truth;
+use crate::fault::RunFault;
+use crate::indexing::{Found, index_list, index_map};
 use crate::listing::list;
+use crate::mapping::map;
 use crate::operand::{Operand, outcome_of, own, read};
-use crate::operate::{on_one, on_two};
 use crate::parts::lend;
 use crate::slots::Slots;
 use crate::stack::Stack;
-use cel_check::{Made, Operands, Operator};
+use crate::with_text::{operate_with, text_at};
+use cel_apply::{on_one, on_two, truth};
 use cel_code::{Image, Instr};
+use cel_operators::{Made, Operands, Operator};
+use cel_patterns::Matchers;
 use cel_value::{CelError, Value};
 use std::alloc::{AllocError, Global};
 
@@ -36,7 +41,8 @@ pub fn step<'a>(
     instr: Instr,
     at: usize,
     stack: &mut Stack<'a>,
-) -> Result<Move, AllocError>
+    matchers: &mut Matchers,
+) -> Result<Move, RunFault>
     requires at { at + 1 < 2 ^ 64 }
     requires room { HasRoom stack.old }
     ensures acts { IfOk result (λ m. LeadsTo (act (inputs_of image.now slots.now) instr at stack.old.items) m stack.new.items) }
@@ -46,10 +52,15 @@ pub fn step<'a>(
         Instr::Const(number) => Ok(constant(image, number, at, stack)),
         Instr::Slot(number) => Ok(slot(slots, number, at, stack)),
         Instr::Op(code) => match Operator::from_code(code) {
-            Some(op) => operate(alloc, op, at, stack),
+            Some(op) => Ok(operate(alloc, op, at, stack)?),
             None => Ok(Move::IsStuckHere),
         },
-        Instr::List(count) => list(alloc, count, at, stack),
+        Instr::WithText(op, number) => match text_at(image, number) {
+            Some(text) => operate_with(alloc, op, text, at, stack, matchers),
+            None => Ok(Move::IsStuckHere),
+        },
+        Instr::List(count) => Ok(list(alloc, count, at, stack)?),
+        Instr::Map(count) => Ok(map(alloc, count, at, stack)?),
         Instr::AndTest(to) => Ok(test(stack, false, to, at)),
         Instr::OrTest(to) => Ok(test(stack, true, to, at)),
         Instr::And => Ok(join(stack, true, at)),
@@ -123,11 +134,11 @@ fn operate_one(
     finish(on_one(alloc, op, read(&x)), at, stack)
 }
 
-fn operate_two(
+fn operate_two<'a>(
     alloc: Global,
     op: Operator,
     at: usize,
-    stack: &mut Stack<'_>,
+    stack: &mut Stack<'a>,
 ) -> Result<Move, AllocError>
     requires at { at + 1 < 2 ^ 64 }
     requires room { HasRoom stack.old }
@@ -140,25 +151,46 @@ fn operate_two(
     let Some(x) = stack.pop() else {
         return Ok(Move::IsStuckHere);
     };
-    finish(on_two(alloc, op, read(&x), read(&y)), at, stack)
+    match op {
+        Operator::IndexList => Ok(finish_found(index_list(alloc, x, read(&y))?, at, stack)),
+        Operator::IndexMap => Ok(finish_found(index_map(alloc, x, read(&y))?, at, stack)),
+        _ => finish(on_two(alloc, op, read(&x), read(&y)), at, stack),
+    }
+}
+
+// On to the next instruction with what an index found.
+fn finish_found<'a>(found: Option<Found<'a>>, at: usize, stack: &mut Stack<'a>) -> Move
+    requires at { at + 1 < 2 ^ 64 }
+    requires room { HasRoom stack.old }
+    ensures acts { Comes (made_next (option_map made_by found.entry) at stack.old.items) result stack.new.items }
+    ensures room { stack.new.room ≡ stack.old.room }
+{
+    let Some(part) = found else {
+        return Move::IsStuckHere;
+    };
+    stack.push(part.operand);
+    Move::GoesTo(part.charge, at + 1)
 }
 
 /// On to the next instruction with what was made.
-pub fn finish(
-    made: Result<Option<Made>, AllocError>,
+pub fn finish<E: Drop>(
+    made: Result<Option<Made>, E>,
     at: usize,
     stack: &mut Stack<'_>,
-) -> Result<Move, AllocError>
+) -> Result<Move, E>
     requires at { at + 1 < 2 ^ 64 }
     requires room { HasRoom stack.old }
     ensures acts { IfOk result (λ m. Finishes made at stack.old.items m stack.new.items) }
     ensures room { stack.new.room ≡ stack.old.room }
 {
-    let Some(made) = made? else {
-        return Ok(Move::IsStuckHere);
-    };
-    stack.push(own(made.outcome));
-    Ok(Move::GoesTo(made.charge, at + 1))
+    match made {
+        Ok(Some(made)) => {
+            stack.push(own(made.outcome));
+            Ok(Move::GoesTo(made.charge, at + 1))
+        }
+        Ok(None) => Ok(Move::IsStuckHere),
+        Err(error) => Err(error),
+    }
 }
 
 // The jump of a test, which is taken where the top is this truth value.

@@ -2,7 +2,7 @@
 ghost use Rattle.std.specs.Prelude.{◌≡◌, List, ℕ, [], true, false, map, string_bytes};
 ghost use Rattle.std.specs.Prelude.{IfOk, OnOk, OnErr, IsSome, Some, None};
 ghost use Rattle.cel_patterns.specs.Answers.{answer_in, choice_in, Grows, Honours, IsHonest};
-ghost use Rattle.cel_patterns.specs.Choice.{then_answered};
+ghost use Rattle.cel_patterns.specs.Choice.{then_answered, refuses};
 ghost use Rattle.cel_patterns.specs.Meaning.{tree_of};
 
 use crate::building::builds;
@@ -60,6 +60,16 @@ impl Patterns {
         ensures honest { IsHonest self.now }
     {
         self.answers.get(text).copied()
+    }
+
+    /// Whether a text was asked for and refused.
+    pub fn refuses(&self, text: &str) -> bool
+        ensures { result ≡ refuses (choice_in self.now) text.now }
+    {
+        match self.answer(text) {
+            Some(built) => !built,
+            None => false,
+        }
     }
 
     /// The refused texts, in the order in which they were asked for first. It is the choice that the answers make.

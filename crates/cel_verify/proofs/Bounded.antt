@@ -9,10 +9,10 @@ use Rattle.cel_value.specs.declared.cel_type.CelType.{CelType}
 use Rattle.cel_value.specs.declared.cel_type.CelType as type
 use Rattle.cel_value.specs.CelType.{assignable}
 use Rattle.cel_code.specs.declared.instr.Instr.{Instr}
-use Rattle.cel_code.specs.declared.instr.Instr.TheVariants.{Const, Op, AndTest, OrTest, And, Or, Cond, Jump, End, Slot}
+use Rattle.cel_code.specs.declared.instr.Instr.TheVariants.{Const, Op, WithText, AndTest, OrTest, And, Or, Cond, Jump, End, Slot}
 use Rattle.cel_code.specs.declared.instr.Instr.TheVariants as instr
 use Rattle.cel_code.specs.declared.image.Image.{Image}
-use Rattle.cel_check.specs.Meaning.{is_there, is_truth}
+use Rattle.cel_operators.specs.Wants.{is_there, is_truth}
 use Rattle.cel_verify.specs.declared.fault.VerifyRule.TheVariants.{TooDeep, WrongKind}
 use Rattle.cel_verify.specs.StackTypes.{StackTypes, all_assignable}
 use Rattle.cel_verify.specs.Sound.{Falls, Open, some_of, jumps_of, is_jumped, is_target, enters, shallow}
@@ -89,7 +89,9 @@ jump_long image (Jump u) opens ts es m to h j e =
 jump_long image (Const k) opens ts es m to h j e = absurd j
 jump_long image (Slot k) opens ts es m to h j e = absurd j
 jump_long image (Op k) opens ts es m to h j e = absurd j
+jump_long image (WithText op k) opens ts es m to h j e = absurd j
 jump_long image (instr.List n) opens ts es m to h j e = absurd j
+jump_long image (instr.Map n) opens ts es m to h j e = absurd j
 jump_long image And opens ts es m to h j e = absurd j
 jump_long image Or opens ts es m to h j e = absurd j
 jump_long image End opens ts es m to h j e = absurd j

@@ -5,7 +5,7 @@ use Rattle.std.proofs.lemmas.Bool.{cases_lt}
 use Rattle.std.specs.Prelude.{slice_get}
 use Rattle.std.proofs.lemmas.Option.{slice_get_cases}
 use Rattle.cel_code.specs.declared.image.Image.{Image}
-use Rattle.cel_check.specs.Outcomes.{Outcome, slots_fit}
+use Rattle.cel_operators.specs.Outcomes.{Outcome, slots_fit}
 use Rattle.cel_code.specs.Machine.{State, on}
 use Rattle.cel_verify.specs.StackTypes.{StackTypes, AllFit}
 use Rattle.cel_verify.specs.Sound.{label_at, IsSound}

@@ -1,6 +1,7 @@
 pub mod Firsts
 pub mod Labels
 pub mod Listing
+pub mod Mapping
 pub mod Operations
 pub mod Pairwise
 pub mod PathSums

@@ -1,15 +1,16 @@
 -- Items off a stack: as many outcomes as types, which they fit.
-use Rattle.std.proofs.Common.{◌≡◌, ℕ, zero, suc, ◌+◌, true, List, [], ◌∷◌, ◌++◌, length, map, Option, Some, None, refl, sym, ap}
-use Rattle.std.proofs.Common.{◌∙◌, subst, arith}
+use Rattle.std.proofs.Common.{◌≡◌, ℕ, zero, suc, ◌+◌, List, [], ◌∷◌, ◌++◌, length, map, Some, refl, ap, subst, arith}
 use Rattle.std.proofs.lemmas.Option.{none-some, same_Some}
-use Rattle.std.specs.Prelude.{Result, Ok, Err}
+use Rattle.std.specs.Prelude.{Ok}
 use Rattle.cel_value.specs.declared.cel_type.CelType.{CelType}
-use Rattle.cel_check.specs.Outcomes.{Outcome}
-use Rattle.cel_check.specs.Lists.{in_front, each_there, list_made, list_where, items_type}
-use Rattle.cel_check.proofs.Rows.{MadeRight}
+use Rattle.cel_operators.specs.Outcomes.{Outcome}
+use Rattle.cel_operators.specs.Lists.{in_front, each_there, list_made, list_where, items_type}
+use Rattle.cel_operators.specs.Maps.{map_made, map_where, entries_type, entries_greatest}
+use Rattle.cel_operators.proofs.Rows.{MadeRight}
 use Rattle.cel_check.proofs.Literals.{EachFits, literal_made}
+use Rattle.cel_check.proofs.MapLiterals.{Paired, literal_map_made}
 use Rattle.cel_code.specs.Machine.{taken_off}
-use Rattle.cel_verify.specs.StackTypes.{StackTypes, Fits, AllFit}
+use Rattle.cel_verify.specs.StackTypes.{StackTypes, AllFit}
 
 pub taken_long : (n : ℕ) (us ts : StackTypes) (p : StackTypes × StackTypes) → taken_off n us ts ≡ Some p
     → length p.0 ≡ n + length us
@@ -43,3 +44,18 @@ pub listed_made : (ts : StackTypes) (xs : List Outcome) (s : CelType) → items_
     → MadeRight s (Some (list_made xs)) (1 + length ts)
 listed_made ts xs s e h =
     subst (λ o. MadeRight s (list_where o) (1 + length ts)) (all_there xs) (literal_made ts (map Some xs) s e (each_fits ts xs h))
+
+-- twice as many are keys and values by turns
+pub paired_twice : {A : Type 0} (n : ℕ) (xs : List A) → length xs ≡ n + n → Paired xs
+paired_twice zero [] e = tt
+paired_twice zero (x ∷ xs) e = absurd (omega (arith, e))
+paired_twice (suc n) [] e = absurd (omega (arith, e))
+paired_twice (suc n) (x ∷ []) e = absurd (omega (arith, e))
+paired_twice (suc n) (x ∷ y ∷ xs) e = paired_twice n xs (omega (arith, e))
+
+-- a map of keys and values that fit their types gives what its type takes, for at most its greatest charge
+pub mapped_made : (ts : StackTypes) (xs : List Outcome) (s : CelType) → Paired ts → entries_type ts ≡ Ok s → AllFit xs ts
+    → MadeRight s (map_made xs) (entries_greatest ts)
+mapped_made ts xs s p e h =
+    subst (λ o. MadeRight s (map_where o) (entries_greatest ts)) (all_there xs)
+    (literal_map_made ts (map Some xs) s p e (each_fits ts xs h))

@@ -1,8 +1,11 @@
 -- An operator by the number of its operands: its rule and its charge.
-use Rattle.std.proofs.Common.{◌≡◌, [], ◌∷◌, refl}
-use Rattle.cel_check.specs.declared.operands.Operands.TheVariants as operands
-use Rattle.cel_check.specs.declared.operands.Want.{Want}
-use Rattle.cel_check.specs.Operators.{Row, One, Two, operands_of}
+use Rattle.std.proofs.Common.{◌≡◌, ℕ, List, [], ◌∷◌, refl}
+use Rattle.cel_operators.specs.declared.operands.Operands.TheVariants as operands
+use Rattle.cel_operators.specs.declared.operands.Want.{Want}
+use Rattle.cel_operators.specs.declared.text_operator.TextOperator.{TextOperator}
+use Rattle.cel_operators.specs.declared.text_operator.TextOperator.TheVariants.{Select, Has, Matches}
+use Rattle.cel_operators.specs.Operators.{Row, One, Two, operands_of}
+use Rattle.cel_operators.specs.TextOperators.{row_with}
 use Rattle.cel_verify.specs.StackTypes.{StackTypes}
 use Rattle.cel_verify.specs.Sound.{row_rule}
 use Rattle.cel_verify.specs.Paths.{row_charge}
@@ -32,3 +35,22 @@ charge_by_two (One u r) v w ts e = cc
 charge_by_two (Two u x r) v w [] e = refl
 charge_by_two (Two u x r) v w (t ∷ []) e = refl
 charge_by_two (Two u x r) v w (t ∷ s ∷ ts) e = refl
+
+-- an operator with a text has one operand
+pub rule_with : (op : TextOperator) (text : List ℕ) (ts : StackTypes)
+    → rule_of_one (row_with op text) ts ≡ row_rule (row_with op text) ts
+rule_with Select text [] = refl
+rule_with Select text (s ∷ ts) = refl
+rule_with Has text [] = refl
+rule_with Has text (s ∷ ts) = refl
+rule_with Matches text [] = refl
+rule_with Matches text (s ∷ ts) = refl
+
+pub charge_with : (op : TextOperator) (text : List ℕ) (ts : StackTypes)
+    → charge_on_one (row_with op text) ts ≡ row_charge (row_with op text) ts
+charge_with Select text [] = refl
+charge_with Select text (s ∷ ts) = refl
+charge_with Has text [] = refl
+charge_with Has text (s ∷ ts) = refl
+charge_with Matches text [] = refl
+charge_with Matches text (s ∷ ts) = refl

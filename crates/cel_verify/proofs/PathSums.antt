@@ -7,10 +7,10 @@ use Rattle.std.proofs.lemmas.List.{get_or_past, get_or-set_same, get_or-set_othe
 use Rattle.std.proofs.lemmas.Option.{slice_get_within}
 use borrow.Author.Tests.{ltb-true}
 use Rattle.cel_code.specs.declared.instr.Instr.{Instr}
-use Rattle.cel_code.specs.declared.instr.Instr.TheVariants.{Const, Op, AndTest, OrTest, And, Or, Cond, Jump, End, Slot}
+use Rattle.cel_code.specs.declared.instr.Instr.TheVariants.{Const, Op, WithText, AndTest, OrTest, And, Or, Cond, Jump, End, Slot}
 use Rattle.cel_code.specs.declared.instr.Instr.TheVariants as instr
 use Rattle.cel_code.specs.declared.image.Image.{Image}
-use Rattle.cel_check.specs.Meaning.{is_there}
+use Rattle.cel_operators.specs.Wants.{is_there}
 use Rattle.cel_verify.specs.Sound.{jumps_of, every, is_target, entry_in, IsSound}
 use Rattle.cel_verify.specs.Paths.{goes_to, greatest, from_one, to_go, times_at, path_from, charge_at, IsIn}
 use Rattle.cel_verify.specs.Walked.{AreCharges, AreCosts, ceiling}
@@ -87,7 +87,9 @@ module _ (image : Image) (at : ℕ) where
   ahead (Const k) h t m = next_ahead t m
   ahead (Slot k) h t m = next_ahead t m
   ahead (Op k) h t m = next_ahead t m
+  ahead (WithText op k) h t m = next_ahead t m
   ahead (instr.List n) h t m = next_ahead t m
+  ahead (instr.Map n) h t m = next_ahead t m
   ahead And h t m = next_ahead t m
   ahead Or h t m = next_ahead t m
 

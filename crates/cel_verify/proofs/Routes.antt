@@ -5,7 +5,7 @@ use Rattle.std.specs.Prelude.{slice_get}
 use Rattle.std.proofs.lemmas.Bool.{cases_lt}
 use Rattle.std.proofs.lemmas.Option.{slice_get_within}
 use Rattle.cel_code.specs.declared.instr.Instr.{Instr}
-use Rattle.cel_code.specs.declared.instr.Instr.TheVariants.{Const, Op, AndTest, OrTest, And, Or, Cond, Jump, End, Slot}
+use Rattle.cel_code.specs.declared.instr.Instr.TheVariants.{Const, Op, WithText, AndTest, OrTest, And, Or, Cond, Jump, End, Slot}
 use Rattle.cel_code.specs.declared.instr.Instr.TheVariants as instr
 use Rattle.cel_code.specs.declared.image.Image.{Image}
 use Rattle.cel_verify.specs.Sound.{every, is_target, jumps_of, IsSound}
@@ -66,7 +66,9 @@ module _ (image : Image) (sound : IsSound image) (w : ℕ → ℕ) where
   targets_inside at (Const k) h t m = next at t (Const k) h (λ q. cc) m
   targets_inside at (Slot k) h t m = next at t (Slot k) h (λ q. cc) m
   targets_inside at (Op k) h t m = next at t (Op k) h (λ q. cc) m
+  targets_inside at (WithText op k) h t m = next at t (WithText op k) h (λ q. cc) m
   targets_inside at (instr.List n) h t m = next at t (instr.List n) h (λ q. cc) m
+  targets_inside at (instr.Map n) h t m = next at t (instr.Map n) h (λ q. cc) m
   targets_inside at And h t m = next at t And h (λ q. cc) m
   targets_inside at Or h t m = next at t Or h (λ q. cc) m
 

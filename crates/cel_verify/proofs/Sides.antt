@@ -10,12 +10,12 @@ use Rattle.cel_value.specs.declared.cel_type.CelType.{CelType}
 use Rattle.cel_value.specs.declared.cel_type.CelType.TheOpen.{CelType-F}
 use Rattle.cel_value.specs.CelType.{fits}
 use Rattle.cel_value.specs.Value.{code_points}
-use Rattle.cel_check.specs.Outcomes.{Outcome, Side, and_of, or_of}
-use Rattle.cel_check.specs.declared.operands.Want.TheVariants.{Truth}
-use Rattle.cel_check.specs.Wants.{Limit, limit_of, side_of}
-use Rattle.cel_check.specs.Meaning.{is_there, is_truth}
-use Rattle.cel_check.proofs.Opened.{fits-levels, bool_fits, out-type-Null, out-type-Bool, out-type-Int, out-type-Uint, out-type-Text, side_is}
-use Rattle.cel_check.proofs.Rows.{Taken, taken_fits}
+use Rattle.cel_operators.specs.Outcomes.{Outcome, Side, and_of, or_of}
+use Rattle.cel_operators.specs.declared.operands.Want.TheVariants.{Truth}
+use Rattle.cel_operators.specs.Wants.{Limit, limit_of, side_of, is_there, is_truth}
+use Rattle.cel_operators.proofs.Opened.{fits-levels, bool_fits, out-type-Null, out-type-Bool, out-type-Int, out-type-Uint, out-type-Text}
+use Rattle.cel_operators.proofs.Opened.{side_is}
+use Rattle.cel_operators.proofs.Taking.{Taken, taken_fits}
 use Rattle.cel_verify.specs.StackTypes.{Fits, text_type, constant_type_at, constant_type}
 
 text_level : (v : Value) (bytes : List ℕ) (t : CelType) → out-Value v ≡ Value-F.Text bytes → text_type bytes ≡ Some t → fits v t ≡ true

@@ -8,32 +8,36 @@ use Rattle.cel_value.specs.declared.value.Value.{Value}
 use Rattle.cel_value.specs.declared.cel_type.CelType.{CelType}
 use Rattle.cel_value.specs.declared.cel_type.CelType as type
 use Rattle.cel_value.specs.CelType.{assignable}
-use Rattle.cel_check.specs.declared.fault.TypeRule.{TypeRule}
-use Rattle.cel_check.specs.declared.fault.TypeRule.TheVariants.{TooLarge}
-use Rattle.cel_check.specs.declared.operator.Operator.{Operator}
-use Rattle.cel_check.specs.declared.operator.Made.{Made}
+use Rattle.cel_operators.specs.declared.type_rule.TypeRule.{TypeRule}
+use Rattle.cel_operators.specs.declared.type_rule.TypeRule.TheVariants.{TooLarge}
+use Rattle.cel_operators.specs.declared.operator.Operator.{Operator}
+use Rattle.cel_operators.specs.declared.operator.Made.{Made}
 use Rattle.cel_code.specs.declared.instr.Instr.{Instr}
-use Rattle.cel_code.specs.declared.instr.Instr.TheVariants.{Const, Op, AndTest, OrTest, And, Or, Cond, Jump, End, Slot}
-use Rattle.cel_code.specs.Machine.{taken_off, listed}
-use Rattle.cel_check.specs.Lists.{items_type, list_made}
-use Rattle.cel_verify.specs.Sound.{listed_rule}
-use Rattle.cel_verify.proofs.Listing.{taken_fit, taken_long, listed_made}
+use Rattle.cel_code.specs.declared.instr.Instr.TheVariants.{Const, Op, WithText, AndTest, OrTest, And, Or, Cond, Jump, End, Slot}
+use Rattle.cel_code.specs.Machine.{taken_off, listed, mapped, constant_text, operate_with}
+use Rattle.cel_operators.specs.Lists.{items_type, list_made}
+use Rattle.cel_operators.specs.Maps.{map_made, entries_type, entries_greatest}
+use Rattle.cel_operators.specs.TextOperators.{row_with}
+use Rattle.cel_operators.specs.declared.text_operator.TextOperator.{TextOperator}
+use Rattle.cel_verify.specs.Sound.{listed_rule, mapped_rule, text_rule}
+use Rattle.cel_verify.proofs.Listing.{taken_fit, taken_long, listed_made, paired_twice, mapped_made}
 use Rattle.cel_code.specs.declared.instr.Instr.TheVariants as instr
 use Rattle.cel_code.specs.declared.image.Image.{Image}
-use Rattle.cel_check.specs.Outcomes.{Outcome, outcome_fits, slots_fit, Side, and_of, or_of}
-use Rattle.cel_check.specs.Wants.{side_of}
-use Rattle.cel_check.specs.Meaning.{is_truth}
-use Rattle.cel_check.specs.Operators.{Row, One, Two, row, operator_of, type_of_one}
-use Rattle.cel_check.specs.Operators.{type_of_two, greatest_of_one, greatest_of_two, at_one, at_two}
+use Rattle.cel_operators.specs.Outcomes.{Outcome, outcome_fits, slots_fit, Side, and_of, or_of}
+use Rattle.cel_operators.specs.Wants.{side_of, is_truth}
+use Rattle.cel_operators.specs.Operators.{Row, One, Two, row, operator_of, type_of_one}
+use Rattle.cel_operators.specs.Operators.{type_of_two, greatest_of_one, greatest_of_two, at_one, at_two}
 use Rattle.cel_code.specs.Machine.{Inputs, Frame, State, on, Next, Goes, Ends, Stuck, push, constant, slot, made, operate, operate_by}
 use Rattle.cel_code.specs.Machine.{and_test, or_test, joined, join, branch, act, act_at, inputs_of, step, Gets, Stays, Moves}
 use Rattle.cel_verify.specs.declared.fault.VerifyRule.TheVariants.{WrongKind}
 use Rattle.cel_verify.specs.StackTypes.{StackTypes, all_assignable, Fits, AllFit, constant_type}
 use Rattle.cel_verify.specs.Sound.{Falls, needs, every, jumps_of, is_target, given, row_rule, op_rule, constant_rule, enters}
 use Rattle.cel_verify.specs.Sound.{join_rule, end_rule, typed_rule, entered, rule_at, entry_in, entry_or, fallen, label_at, IsSound}
-use Rattle.cel_verify.specs.Paths.{row_charge, op_charge, charge_of, charge_in, goes_to, charge_at, IsIn}
+use Rattle.cel_verify.specs.Paths.{row_charge, op_charge, text_charge, mapped_charge, charge_of, charge_in, goes_to, charge_at, IsIn}
 use Rattle.cel_verify.specs.Typed.{below_all, types_at, opens_at, FramesFit, Typed, total, GoesOn, HasRun, RunsWithin}
-use Rattle.cel_check.proofs.Rows.{MadeRight, RowRight, row_right, one_operand, two_operands, wider}
+use Rattle.cel_operators.proofs.Rows.{MadeRight, row_right, one_operand, two_operands, wider}
+use Rattle.cel_operators.proofs.RightRows.{RowRight}
+use Rattle.cel_operators.proofs.FieldRows.{row_with_right}
 use Rattle.cel_check.proofs.Preserved.{slot_fits}
 use Rattle.cel_verify.proofs.Sides.{constant_fits, truth_side, false_side, true_side, and_fits, or_fits}
 use Rattle.cel_verify.proofs.RuleParts.{needs_is, parts_at}
@@ -119,9 +123,9 @@ module _ (image : Image) (slots : List Outcome) (sound : IsSound image) (filled 
     framed : FramesFit frames (opens_at image at)
 
   module _ (at : ℕ) (i : Instr) (ts : StackTypes) (stack : List Outcome) (frames : List Frame) (h : Here at i ts stack frames) where
-    charge_le : (c : ℕ) → c ≤ charge_of i ts → c ≤ charge_at image at
+    charge_le : (c : ℕ) → c ≤ charge_of image.constants i ts → c ≤ charge_at image at
     charge_le c le =
-        let e : charge_at image at ≡ charge_of i ts = ap (λ o. charge_in o (types_at image at)) h.hi ∙ ap (charge_in (Some i)) h.hl in
+        let e : charge_at image at ≡ charge_of image.constants i ts = ap (λ o. charge_in image.constants o (types_at image at)) h.hi ∙ ap (charge_in image.constants (Some i)) h.hl in
         omega arith
 
     fall_label : (ns : StackTypes) → typed_rule image i (opens_at image at) ts ≡ Ok (Some ns)
@@ -137,7 +141,7 @@ module _ (image : Image) (slots : List Outcome) (sound : IsSound image) (filled 
         (b.0, ap (types_at image) sucs ∙ next, b.2)
 
     -- on to the next instruction
-    falls : (c : ℕ) (ns : StackTypes) (s : List Outcome) → c ≤ charge_of i ts
+    falls : (c : ℕ) (ns : StackTypes) (s : List Outcome) → c ≤ charge_of image.constants i ts
         → typed_rule image i (opens_at image at) ts ≡ Ok (Some ns) → i ≢ End → IsIn (at + 1) (goes_to i at)
         → AllFit s (ns ++ below_all (opens_at image at)) → GoesOn image (on at stack frames) (Goes c (on (at + 1) s frames))
     falls c ns s le e ne goes f =
@@ -161,7 +165,7 @@ module _ (image : Image) (slots : List Outcome) (sound : IsSound image) (filled 
         )
 
     -- to a jump's target
-    jumps : (to c : ℕ) (es : StackTypes) (s : List Outcome) → IsIn to (jumps_of i) → IsIn to (goes_to i at) → c ≤ charge_of i ts
+    jumps : (to c : ℕ) (es : StackTypes) (s : List Outcome) → IsIn to (jumps_of i) → IsIn to (goes_to i at) → c ≤ charge_of image.constants i ts
         → entry_in image.targets to ≡ Some es → AllFit s (es ++ below_all (opens_at image at))
         → GoesOn image (on at stack frames) (Goes c (on to s frames))
     jumps to c es s in_jumps goes le ee f =
@@ -179,13 +183,13 @@ module _ (image : Image) (slots : List Outcome) (sound : IsSound image) (filled 
         )
 
     made_on : (o : Option Made) (u : CelType) (n : ℕ) (us : StackTypes) (s : List Outcome) → i ≢ End → IsIn (at + 1) (goes_to i at)
-        → MadeRight u o n → n ≤ charge_of i ts → AllFit s (us ++ below_all (opens_at image at))
+        → MadeRight u o n → n ≤ charge_of image.constants i ts → AllFit s (us ++ below_all (opens_at image at))
         → typed_rule image i (opens_at image at) ts ≡ Ok (Some (u ∷ us)) → GoesOn image (on at stack frames) (made o at s frames)
     made_on None u n us s ne goes f le g e = absurd (true≢false (sym f.0))
     made_on (Some d) u n us s ne goes f le g e = falls d.charge (u ∷ us) (d.outcome ∷ s) (omega (arith, f.1)) e ne goes (f.0, g)
 
   row_on : (r : Row) → RowRight r → (at : ℕ) (i : Instr) (ts : StackTypes) (stack : List Outcome) (frames : List Frame)
-      → Here at i ts stack frames → i ≢ End → IsIn (at + 1) (goes_to i at) → row_charge r ts ≤ charge_of i ts
+      → Here at i ts stack frames → i ≢ End → IsIn (at + 1) (goes_to i at) → row_charge r ts ≤ charge_of image.constants i ts
       → typed_rule image i (opens_at image at) ts ≡ row_rule r ts → (m : Option StackTypes) → row_rule r ts ≡ Ok m
       → GoesOn image (on at stack frames) (operate r at stack frames)
   row_on (One w r) rs at i [] stack frames h ne goes le e m k = cc
@@ -205,11 +209,19 @@ module _ (image : Image) (slots : List Outcome) (sound : IsSound image) (filled 
       (two_operands (Two v w r) s t q.0 (Some x) (Some y) rs q.1 h.fits.1.0 h.fits.0) le h.fits.1.1 (e ∙ q.2)
 
   op_on : (o : Option Operator) (at : ℕ) (i : Instr) (ts : StackTypes) (stack : List Outcome) (frames : List Frame)
-      → Here at i ts stack frames → i ≢ End → IsIn (at + 1) (goes_to i at) → op_charge o ts ≤ charge_of i ts
+      → Here at i ts stack frames → i ≢ End → IsIn (at + 1) (goes_to i at) → op_charge o ts ≤ charge_of image.constants i ts
       → typed_rule image i (opens_at image at) ts ≡ op_rule o ts → (m : Option StackTypes) → op_rule o ts ≡ Ok m
       → GoesOn image (on at stack frames) (operate_by o at stack frames)
   op_on None at i ts stack frames h ne goes le e m k = cc
   op_on (Some op) at i ts stack frames h ne goes le e m k = row_on (row op) (row_right op) at i ts stack frames h ne goes le e m k
+
+  with_text_on : (op : TextOperator) (o : Option (List ℕ)) (at : ℕ) (i : Instr) (ts : StackTypes) (stack : List Outcome)
+      (frames : List Frame) → Here at i ts stack frames → i ≢ End → IsIn (at + 1) (goes_to i at)
+      → text_charge op o ts ≤ charge_of image.constants i ts → typed_rule image i (opens_at image at) ts ≡ text_rule op o ts
+      → (m : Option StackTypes) → text_rule op o ts ≡ Ok m → GoesOn image (on at stack frames) (operate_with op o at stack frames)
+  with_text_on op None at i ts stack frames h ne goes le e m k = cc
+  with_text_on op (Some text) at i ts stack frames h ne goes le e m k =
+      row_on (row_with op text) (row_with_right op text) at i ts stack frames h ne goes le e m k
 
   listed_on : (o : Option (StackTypes × StackTypes)) (n at : ℕ) (ts : StackTypes) (stack : List Outcome) (frames : List Frame)
       → taken_off n [] ts ≡ o → Here at (instr.List n) ts stack frames
@@ -223,6 +235,20 @@ module _ (image : Image) (slots : List Outcome) (sound : IsSound image) (filled 
       subst (λ o. GoesOn image (on at stack frames) (listed o at frames)) (sym t.1)
       (made_on at (instr.List n) ts stack frames h (Some (list_made t.0.0)) q.0 (1 + length p.0) p.1 t.0.1 (λ q. cc) (inl refl)
       (listed_made p.0 t.0.0 q.0 q.1 t.2) (omega (arith, long)) t.3 (e ∙ q.2))
+
+  mapped_on : (o : Option (StackTypes × StackTypes)) (n at : ℕ) (ts : StackTypes) (stack : List Outcome) (frames : List Frame)
+      → taken_off (n + n) [] ts ≡ o → Here at (instr.Map n) ts stack frames
+      → typed_rule image (instr.Map n) (opens_at image at) ts ≡ mapped_rule o → (m : Option StackTypes) → mapped_rule o ≡ Ok m
+      → GoesOn image (on at stack frames) (mapped (taken_off (n + n) [] stack) at frames)
+  mapped_on None n at ts stack frames z h e m k = cc
+  mapped_on (Some p) n at ts stack frames z h e m k =
+      let q = given_is (entries_type p.0) p.1 m k in
+      let t = taken_fit (n + n) [] [] ts stack (below_all (opens_at image at)) p z tt h.fits in
+      let long = taken_long (n + n) [] ts p z in
+      let charge : mapped_charge (taken_off (n + n) [] ts) ≡ entries_greatest p.0 = ap mapped_charge z in
+      subst (λ o. GoesOn image (on at stack frames) (mapped o at frames)) (sym t.1)
+      (made_on at (instr.Map n) ts stack frames h (map_made t.0.0) q.0 (entries_greatest p.0) p.1 t.0.1 (λ q. cc) (inl refl)
+      (mapped_made p.0 t.0.0 q.0 (paired_twice n p.0 (omega (arith, long))) q.1 t.2) (omega (arith, charge)) t.3 (e ∙ q.2))
 
   const_on : (o : Option Value) (t : Option CelType) (k at : ℕ) (ts : StackTypes) (stack : List Outcome) (frames : List Frame)
       → constant_type o ≡ t → Here at (Const k) ts stack frames
@@ -322,7 +348,11 @@ module _ (image : Image) (slots : List Outcome) (sound : IsSound image) (filled 
       slot_on (slice_get slots n) (slice_get image.slots n) n at ts stack frames (slot_fits n image.slots slots filled) h refl m e
   instr_goes (Op o) at ts stack frames h m e =
       op_on (operator_of o) at (Op o) ts stack frames h (λ q. cc) (inl refl) (omega arith) refl m e
+  instr_goes (WithText op k) at ts stack frames h m e =
+      with_text_on op (constant_text (slice_get image.constants k)) at (WithText op k) ts stack frames h (λ q. cc) (inl refl)
+      (omega arith) refl m e
   instr_goes (instr.List n) at ts stack frames h m e = listed_on (taken_off n [] ts) n at ts stack frames refl h refl m e
+  instr_goes (instr.Map n) at ts stack frames h m e = mapped_on (taken_off (n + n) [] ts) n at ts stack frames refl h refl m e
   instr_goes (AndTest to) at [] stack frames h m e = cc
   instr_goes (AndTest to) at (t ∷ ts) [] frames h m e = absurd h.fits
   instr_goes (AndTest to) at (t ∷ ts) (x ∷ stack) frames h m e =

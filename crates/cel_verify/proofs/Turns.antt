@@ -1,7 +1,7 @@
 -- Stretches of a run.
 use Rattle.std.proofs.Common.{◌≡◌, ℕ, ◌+◌, List, [], refl, arith}
 use Rattle.cel_code.specs.declared.image.Image.{Image}
-use Rattle.cel_check.specs.Outcomes.{Outcome}
+use Rattle.cel_operators.specs.Outcomes.{Outcome}
 use Rattle.cel_code.specs.Machine.{State, on, Goes, step, Gets, Stays, Moves}
 
 module _ (image : Image) (slots : List Outcome) where

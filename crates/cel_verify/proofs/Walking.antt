@@ -17,15 +17,15 @@ use Rattle.cel_verify.specs.Paths.{charge_in, charge_at}
 use Rattle.cel_verify.specs.Walked.{labelled, rule_here, Advances, IsBefore, AreCharges, AllHold, IsWalkFault, ceiling}
 
 pub before_next : (image : Image) (at : ℕ) (i : Instr) (here there : Option StackTypes) (charges : List ℕ) (c : ℕ)
-    → slice_get image.code at ≡ Some i → c ≡ min (charge_in (Some i) here) ceiling → IsBefore image at here charges
+    → slice_get image.code at ≡ Some i → c ≡ min (charge_in image.constants (Some i) here) ceiling → IsBefore image at here charges
     → Advances image at here there → IsBefore image (at + 1) there (charges ++ c ∷ [])
 before_next image at i here there charges c h ec b a =
     let sucs : at + 1 ≡ suc at = add-one at in
     let inside = slice_get_within image.code at i h in
     let long : length (charges ++ c ∷ []) ≡ at + 1 = omega (arith, length-append charges (c ∷ []), b.charged.0) in
     let own : c ≡ min (charge_at image at) ceiling =
-    ec ∙ ap (λ o. min (charge_in o here) ceiling) (sym h)
-    ∙ ap (λ l. min (charge_in (slice_get image.code at) l.types) ceiling) (sym b.label) in
+    ec ∙ ap (λ o. min (charge_in image.constants o here) ceiling) (sym h)
+    ∙ ap (λ l. min (charge_in image.constants (slice_get image.code at) l.types) ceiling) (sym b.label) in
     let seam : slice_index (charges ++ c ∷ []) at ≡ c =
     ap (slice_index (charges ++ c ∷ [])) (sym b.charged.0) ∙ get_or-append_seam charges c [] 0 in
     let here_holds : Holds image at = record { next = a.next; is = ap (rule_at image at (slice_get image.code at)) b.label ∙ a.holds } in

@@ -4,8 +4,10 @@ use Rattle.std.specs.Prelude.{Ok, Err, pos}
 use Rattle.cel_value.specs.declared.value.Value as value
 use Rattle.cel_value.specs.declared.cel_type.CelType as type
 use Rattle.cel_code.specs.declared.instr.Instr.{Instr}
-use Rattle.cel_code.specs.declared.instr.Instr.TheVariants.{Const, Op, AndTest, And, Jump, End}
+use Rattle.cel_code.specs.declared.instr.Instr.TheVariants.{Const, Op, WithText, AndTest, And, Jump, End}
+use Rattle.cel_code.specs.declared.instr.Instr.TheVariants as instr
 use Rattle.cel_code.specs.declared.image.Image.{Image}
+use Rattle.cel_operators.specs.declared.text_operator.TextOperator.TheVariants.{Matches}
 use Rattle.cel_verify.specs.declared.fault.VerifyRule.TheVariants.{Underflow, WrongKind, BadTarget, BadConstant}
 use Rattle.cel_verify.specs.Sound.{rule_at, label_at}
 use Rattle.cel_verify.specs.Paths.{path_cost, path_steps}
@@ -30,6 +32,18 @@ mixed = refl
 -- there is no such constant
 unnamed : rule_at (whole (Const 2 ∷ End ∷ [])) 0 (Some (Const 2)) (label_at (whole (Const 2 ∷ End ∷ [])) 0) ≡ Err BadConstant
 unnamed = refl
+
+-- a constant that is no text
+untexted : rule_at (whole (Const 1 ∷ WithText Matches 1 ∷ End ∷ [])) 1 (Some (WithText Matches 1))
+    (label_at (whole (Const 1 ∷ WithText Matches 1 ∷ End ∷ [])) 1) ≡ Err BadConstant
+unfolding value.out-Value denote.Hole.Carrier.out
+untexted = refl
+
+-- a key that is no text
+unkeyed : rule_at (whole (Const 0 ∷ Const 0 ∷ instr.Map 1 ∷ End ∷ [])) 2 (Some (instr.Map 1))
+    (label_at (whole (Const 0 ∷ Const 0 ∷ instr.Map 1 ∷ End ∷ [])) 2) ≡ Err WrongKind
+unfolding value.out-Value denote.Hole.Carrier.out type.out-CelType
+unkeyed = refl
 
 -- a sum is typed, and its dearest route charges 1 in four steps
 sum : rule_at (whole (Const 0 ∷ Const 0 ∷ Op 2 ∷ End ∷ [])) 2 (Some (Op 2))

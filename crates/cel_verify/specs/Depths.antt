@@ -1,7 +1,7 @@
 -- How many operands an image needs at most.
 use Rattle.std.specs.Prelude.{ℕ, zero, suc, ◌+◌, ◌≤◌, max, List, [], length, Option, Some, None}
 use Rattle.cel_code.specs.declared.image.Image.{Image}
-use Rattle.cel_check.specs.Outcomes.{Outcome}
+use Rattle.cel_operators.specs.Outcomes.{Outcome}
 use Rattle.cel_code.specs.Machine.{State, on, Gets}
 use Rattle.cel_verify.specs.StackTypes.{StackTypes}
 use Rattle.cel_verify.specs.Sound.{label_at}

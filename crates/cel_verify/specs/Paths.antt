@@ -1,12 +1,17 @@
 -- The greatest sums over the forward routes.
 use Rattle.std.specs.Prelude.{◌≡◌, ℕ, ◌+◌, ◌-◌, ◌*◌, ◌<◌, ◌≤◌, max, ◌⊎◌}
 use Rattle.std.specs.Prelude.{List, [], ◌∷◌, slice_get, slice_index, Option, Some, None}
-use Rattle.cel_check.specs.declared.operator.Operator.{Operator}
+use Rattle.cel_value.specs.declared.value.Value.{Value}
+use Rattle.cel_operators.specs.declared.operator.Operator.{Operator}
+use Rattle.cel_operators.specs.declared.text_operator.TextOperator.{TextOperator}
+use Rattle.cel_operators.specs.Maps.{entries_greatest}
+use Rattle.cel_operators.specs.TextOperators.{row_with}
+use Rattle.cel_code.specs.Machine.{taken_off, constant_text}
 use Rattle.cel_code.specs.declared.instr.Instr.{Instr}
-use Rattle.cel_code.specs.declared.instr.Instr.TheVariants.{Op, AndTest, OrTest, Cond, Jump, End, Slot}
+use Rattle.cel_code.specs.declared.instr.Instr.TheVariants.{Op, WithText, AndTest, OrTest, Cond, Jump, End, Slot}
 use Rattle.cel_code.specs.declared.instr.Instr.TheVariants as instr
 use Rattle.cel_code.specs.declared.image.Image.{Image}
-use Rattle.cel_check.specs.Operators.{Row, One, Two, row, operator_of, greatest_of_one, greatest_of_two}
+use Rattle.cel_operators.specs.Operators.{Row, One, Two, row, operator_of, greatest_of_one, greatest_of_two}
 use Rattle.cel_verify.specs.StackTypes.{StackTypes}
 use Rattle.cel_verify.specs.Sound.{label_at}
 
@@ -21,20 +26,32 @@ abbrev pub op_charge : Option Operator → StackTypes → ℕ
 op_charge None ts = 0
 op_charge (Some op) ts = row_charge (row op) ts
 
--- the greatest charge of an instruction at these types
-abbrev pub charge_of : Instr → StackTypes → ℕ
-charge_of (Slot n) ts = 1
-charge_of (Op o) ts = op_charge (operator_of o) ts
-charge_of (instr.List n) ts = 1 + n
-charge_of (AndTest to) ts = 1
-charge_of (OrTest to) ts = 1
-charge_of (Cond if_false if_error) ts = 1
-charge_of _ ts = 0
+-- the greatest charge of a map of keys and values of these types by turns
+abbrev pub mapped_charge : Option (StackTypes × StackTypes) → ℕ
+mapped_charge None = 0
+mapped_charge (Some p) = entries_greatest p.0
+
+-- the greatest charge of an operator with a text
+abbrev pub text_charge : TextOperator → Option (List ℕ) → StackTypes → ℕ
+text_charge op None ts = 0
+text_charge op (Some text) ts = row_charge (row_with op text) ts
+
+-- the greatest charge of an instruction at these types, where these are the constants
+abbrev pub charge_of : List Value → Instr → StackTypes → ℕ
+charge_of constants (Slot n) ts = 1
+charge_of constants (Op o) ts = op_charge (operator_of o) ts
+charge_of constants (WithText op k) ts = text_charge op (constant_text (slice_get constants k)) ts
+charge_of constants (instr.List n) ts = 1 + n
+charge_of constants (instr.Map n) ts = mapped_charge (taken_off (n + n) [] ts)
+charge_of constants (AndTest to) ts = 1
+charge_of constants (OrTest to) ts = 1
+charge_of constants (Cond if_false if_error) ts = 1
+charge_of constants _ ts = 0
 
 -- the greatest charge of an instruction at its types; nothing where it is not reached
-abbrev pub charge_in : Option Instr → Option StackTypes → ℕ
-charge_in (Some i) (Some ts) = charge_of i ts
-charge_in _ _ = 0
+abbrev pub charge_in : List Value → Option Instr → Option StackTypes → ℕ
+charge_in constants (Some i) (Some ts) = charge_of constants i ts
+charge_in constants _ _ = 0
 
 -- where an instruction may go on in the body in which it stands
 abbrev pub goes_to : Instr → ℕ → List ℕ
@@ -70,7 +87,7 @@ times_at image at = 0
 
 -- the greatest charge of an instruction at its label
 abbrev pub charge_at : Image → ℕ → ℕ
-charge_at image at = charge_in (slice_get image.code at) (label_at image at).types
+charge_at image at = charge_in image.constants (slice_get image.code at) (label_at image at).types
 
 -- the greatest sum of weights from an instruction on
 abbrev pub path_from : Image → (ℕ → ℕ) → ℕ → ℕ

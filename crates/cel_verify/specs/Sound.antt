@@ -5,18 +5,21 @@ use Rattle.std.specs.Prelude.{slice_get, if◌then◌else◌, Option, Some, None
 use Rattle.cel_value.specs.declared.cel_type.CelType.{CelType}
 use Rattle.cel_value.specs.declared.cel_type.CelType as type
 use Rattle.cel_value.specs.CelType.{assignable}
-use Rattle.cel_check.specs.declared.fault.TypeRule.{TypeRule}
-use Rattle.cel_check.specs.declared.fault.TypeRule.TheVariants.{TooLarge}
-use Rattle.cel_check.specs.declared.operator.Operator.{Operator}
+use Rattle.cel_operators.specs.declared.type_rule.TypeRule.{TypeRule}
+use Rattle.cel_operators.specs.declared.type_rule.TypeRule.TheVariants.{TooLarge}
+use Rattle.cel_operators.specs.declared.operator.Operator.{Operator}
 use Rattle.cel_code.specs.declared.instr.Instr.{Instr}
-use Rattle.cel_code.specs.declared.instr.Instr.TheVariants.{Const, Op, AndTest, OrTest, And, Or, Cond, Jump, End, Slot}
-use Rattle.cel_code.specs.Machine.{taken_off}
-use Rattle.cel_check.specs.Lists.{items_type}
+use Rattle.cel_code.specs.declared.instr.Instr.TheVariants.{Const, Op, WithText, AndTest, OrTest, And, Or, Cond, Jump, End, Slot}
+use Rattle.cel_code.specs.Machine.{taken_off, constant_text}
+use Rattle.cel_operators.specs.Maps.{entries_type}
+use Rattle.cel_operators.specs.TextOperators.{row_with}
+use Rattle.cel_operators.specs.declared.text_operator.TextOperator.{TextOperator}
+use Rattle.cel_operators.specs.Lists.{items_type}
 use Rattle.cel_code.specs.declared.instr.Instr.TheVariants as instr
 use Rattle.cel_code.specs.declared.image.Image.{Image}
 use Rattle.cel_code.specs.declared.image.Target.{Target}
-use Rattle.cel_check.specs.Meaning.{is_there, is_truth}
-use Rattle.cel_check.specs.Operators.{Row, One, Two, row, operator_of, type_of_one, type_of_two}
+use Rattle.cel_operators.specs.Wants.{is_there, is_truth}
+use Rattle.cel_operators.specs.Operators.{Row, One, Two, row, operator_of, type_of_one, type_of_two}
 use Rattle.cel_verify.specs.declared.fault.VerifyRule.{VerifyRule}
 use Rattle.cel_verify.specs.declared.fault.VerifyRule.TheVariants.{Underflow, WrongKind, BadTarget, BadNesting, BadConstant, TooDeep, OverBudget}
 use Rattle.cel_verify.specs.StackTypes.{StackTypes, all_assignable, constant_type}
@@ -73,6 +76,7 @@ abbrev pub is_named : Image → Instr → Bool
 is_named image (Const k) = is_there (constant_type (slice_get image.constants k))
 is_named image (Slot n) = is_there (slice_get image.slots n)
 is_named image (Op o) = is_there (operator_of o)
+is_named image (WithText op k) = is_there (constant_text (slice_get image.constants k))
 is_named image _ = true
 
 -- a jump goes forward, to an instruction that has types
@@ -119,6 +123,16 @@ abbrev pub listed_rule : Option (StackTypes × StackTypes) → Falls
 listed_rule None = Err Underflow
 listed_rule (Some p) = given (items_type p.0) p.1
 
+-- the type of a map of keys and values of these types by turns, likewise
+abbrev pub mapped_rule : Option (StackTypes × StackTypes) → Falls
+mapped_rule None = Err Underflow
+mapped_rule (Some p) = given (entries_type p.0) p.1
+
+-- an operator with a text, where there is one
+abbrev pub text_rule : TextOperator → Option (List ℕ) → StackTypes → Falls
+text_rule op None ts = Err BadConstant
+text_rule op (Some text) ts = row_rule (row_with op text) ts
+
 -- these types may stand at an entry
 abbrev pub enters : Option StackTypes → StackTypes → Bool
 enters None ts = false
@@ -155,6 +169,8 @@ typed_rule image (Const k) opens ts = constant_rule (constant_type (slice_get im
 typed_rule image (Slot n) opens ts = constant_rule (slice_get image.slots n) ts
 typed_rule image (Op o) opens ts = op_rule (operator_of o) ts
 typed_rule image (instr.List n) opens ts = listed_rule (taken_off n [] ts)
+typed_rule image (instr.Map n) opens ts = mapped_rule (taken_off (n + n) [] ts)
+typed_rule image (WithText op k) opens ts = text_rule op (constant_text (slice_get image.constants k)) ts
 typed_rule image (AndTest to) opens ts = test_rule (entry_in image.targets to) ts
 typed_rule image (OrTest to) opens ts = test_rule (entry_in image.targets to) ts
 typed_rule image And opens ts = join_rule ts

@@ -6,7 +6,7 @@ use Rattle.cel_value.specs.declared.cel_type.CelType.{CelType}
 use Rattle.cel_value.specs.declared.cel_type.CelType as type
 use Rattle.cel_value.specs.CelType.{assignable}
 use Rattle.cel_value.specs.Value.{code_points}
-use Rattle.cel_check.specs.Outcomes.{Outcome, outcome_fits}
+use Rattle.cel_operators.specs.Outcomes.{Outcome, outcome_fits}
 
 -- a stack's types, the top first
 abbrev pub StackTypes : Type 0

@@ -1,7 +1,7 @@
 -- States that fit their labels, and what is still to pay from them.
 use Rattle.std.specs.Prelude.{◌≡◌, ◌≢◌, ℕ, ◌+◌, ◌<◌, ◌≤◌, List, [], ◌∷◌, ◌++◌, length, Option, Some}
 use Rattle.cel_code.specs.declared.image.Image.{Image}
-use Rattle.cel_check.specs.Outcomes.{Outcome}
+use Rattle.cel_operators.specs.Outcomes.{Outcome}
 use Rattle.cel_code.specs.Machine.{Frame, State, on, Next, Goes, Ends, Stuck, step, Gets, Run}
 use Rattle.cel_verify.specs.StackTypes.{StackTypes, Fits, AllFit}
 use Rattle.cel_verify.specs.Sound.{Open, label_at}

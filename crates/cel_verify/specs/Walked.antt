@@ -6,7 +6,7 @@ use Rattle.cel_value.specs.declared.cel_type.CelType.{CelType}
 use Rattle.cel_code.specs.declared.instr.Instr.{Instr}
 use Rattle.cel_code.specs.declared.instr.Instr.TheVariants.{End}
 use Rattle.cel_code.specs.declared.image.Image.{Image}
-use Rattle.cel_check.specs.Operators.{Row, type_of_one, type_of_two, greatest_of_one, greatest_of_two}
+use Rattle.cel_operators.specs.Operators.{Row, type_of_one, type_of_two, greatest_of_one, greatest_of_two}
 use Rattle.cel_verify.specs.declared.fault.VerifyRule.TheVariants.{Underflow}
 use Rattle.cel_verify.specs.declared.fault.VerifyError.{VerifyError}
 use Rattle.cel_verify.specs.declared.fault.VerifyError.TheVariants.{OutOfMemory, Fault}

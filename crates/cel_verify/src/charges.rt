@@ -1,17 +1,21 @@
-ghost use Rattle.std.specs.Prelude.{◌≡◌, ◌+◌, ◌-◌, ◌<◌, ◌^◌, min, Some, length, reverse, slice_index};
-ghost use Rattle.cel_check.specs.Operators.{row};
+ghost use Rattle.std.specs.Prelude.{◌≡◌, ◌+◌, ◌-◌, ◌<◌, ◌^◌, min, Some, length, reverse, slice_index, slice_get};
+ghost use Rattle.cel_operators.specs.Operators.{row};
+ghost use Rattle.cel_operators.specs.TextOperators.{row_with};
+ghost use Rattle.cel_code.specs.Machine.{constant_text};
 ghost use Rattle.cel_verify.specs.Sound.{IsSound};
-ghost use Rattle.cel_verify.specs.Paths.{row_charge, charge_in, goes_to, greatest, path_cost as cost_of_path};
+ghost use Rattle.cel_verify.specs.Paths.{text_charge, row_charge, charge_in, goes_to, greatest, path_cost as cost_of_path};
 ghost use Rattle.cel_verify.specs.Walked.{AreCharges, charge_on_one, charge_on_two};
 
+use crate::constants::constant_text;
+use crate::mapped::map_charge;
 use crate::type_stack::TypeStack;
-use cel_check::{Operands, Operator, greatest_of_one, greatest_of_two};
+use cel_check::{Operands, Operator, TextOperator, greatest_of_one, greatest_of_two};
 use cel_code::{Image, Instr};
 use cel_value::CelType;
 
 /// The greatest charge of an instruction at the types of the stack; nothing where it is not reached.
-pub fn charge(instr: Instr, label: &Option<TypeStack>) -> u64
-    ensures { result ≡ min (charge_in (Some instr) label.now) (2 ^ 64 - 1) }
+pub fn charge(image: &Image, instr: Instr, label: &Option<TypeStack>) -> u64
+    ensures { result ≡ min (charge_in image.now.constants (Some instr) label.now) (2 ^ 64 - 1) }
 {
     let Some(types) = label else {
         return 0;
@@ -21,7 +25,9 @@ pub fn charge(instr: Instr, label: &Option<TypeStack>) -> u64
             Some(op) => operator_charge(op, types.as_slice()),
             None => 0,
         },
+        Instr::WithText(op, number) => text_charge(image, op, number, types.as_slice()),
         Instr::List(count) => (count as u64).saturating_add(1),
+        Instr::Map(count) => map_charge(count, types.as_slice()),
         Instr::AndTest(_) | Instr::OrTest(_) | Instr::Cond(_, _) => 1,
         Instr::Slot(_) => 1,
         _ => 0,
@@ -35,6 +41,24 @@ fn operator_charge(op: Operator, types: &[CelType]) -> u64
         Operands::One(_) => charge_on_one(op, types),
         Operands::Two(_, _) => charge_on_two(op, types),
     }
+}
+
+fn text_charge(image: &Image, op: TextOperator, number: usize, types: &[CelType]) -> u64
+    ensures { result ≡ min (text_charge op (constant_text (slice_get image.now.constants number)) (reverse types.now)) (2 ^ 64 - 1) }
+{
+    match constant_text(image, number) {
+        Some(text) => charge_with(op, text, types),
+        None => 0,
+    }
+}
+
+fn charge_with(op: TextOperator, text: &str, types: &[CelType]) -> u64
+    ensures { result ≡ min (charge_on_one (row_with op text.now) (reverse types.now)) (2 ^ 64 - 1) }
+{
+    let [.., t] = types else {
+        return 0;
+    };
+    op.greatest(text, t)
 }
 
 fn charge_on_one(op: Operator, types: &[CelType]) -> u64
@@ -85,8 +109,14 @@ fn dearest(costs: &[u64], instr: Instr, at: usize) -> u64
             .max(cost_at(costs, if_error)),
         Instr::Jump(to) => cost_at(costs, to),
         Instr::End => 0,
-        Instr::Const(_) | Instr::Slot(_) | Instr::Op(_) | Instr::List(_) | Instr::And | Instr::Or =>
-            { cost_at(costs, at + 1) }
+        Instr::Const(_)
+        | Instr::Slot(_)
+        | Instr::Op(_)
+        | Instr::WithText(_, _)
+        | Instr::List(_)
+        | Instr::Map(_)
+        | Instr::And
+        | Instr::Or => cost_at(costs, at + 1),
     }
 }
 

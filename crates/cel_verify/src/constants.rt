@@ -1,4 +1,5 @@
-ghost use Rattle.std.specs.Prelude.{◌≡◌, slice_get};
+ghost use Rattle.std.specs.Prelude.{◌≡◌, option_copied, slice_get};
+ghost use Rattle.cel_code.specs.Machine.{constant_text};
 ghost use Rattle.cel_verify.specs.StackTypes.{constant_type, text_type};
 
 use cel_code::Image;
@@ -25,5 +26,15 @@ fn text_type(text: &str) -> Option<CelType>
     match u32::try_from(code_points(text)) {
         Ok(max) => Some(CelType::Text { max }),
         Err(_) => None,
+    }
+}
+
+/// The text that a constant is, if it is one.
+pub fn constant_text(image: &Image, number: usize) -> Option<&str>
+    ensures { option_copied result ≡ constant_text (slice_get image.now.constants number) }
+{
+    match image.constants.get(number) {
+        Some(Value::Text(text)) => Some(text.as_str()),
+        _ => None,
     }
 }

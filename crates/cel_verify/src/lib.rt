@@ -8,6 +8,7 @@ mod charges;
 mod constants;
 mod fault;
 mod listed;
+mod mapped;
 mod program;
 mod refusal;
 mod rules;

@@ -1,7 +1,7 @@
 //! The rule of the instruction that makes a list.
 
 ghost use Rattle.std.specs.Prelude.{◌≡◌, [], IfOk, MatchOption, None, Some};
-ghost use Rattle.cel_check.specs.Lists.{join_all, items_type};
+ghost use Rattle.cel_operators.specs.Lists.{join_all, items_type};
 ghost use Rattle.cel_code.specs.Machine.{taken_off};
 ghost use Rattle.cel_verify.specs.Sound.{listed_rule, given as given_rule};
 ghost use Rattle.cel_verify.specs.Walked.{Follows};
@@ -28,8 +28,8 @@ pub fn listed(
     list_given(alloc, items, types)
 }
 
-// The types of so many items, the first on top, which are taken off the stack.
-fn taken_off(
+/// The types of so many items, the first on top, which are taken off the stack.
+pub fn taken_off(
     alloc: Global,
     count: usize,
     types: &mut TypeStack,

@@ -1,5 +1,5 @@
 ghost use Rattle.std.specs.Prelude.{◌≡◌, ◌↔◌, ◌≤◌, true, List, IsTrue, Err, IfOk, IfErr, MatchOption, MatchResult};
-ghost use Rattle.cel_check.specs.Outcomes.{Outcome, slots_fit};
+ghost use Rattle.cel_operators.specs.Outcomes.{Outcome, slots_fit};
 ghost use Rattle.cel_verify.specs.Sound.{EndsOnce, IsSound, max_depth as most_operands};
 ghost use Rattle.cel_verify.specs.Labelled.{HasLabelling};
 ghost use Rattle.cel_verify.specs.Paths.{IsGreatest, charge_at, path_cost as cost_of_path};

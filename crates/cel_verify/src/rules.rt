@@ -1,20 +1,24 @@
 ghost use Rattle.std.specs.Prelude.{◌≡◌, ◌<◌, List, length, slice_get};
 ghost use Rattle.std.specs.List.{AllByRecursion};
-ghost use Rattle.cel_check.specs.Operators.{row, type_of_two};
+ghost use Rattle.cel_operators.specs.Operators.{row, type_of_two};
+ghost use Rattle.cel_operators.specs.TextOperators.{row_with};
+ghost use Rattle.cel_code.specs.Machine.{constant_text};
 ghost use Rattle.cel_verify.specs.StackTypes.{constant_type};
 ghost use Rattle.cel_verify.specs.Sound.{Open, enters as may_enter, entry_in, jumps_of, typed_rule};
-ghost use Rattle.cel_verify.specs.Sound.{constant_rule, row_rule, given as given_rule, test_rule, join_rule, cond_rule, end_rule};
+ghost use Rattle.cel_verify.specs.Sound.{text_rule, constant_rule, row_rule, given as given_rule};
+ghost use Rattle.cel_verify.specs.Sound.{test_rule, join_rule, cond_rule, end_rule};
 ghost use Rattle.cel_verify.specs.Arrivals.{AreArrivals};
 ghost use Rattle.cel_verify.specs.Walked.{Follows, rule_of_one, rule_of_two};
 
 use crate::arrivals::Arrivals;
-use crate::constants::constant_type;
+use crate::constants::{constant_text, constant_type};
 use crate::fault::VerifyRule;
 use crate::listed::listed;
+use crate::mapped::mapped;
 use crate::refusal::Refusal;
 use crate::targets::entry;
 use crate::type_stack::TypeStack;
-use cel_check::{Operands, Operator, TypeRule, Untyped, is_truth};
+use cel_check::{Operands, Operator, TextOperator, TypeRule, Untyped, is_truth};
 use cel_code::{Image, Instr};
 use cel_value::{CelType, assignable};
 use std::alloc::Global;
@@ -38,7 +42,9 @@ pub fn typed(
             Some(op) => operation(alloc, op, types),
             None => Err(Refusal::Broken(VerifyRule::BadConstant)),
         },
+        Instr::WithText(op, number) => with_text(image, op, number, types),
         Instr::List(count) => listed(alloc, count, types),
+        Instr::Map(count) => mapped(alloc, count, types),
         Instr::AndTest(to) | Instr::OrTest(to) => test(image, arrivals, to, types),
         Instr::And | Instr::Or => both_sides(types),
         Instr::Cond(if_false, if_error) => condition(image, arrivals, if_false, if_error, types),
@@ -108,6 +114,38 @@ fn operation_on_two(
         return Err(Refusal::Broken(VerifyRule::Underflow));
     };
     given_of_two(alloc, op, &s, &t, types)
+}
+
+// An operator with a text, where there is one.
+fn with_text(
+    image: &Image,
+    op: TextOperator,
+    number: usize,
+    types: TypeStack,
+) -> Result<Option<TypeStack>, Refusal>
+    ensures { Follows result (text_rule op (constant_text (slice_get image.now.constants number)) types) }
+{
+    match constant_text(image, number) {
+        Some(text) => operation_with(op, text, types),
+        None => Err(Refusal::Broken(VerifyRule::BadConstant)),
+    }
+}
+
+fn operation_with(
+    op: TextOperator,
+    text: &str,
+    mut types: TypeStack,
+) -> Result<Option<TypeStack>, Refusal>
+    ensures { Follows result (rule_of_one (row_with op text.now) types) }
+{
+    let Some(s) = types.pop() else {
+        return Err(Refusal::Broken(VerifyRule::Underflow));
+    };
+    match op.type_of(text, &s) {
+        Ok(answer) => given(Ok(answer), types),
+        Err(Untyped::Rule(rule)) => given(Err(rule), types),
+        Err(Untyped::OutOfMemory) => Err(Refusal::NoMemory),
+    }
 }
 
 fn given_of_two(

@@ -6,7 +6,7 @@ ghost use Rattle.cel_verify.specs.Accepted.{misplaced_entry, misplaced};
 ghost use Rattle.cel_verify.specs.Walked.{IsEntry};
 
 use crate::arrivals::Arrivals;
-use crate::constants::constant_type;
+use crate::constants::{constant_text, constant_type};
 use cel_check::Operator;
 use cel_code::{Image, Instr};
 use cel_value::CelType;
@@ -31,6 +31,7 @@ pub fn has_name(image: &Image, instr: Instr) -> bool
         Instr::Const(number) => constant_type(image, number).is_some(),
         Instr::Slot(number) => image.slots.get(number).is_some(),
         Instr::Op(code) => Operator::from_code(code).is_some(),
+        Instr::WithText(_, number) => constant_text(image, number).is_some(),
         _ => true,
     }
 }

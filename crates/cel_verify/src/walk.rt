@@ -40,7 +40,7 @@ pub fn walk(alloc: Global, image: &Image) -> Result<Measures, VerifyError>
     let mut depth = 0;
     let mut at = 0;
     while let Some(instr) = image.code.get(at) {
-        charges.push(charge(*instr, &label))?;
+        charges.push(charge(image, *instr, &label))?;
         depth = depth.max(operands(&label));
         match advance(alloc, image, &arrivals, *instr, at, label) {
             Ok(there) => label = there,

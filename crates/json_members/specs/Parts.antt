@@ -1,11 +1,15 @@
 -- What stands in a document or under a member, empty where its form is another.
-use Rattle.std.specs.Prelude.{ℕ, List, [], ◌∷◌, Option, Some, None, unwrap_or, option_map}
+use Rattle.std.specs.Prelude.{ℕ, List, [], ◌∷◌, Option, Some, None, unwrap_or, option_map, option_and_then}
 use Rattle.std.specs.Borrow.{Bor}
 use Rattle.serde_json.specs.Data as json
 use Rattle.serde_json.specs.Data.{Data, Items}
 use Rattle.serde_json.specs.Find.{as_str, as_array}
 use Rattle.serde_json.specs.View.{view}
 use Rattle.serde_json.specs.declared.value.Value.{Value as Json}
+
+-- the text of a member, if it is one
+abbrev pub optional_text : Option Data → Option (List ℕ)
+optional_text d = option_and_then as_str d
 
 -- the text, or none
 abbrev pub text_of : Data → List ℕ

@@ -3,11 +3,24 @@
 ghost use Rattle.std.specs.Prelude.{◌≡◌, IfOk};
 ghost use Rattle.serde_json.specs.Find.{get};
 ghost use Rattle.serde_json.specs.View.{view, items_view};
-ghost use Rattle.json_members.specs.Parts.{text_of, text_in, items_of, items_in, each_item, texts_in};
+ghost use Rattle.json_members.specs.Parts.{optional_text, text_of, text_in, items_of, items_in, each_item, texts_in};
 
 use plain::{Items, Text};
 use serde_json::Value as Json;
 use std::alloc::{AllocError, Global};
+
+/// A text of its own of a member, if it is one.
+pub fn optional_text(alloc: Global, json: &Json, name: &str) -> Result<Option<Text>, AllocError>
+    ensures { IfOk result (λ text. text ≡ optional_text (get name.now (view json.now))) }
+{
+    match json.get(name) {
+        Some(found) => match found.as_str() {
+            Some(text) => Ok(Some(Text::from_str(alloc, text)?)),
+            None => Ok(None),
+        },
+        None => Ok(None),
+    }
+}
 
 /// The text, empty where there is none.
 pub fn text_of(json: &Json) -> &str

@@ -1,6 +1,6 @@
 //! Tables of rows, each a question with its answer.
 
-use crate::{covered, forms, limits, matched, reviews, selected};
+use crate::{bindings, covered, forms, limits, matched, policies, reviews, selected};
 use std::alloc::{AllocError, Global};
 use std::process::Abort;
 
@@ -23,6 +23,16 @@ pub enum Asked {
     Longest(&'static str),
     /// How many texts, with this under each, may stand before this closing.
     Most(&'static str, &'static str),
+    /// What an object is as a policy.
+    Policy,
+    /// What an object is as a policy that says this beside its rules.
+    PolicyWith,
+    /// Which numbers of items have a fault, each item of these two parts round its number.
+    Numbers(&'static str, &'static str),
+    /// What an object is as a binding.
+    Binding,
+    /// What an object is as a binding that says this.
+    BindingWith,
 }
 
 /// The answer to a row's question.
@@ -36,6 +46,11 @@ fn answer(alloc: Global, asked: Asked, row: &str) -> Result<String, AllocError> 
         Asked::Request => reviews::request(alloc, row),
         Asked::Longest(closing) => limits::longest(alloc, row, closing),
         Asked::Most(under, closing) => limits::most(alloc, row, under, closing),
+        Asked::Policy => policies::policy(alloc, row),
+        Asked::PolicyWith => policies::policy_with(alloc, row),
+        Asked::Numbers(before, behind) => policies::faults_of(alloc, row, before, behind),
+        Asked::Binding => bindings::binding(alloc, row),
+        Asked::BindingWith => bindings::binding_with(alloc, row),
     }
 }
 

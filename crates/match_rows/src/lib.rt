@@ -1,5 +1,5 @@
 //! The rows that the calls of matching must keep: which labels selectors select, which requests rules cover and match, and which
-//! documents are read as which of them. There is no code but tests.
+//! documents are read as which of them, or as policies, bindings and events, and what events leave. There is no code but tests.
 //!
 //! A table is a constant, and a test hands it to [`asked::hold`]. So a test is proved in a second or two, however many rows its
 //! table has.
@@ -8,7 +8,11 @@
 #[cfg(test)]
 mod asked;
 #[cfg(test)]
+mod bindings;
+#[cfg(test)]
 mod covered;
+#[cfg(test)]
+mod events;
 #[cfg(test)]
 mod forms;
 #[cfg(test)]
@@ -20,8 +24,14 @@ mod memory;
 #[cfg(test)]
 mod names;
 #[cfg(test)]
+mod objects;
+#[cfg(test)]
+mod policies;
+#[cfg(test)]
 mod read;
 #[cfg(test)]
 mod reviews;
+#[cfg(test)]
+mod samples;
 #[cfg(test)]
 mod selected;

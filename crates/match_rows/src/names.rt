@@ -3,12 +3,14 @@
 use crate::asked::tells;
 use std::alloc::{AllocError, Global};
 use vap_match::{MatchFault, ReviewFault};
+use vap_policies::PolicyFault;
 
 /// What has a number.
 #[derive(Clone, Copy)]
 enum Named {
     OfRules(MatchFault),
     OfReview(ReviewFault),
+    OfPolicy(PolicyFault),
 }
 
 /// The number, and what is printed for it.
@@ -22,10 +24,11 @@ fn called(alloc: Global, named: Named) -> Result<String, AllocError> {
             let number = fault as u8;
             format!(in alloc; "{number} {}, {fault}", fault.name())
         }
+        Named::OfPolicy(fault) => format!(in alloc; "{}, {fault}", fault.name()),
     }
 }
 
-static NAMES: [(Named, &str); 5] = [
+static NAMES: [(Named, &str); 12] = [
     (
         Named::OfRules(MatchFault::BadOperator),
         "1 BadOperator, a selector that is not understood",
@@ -45,6 +48,34 @@ static NAMES: [(Named, &str); 5] = [
     (
         Named::OfReview(ReviewFault::OverLimit),
         "2 OverLimit, past a limit",
+    ),
+    (
+        Named::OfPolicy(PolicyFault::MissingField),
+        "MissingField, a member that is absent or not understood",
+    ),
+    (
+        Named::OfPolicy(PolicyFault::DenyWithWarn),
+        "DenyWithWarn, both Deny and Warn",
+    ),
+    (
+        Named::OfPolicy(PolicyFault::TooMany),
+        "TooMany, too many conditions, annotations, variables or validations",
+    ),
+    (
+        Named::OfPolicy(PolicyFault::BadMessage),
+        "BadMessage, a message that has a line break or is needed",
+    ),
+    (
+        Named::OfPolicy(PolicyFault::BadParamRef),
+        "BadParamRef, a reference to params that is not understood",
+    ),
+    (
+        Named::OfPolicy(PolicyFault::DuplicateName),
+        "DuplicateName, a name that stands twice",
+    ),
+    (
+        Named::OfPolicy(PolicyFault::Rules(MatchFault::BadScope)),
+        "BadScope, a scope that is not understood",
     ),
 ];
 

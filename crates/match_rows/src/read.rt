@@ -3,6 +3,7 @@
 use serde_json::Value as Json;
 use std::alloc::{AllocError, Global};
 use vap_match::{MatchError, ReviewError};
+use vap_policies::PolicyError;
 
 /// A JSON text's value. A text that is no JSON is as null, which is no question.
 pub fn json(alloc: Global, text: &str) -> Result<Json, AllocError> {
@@ -37,5 +38,13 @@ pub fn review_refusal(alloc: Global, error: ReviewError) -> Result<String, Alloc
     match error {
         ReviewError::Fault(fault) => String::from_str(alloc, fault.name()),
         ReviewError::OutOfMemory => Err(AllocError),
+    }
+}
+
+/// The name of a fault of a policy or a binding.
+pub fn policy_refusal(alloc: Global, error: PolicyError) -> Result<String, AllocError> {
+    match error {
+        PolicyError::Fault(fault) => String::from_str(alloc, fault.name()),
+        PolicyError::OutOfMemory => Err(AllocError),
     }
 }

@@ -42,7 +42,8 @@ fn objects(asked: &Admission) -> &'static str {
     }
 }
 
-fn shown(alloc: Global, asked: &Admission) -> Result<String, AllocError> {
+/// What a review asks, of its objects which there are.
+pub fn shown(alloc: Global, asked: &Admission) -> Result<String, AllocError> {
     let mut out = String::from_str(alloc, asked.uid.as_str())?;
     push_target(&mut out, asked)?;
     push_user(&mut out, asked)?;

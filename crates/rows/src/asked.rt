@@ -1,6 +1,6 @@
 //! Tables of rows, each a question with its answer.
 
-use crate::{images, operands, overloads, slots, trees};
+use crate::{images, lent, operands, overloads, patterns, slots, trees};
 use cel_check::Operator;
 use std::alloc::{AllocError, Global};
 use std::process::Abort;
@@ -13,6 +13,9 @@ pub enum Asked {
     Image,
     Roles,
     Named,
+    /// What the last of so many runs comes to, where slots hold so many texts.
+    Read { texts: usize, runs: usize },
+    Refused,
     /// The type of this operator's answer.
     Answered(Operator),
 }
@@ -25,6 +28,8 @@ fn answer(alloc: Global, asked: Asked, row: &str) -> Result<String, AllocError> 
         Asked::Image => images::image(alloc, row),
         Asked::Roles => overloads::roles(alloc, row),
         Asked::Named => slots::named(alloc, row),
+        Asked::Read { texts, runs } => lent::read(alloc, row, texts, runs),
+        Asked::Refused => patterns::refused(alloc, row),
         Asked::Answered(operator) => overloads::answered(alloc, operator, row),
     }
 }

@@ -88,7 +88,7 @@ pub fn image(alloc: Global, text: &str) -> Result<String, AllocError> {
     }
 }
 
-static IMAGES: [(&str, &str); 3] = [
+static IMAGES: [(&str, &str); 5] = [
     (
         "true",
         "bool | slots | constants true | targets | code const 0; end;",
@@ -100,6 +100,14 @@ static IMAGES: [(&str, &str); 3] = [
     (
         "true ? 1 : 2",
         "int | slots | constants true 1 2 | targets 4:; 5: int; | code const 0; cond 4 5; const 1; jump 5; const 2; end;",
+    ),
+    (
+        "{'a': 1}.a",
+        "int | slots | constants 'a' 1 | targets | code const 0; const 1; map 1; select 0; end;",
+    ),
+    (
+        "'b'.matches('a')",
+        "bool | slots | constants 'b' 'a' | targets | code const 0; matches 1; end;",
     ),
 ];
 

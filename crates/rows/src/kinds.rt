@@ -1,5 +1,6 @@
 //! Constants of the rows, which hold no memory, and how instructions are shown.
 
+use cel_check::TextOperator;
 use cel_code::Instr;
 use cel_value::Value;
 use std::alloc::AllocError;
@@ -26,7 +27,11 @@ pub fn put_instr(out: &mut String, instr: Instr) -> Result<(), AllocError> {
         Instr::Const(number) => write!(out, "const {number}"),
         Instr::Op(code) => write!(out, "op {code}"),
         Instr::Slot(number) => write!(out, "slot {number}"),
+        Instr::WithText(TextOperator::Select, text) => write!(out, "select {text}"),
+        Instr::WithText(TextOperator::Has, text) => write!(out, "has {text}"),
+        Instr::WithText(TextOperator::Matches, pattern) => write!(out, "matches {pattern}"),
         Instr::List(count) => write!(out, "list {count}"),
+        Instr::Map(count) => write!(out, "map {count}"),
         Instr::AndTest(to) => write!(out, "and_test {to}"),
         Instr::OrTest(to) => write!(out, "or_test {to}"),
         Instr::And => out.push_str("and"),

@@ -14,9 +14,13 @@ mod images;
 #[cfg(test)]
 mod kinds;
 #[cfg(test)]
+mod lent;
+#[cfg(test)]
 mod operands;
 #[cfg(test)]
 mod overloads;
+#[cfg(test)]
+mod patterns;
 #[cfg(test)]
 mod programs;
 #[cfg(test)]

@@ -2,8 +2,9 @@
 
 use crate::asked::tells;
 use crate::kinds::{Constant, value_of};
+use cel_check::TextOperator;
 use cel_code::{Image, Instr, Target};
-use cel_machine::{Run, Slots, run, slots_fit};
+use cel_machine::{Matchers, Run, RunFault, Slots, run, slots_fit};
 use cel_value::{CelError, CelType, Value};
 use cel_verify::{Program, VerifyRule, verify};
 use plain::Items;
@@ -128,8 +129,12 @@ pub fn run_with(
         return String::from_str(alloc, "does not fit");
     }
     let slots = Slots::new(program, lent);
-    let ended = run(alloc, program, &slots)?;
-    run_text(alloc, program, &ended)
+    let mut matchers = Matchers::new(alloc);
+    match &run(alloc, program, &slots, &mut matchers) {
+        Ok(ended) => run_text(alloc, program, ended),
+        Err(RunFault::Pattern) => String::from_str(alloc, "Pattern"),
+        Err(RunFault::OutOfMemory) => Err(AllocError),
+    }
 }
 
 fn run_program(
@@ -332,7 +337,7 @@ const ALONE: Written<'static> = Written {
     code: &[Instr::Const(0), Instr::End],
 };
 
-static FAULTS: [(Written<'static>, &str); 12] = [
+static FAULTS: [(Written<'static>, &str); 14] = [
     // A missing operand.
     (
         Written {
@@ -420,6 +425,26 @@ static FAULTS: [(Written<'static>, &str); 12] = [
             ..ALONE
         },
         "BadConstant at 0 of 2",
+    ),
+    // A constant that is no text where one is wanted.
+    (
+        Written {
+            code: &[
+                Instr::Const(0),
+                Instr::WithText(TextOperator::Select, 0),
+                Instr::End,
+            ],
+            ..ALONE
+        },
+        "BadConstant at 1 of 3",
+    ),
+    // A map's value without its key.
+    (
+        Written {
+            code: &[Instr::Const(0), Instr::Map(1), Instr::End],
+            ..ALONE
+        },
+        "Underflow at 1 of 3",
     ),
     (ALONE, "1, charged 0, steps 2, constants 1"),
 ];

@@ -9,7 +9,7 @@ use Rattle.cel_code.specs.declared.image.Image.{Image}
 use Rattle.cel_code.specs.Compiled.{IsCompiled}
 use Rattle.cel_code.specs.Correct.{Computes}
 use Rattle.cel_check.specs.Meaning.{value_of, type_of}
-use Rattle.cel_check.specs.Outcomes.{Outcome, outcome_fits, outside}
+use Rattle.cel_operators.specs.Outcomes.{Outcome, outcome_fits, outside}
 use Rattle.cel_code.specs.Machine.{Run}
 use Rattle.cel_code.proofs.OneRun.{one_run}
 use Rattle.cel_verify.specs.Accepted.{IsRefused}
@@ -19,7 +19,7 @@ use Rattle.vap_cli.specs.declared.answer.Refusal.{Refusal}
 use Rattle.vap_cli.specs.declared.answer.Refusal.TheVariants as refusal
 use Rattle.vap_cli.specs.declared.evaluation.EvaluationError.{EvaluationError}
 use Rattle.vap_cli.specs.declared.evaluation.EvaluationError.TheVariants.{Refused}
-use Rattle.vap_cli.specs.Evaluation.{EndsWith, IsChecked, IsNotRunFor, IsRefusedFor, IsUntypedFor, from_verifying}
+use Rattle.vap_cli.specs.Evaluation.{Choice, EndsWith, IsChecked, IsNotRunFor, IsRefusedFor, IsUntypedFor, from_verifying}
 
 -- an outcome that fits is there
 is_some : (t : CelType) (o : Option Outcome) → IsTrue (outcome_fits t o) → (x : Outcome) × (o ≡ Some x)
@@ -53,14 +53,17 @@ not_run tree image types (verifying.Fault f) why e compiled none refused from is
     subst (IsNotRunFor tree) same (record { image = image; compiled = rw none at compiled; fault = f; faulty = refused.0; here = refl })
 
 -- a text whose expression has no type is refused for that
-pub untyped_text : (text : List ℕ) (e : Expr) (why : Refusal) → IsParsed text e → IsUntypedFor e why → IsRefusedFor text why
-untyped_text text e (refusal.Parse fault) parsed h = absurd h
-untyped_text text e (refusal.Type fault) parsed h = record { expression = e; parsed = parsed; as_checked = h }
-untyped_text text e (refusal.Unverified at) parsed h = absurd h
+pub untyped_text : (choice : Choice) (text : List ℕ) (e : Expr) (why : Refusal) → IsParsed text e → IsUntypedFor choice e why
+    → IsRefusedFor choice text why
+untyped_text choice text e (refusal.Parse fault) parsed h = absurd h
+untyped_text choice text e (refusal.Type fault) parsed h = record { expression = e; parsed = parsed; as_checked = h }
+untyped_text choice text e (refusal.Unverified at) parsed h = absurd h
+untyped_text choice text e refusal.Pattern parsed h = absurd h
 
 -- a text whose expression is not run is refused for that
-pub not_run_text : (text : List ℕ) (tree : TypedTree) (why : Refusal) → IsChecked text (Ok tree) → IsNotRunFor tree why
-    → IsRefusedFor text why
-not_run_text text tree (refusal.Parse fault) typed h = absurd h
-not_run_text text tree (refusal.Type fault) typed h = absurd h
-not_run_text text tree (refusal.Unverified at) typed h = record { tree = tree; typed = typed; faulty = h }
+pub not_run_text : (choice : Choice) (text : List ℕ) (tree : TypedTree) (why : Refusal) → IsChecked choice text (Ok tree)
+    → IsNotRunFor tree why → IsRefusedFor choice text why
+not_run_text choice text tree (refusal.Parse fault) typed h = absurd h
+not_run_text choice text tree (refusal.Type fault) typed h = absurd h
+not_run_text choice text tree (refusal.Unverified at) typed h = record { tree = tree; typed = typed; faulty = h }
+not_run_text choice text tree refusal.Pattern typed h = record { tree = tree; typed = typed }

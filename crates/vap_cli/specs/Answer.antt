@@ -6,9 +6,9 @@ use Rattle.cel_lex.specs.declared.fault.LexFaultKind.{LexFaultKind}
 use Rattle.cel_lex.specs.declared.fault.LexFaultKind.TheVariants.{BadChar, Unterminated, BadEscape, IntRange, TooLong}
 use Rattle.cel_grammar.specs.declared.fault.ParseFault.{ParseFault}
 use Rattle.cel_grammar.specs.declared.fault.ParseFault.TheVariants.{Lex, Unexpected, BadMacro, TooDeep}
-use Rattle.cel_check.specs.declared.fault.TypeRule.{TypeRule}
-use Rattle.cel_check.specs.declared.fault.TypeRule.TheVariants.{UnknownName, NoField, NoOverload, Mixed, OpaqueUse}
-use Rattle.cel_check.specs.declared.fault.TypeRule.TheVariants.{PatternNotLiteral, BadPattern, TooLarge}
+use Rattle.cel_operators.specs.declared.type_rule.TypeRule.{TypeRule}
+use Rattle.cel_operators.specs.declared.type_rule.TypeRule.TheVariants.{UnknownName, NoField, NoOverload, Mixed, OpaqueUse}
+use Rattle.cel_operators.specs.declared.type_rule.TypeRule.TheVariants.{PatternNotLiteral, BadPattern, TooLarge}
 use Rattle.vap_cli.specs.declared.answer.Refusal.{Refusal}
 use Rattle.vap_cli.specs.declared.answer.Refusal.TheVariants as refusal
 use Rattle.vap_cli.specs.declared.answer.Answer.{Answer}
@@ -51,6 +51,7 @@ abbrev pub refusal_text : Refusal → List ℕ
 refusal_text (refusal.Parse fault) = parse_fault_text fault
 refusal_text (refusal.Type fault) = name_at (type_rule_name fault.rule) fault.place
 refusal_text (refusal.Unverified at) = name_at (codes "Unverified") at
+refusal_text refusal.Pattern = codes "Pattern"
 
 -- what tells an answer, without its line feed
 abbrev pub answer_text : Answer → List ℕ

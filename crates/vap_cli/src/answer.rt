@@ -20,6 +20,8 @@ pub enum Refusal {
     Type(TypeFault),
     /// The verifier refuses the compiled image, at this instruction.
     Unverified { at: usize },
+    /// A pattern that was built when the expression was typed is not built again.
+    Pattern,
 }
 
 /// What an expression comes to.
@@ -71,6 +73,7 @@ impl fmt::Display for Refusal {
     fn fmt<W: fmt::Write>(&self, f: &mut fmt::Formatter<W>) -> fmt::Result {
         let (name, place) = match self {
             Refusal::Parse(ParseFault::TooDeep) => return write!(f, "TooDeep"),
+            Refusal::Pattern => return write!(f, "Pattern"),
             Refusal::Parse(ParseFault::Lex(fault)) => (lex_fault_name(fault.kind), fault.place),
             Refusal::Parse(ParseFault::Unexpected { place }) => ("Unexpected", *place),
             Refusal::Parse(ParseFault::BadMacro { place }) => ("BadMacro", *place),

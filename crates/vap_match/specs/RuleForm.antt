@@ -162,6 +162,15 @@ rules_of d = record {
   object_selector = option_map selector_of (get (codes "objectSelector") d);
 }
 
+-- rules that say nothing, which match every request
+abbrev pub no_rules : Rules
+no_rules = record { resource_rules = []; exclude_resource_rules = []; namespace_selector = None; object_selector = None }
+
+-- the rules of a member, which say nothing where it is absent
+abbrev pub rules_under : Option Data → Rules
+rules_under None = no_rules
+rules_under (Some d) = rules_of d
+
 -- the rules that a document is, or its least fault
 abbrev pub read_rules : Data → Result Rules MatchFault
 read_rules d = unless (rules_of d) (least_fault d)

@@ -2,7 +2,8 @@
 //!
 //! [`Rules::from_json`] reads what a policy or a binding says, or tells its least fault. [`covers`] says which requests rules cover, and
 //! [`matches`] whether rules match a request: they cover it, and they select its namespace ([`selects_namespace`]) and an object
-//! of it ([`selects_object`]). What answers a question takes no memory. Requests and selectors are those of the crates below.
+//! of it ([`selects_object`]). What answers a question takes no memory. Requests and selectors are those of the crates below. For
+//! who reads documents in which rules stand, [`fault_under`] and [`rules_under`] are the two halves of reading them.
 #![tactic(auto)]
 
 mod choosing;
@@ -12,6 +13,7 @@ mod rules;
 
 pub use choosing::{matches, selects_namespace, selects_object};
 pub use covering::covers;
+pub use rule_form::{fault_under, rules_under};
 pub use rules::{Operation, Rule, Rules, Scope};
 pub use vap_request::{Admission, Kind, Request, Resource, ReviewError, ReviewFault, UserInfo};
 pub use vap_select::{

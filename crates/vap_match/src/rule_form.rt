@@ -1,6 +1,6 @@
 //! From a document to rules.
 
-ghost use Rattle.std.specs.Prelude.{◌≡◌, ◌&&◌, IfOk, IfErr, IfSome, IfNone, false, codes, option_map};
+ghost use Rattle.std.specs.Prelude.{◌≡◌, ◌&&◌, IfOk, IfErr, IfSome, codes, option_map, option_and_then};
 ghost use Rattle.serde_json.specs.Find.{get};
 ghost use Rattle.serde_json.specs.View.{view, items_view};
 ghost use Rattle.vap_select.specs.Answers.{Answers};
@@ -9,7 +9,7 @@ ghost use Rattle.json_members.specs.Parts.{each_item};
 ghost use Rattle.vap_select.specs.SelectorForm.{is_selector, selector_of};
 ghost use Rattle.vap_match.specs.RuleForm.{operation_word, scope_word, operation_at, scope_at, is_operation, is_policy};
 ghost use Rattle.vap_match.specs.RuleForm.{has_selectors, has_scope, has_scopes, is_rule, has_rules, least_fault};
-ghost use Rattle.vap_match.specs.RuleForm.{IsLeast, TellsLeast, operation_of, scope_of, rule_of, rules_of, read_rules};
+ghost use Rattle.vap_match.specs.RuleForm.{IsLeast, TellsLeast, operation_of, scope_of, rule_of, rules_of, rules_under, read_rules};
 
 use crate::rules::{Operation, Rule, Rules, Scope};
 use json_members::{has_items, has_texts, items_in, may_have_texts, texts_in};
@@ -28,6 +28,31 @@ impl Rules {
             Some(fault) => Err(MatchError::Fault(fault)),
             None => Ok(rules_of(alloc, json)?),
         }
+    }
+}
+
+/// The least fault of the rules under a member, if they are there and have one.
+pub fn fault_under(json: &Json, name: &str) -> Option<MatchFault>
+    ensures { result ≡ option_and_then least_fault (get name.now (view json.now)) }
+{
+    match json.get(name) {
+        Some(found) => fault_of(found),
+        None => None,
+    }
+}
+
+/// The rules under a member, whatever its form; where it is absent, rules that say nothing.
+pub fn rules_under(alloc: Global, json: &Json, name: &str) -> Result<Rules, AllocError>
+    ensures { IfOk result (λ rules. rules ≡ rules_under (get name.now (view json.now))) }
+{
+    match json.get(name) {
+        Some(found) => Ok(rules_of(alloc, found)?),
+        None => Ok(Rules {
+            resource_rules: Items::new(alloc),
+            exclude_resource_rules: Items::new(alloc),
+            namespace_selector: None,
+            object_selector: None,
+        }),
     }
 }
 

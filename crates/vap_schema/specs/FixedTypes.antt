@@ -25,12 +25,16 @@ metadata_fields =
     (with_optional (codes "labels") (texts_type 63)
     (with_optional (codes "annotations") (texts_type 262144) [])))))
 
+-- the type of `metadata`
+abbrev pub metadata_type : CelType
+metadata_type = type.Object metadata_fields
+
 -- the fields of a root object
 abbrev pub root_fields : List (Keyed (Field CelType)) → List (Keyed (Field CelType))
 root_fields fields =
     with_optional (codes "apiVersion") (type.Text 317)
     (with_optional (codes "kind") (type.Text 63)
-    (with_optional (codes "metadata") (type.Object metadata_fields) fields))
+    (with_optional (codes "metadata") metadata_type fields))
 
 -- the same, with the type's first level beside it
 abbrev pub with_fixed_at : CelType → CelType-F CelType → CelType

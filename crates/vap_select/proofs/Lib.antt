@@ -1,1 +1,2 @@
+pub mod OnlyFault
 pub mod WorkedRows

@@ -1,5 +1,5 @@
 -- Which documents are selectors, and which selector a document is.
-use Rattle.std.specs.Prelude.{ℕ, Bool, false, ◌&&◌, if◌then◌else◌, codes, List, [], ◌∷◌, Option, Some, None}
+use Rattle.std.specs.Prelude.{◌≡◌, ℕ, Bool, true, false, ◌&&◌, not, if◌then◌else◌, codes, List, [], ◌∷◌, Option, Some, None}
 use Rattle.std.specs.Prelude.{unwrap_or, option_and_then, Result, Ok, Err}
 use Rattle.std.specs.Str.{bytes_eq}
 use Rattle.plain.specs.declared.text.Keyed.{Keyed}
@@ -9,7 +9,9 @@ use Rattle.serde_json.specs.Find.{get, as_str}
 use Rattle.json_members.specs.Forms.{there_and, absent_or, is_text, is_object, is_list_of, is_map_of, is_some_of, is_empty_list}
 use Rattle.json_members.specs.Parts.{text_of, text_in, items_in, each_item, texts_in}
 use Rattle.vap_select.specs.declared.match_fault.MatchFault.{MatchFault}
-use Rattle.vap_select.specs.declared.match_fault.MatchFault.TheVariants.{BadOperator}
+use Rattle.vap_select.specs.declared.match_fault.MatchFault.TheVariants.{BadOperator, BadScope, EmptyRule}
+use Rattle.vap_select.specs.declared.match_fault.MatchError.{MatchError}
+use Rattle.vap_select.specs.declared.match_fault.MatchError.TheVariants.{Fault, OutOfMemory}
 use Rattle.vap_select.specs.declared.selector.Operator.{Operator}
 use Rattle.vap_select.specs.declared.selector.Operator.TheVariants.{In, NotIn, Exists, DoesNotExist}
 use Rattle.vap_select.specs.declared.selector.Requirement.{Requirement}
@@ -46,6 +48,21 @@ is_selector d =
     is_object d
     && absent_or (is_map_of is_text) (get (codes "matchLabels") d)
     && absent_or (is_list_of is_requirement) (get (codes "matchExpressions") d)
+
+-- which faults a document has as a selector: one at most
+abbrev pub has_fault : Data → MatchFault → Bool
+has_fault d BadOperator = not (is_selector d)
+has_fault d BadScope = false
+has_fault d EmptyRule = false
+
+-- a document has this fault as a selector, and no other
+abbrev pub IsOnly : Data → MatchFault → Type 0
+IsOnly d f = (has_fault d f ≡ true) × ((g : MatchFault) → has_fault d g ≡ true → g ≡ f)
+
+-- what is told is the only fault, or that memory ran out
+abbrev pub TellsOnly : Data → MatchError → Type 0
+TellsOnly d (Fault f) = IsOnly d f
+TellsOnly d OutOfMemory = Unit {0}
 
 -- the requirement that a document is
 abbrev pub requirement_of : Data → Requirement

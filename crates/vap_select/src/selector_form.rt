@@ -1,13 +1,13 @@
 //! From a document to a selector.
 
-ghost use Rattle.std.specs.Prelude.{◌≡◌, IfOk, codes};
+ghost use Rattle.std.specs.Prelude.{◌≡◌, IfOk, IfErr, codes};
 ghost use Rattle.serde_json.specs.Find.{get};
 ghost use Rattle.serde_json.specs.View.{view, items_view, members_view};
 ghost use Rattle.vap_select.specs.Answers.{Answers};
 ghost use Rattle.json_members.specs.Forms.{absent_or, all_items, is_list_of};
 ghost use Rattle.json_members.specs.Parts.{each_item, text_of};
 ghost use Rattle.vap_select.specs.SelectorForm.{operator_word, operator_in, has_values_for, is_requirement, is_selector};
-ghost use Rattle.vap_select.specs.SelectorForm.{requirement_of, texts_under, wanted_labels, selector_of, read_selector};
+ghost use Rattle.vap_select.specs.SelectorForm.{requirement_of, texts_under, wanted_labels, selector_of, read_selector, TellsOnly};
 
 use crate::match_fault::{MatchError, MatchFault};
 use crate::selector::{Operator, Requirement, Selector};
@@ -19,9 +19,11 @@ use serde_json::{Map, Value as Json};
 use std::alloc::{AllocError, Global};
 
 impl Selector {
-    /// The selector that a document is.
+    /// The selector that a document is, or that it is none, which is the one fault that it can have.
+    #[tactic(auto, using(crate::proofs::OnlyFault::only_fault, crate::proofs::OnlyFault::only))]
     pub fn from_json(alloc: Global, json: &Json) -> Result<Selector, MatchError>
-        ensures { Answers (read_selector (view json.now)) result }
+        ensures exact { Answers (read_selector (view json.now)) result }
+        ensures only { IfErr result (λ error. TellsOnly (view json.now) error) }
     {
         if is_selector(json) {
             Ok(selector_of(alloc, json)?)

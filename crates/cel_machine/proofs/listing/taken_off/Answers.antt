@@ -1,5 +1,5 @@
 use Rattle.std.proofs.Common.{List, length, ap, ◌∙◌, arith}
-use Rattle.cel_check.specs.Outcomes.{Outcome}
+use Rattle.cel_operators.specs.Outcomes.{Outcome}
 use Rattle.cel_code.proofs.Taking.{taking}
 use Rattle.cel_machine.proofs.listing.taken_off.Goals as goal
 

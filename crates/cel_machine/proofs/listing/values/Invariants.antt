@@ -1,5 +1,5 @@
 use Rattle.std.proofs.Common.{◌≡◌, length}
-use Rattle.cel_check.specs.Lists.{values_in}
+use Rattle.cel_operators.specs.Lists.{values_in}
 use Rattle.cel_machine.proofs.Values.{behind_values}
 use Rattle.cel_machine.proofs.listing.values.Given as goal
 

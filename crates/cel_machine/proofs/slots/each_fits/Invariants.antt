@@ -1,6 +1,6 @@
 use Rattle.std.proofs.Common.{◌≡◌, drop}
-use Rattle.cel_check.specs.Outcomes.{slots_fit}
-use Rattle.cel_machine.specs.Lent.{all_lent}
+use Rattle.cel_operators.specs.Outcomes.{slots_fit}
+use Rattle.cel_apply.specs.Lent.{all_lent}
 use Rattle.cel_machine.proofs.slots.each_fits.Given as goal
 
 abbrev pub invariant-loop-cel_type : goal.invariant-loop-cel_type

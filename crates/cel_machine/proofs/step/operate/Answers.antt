@@ -1,5 +1,5 @@
 use Rattle.std.proofs.Common.{Some, sym, ◌∙◌}
-use Rattle.cel_check.specs.Operators.{row}
+use Rattle.cel_operators.specs.Operators.{row}
 use Rattle.cel_code.specs.Machine.{operate_by}
 use Rattle.cel_machine.specs.Follow.{Comes, LeadsTo, metered_one, metered_two}
 use Rattle.cel_machine.proofs.Meters.{by_one, by_two, carried}

@@ -1,6 +1,6 @@
 use Rattle.std.proofs.Common.{ap, sym, ◌∙◌, ◌-◌, ◌^◌}
 use Rattle.std.specs.Prelude.{min, reverse}
-use Rattle.cel_check.specs.Operators.{row}
+use Rattle.cel_operators.specs.Operators.{row}
 use Rattle.cel_verify.proofs.Operations.{charge_by_one, charge_by_two}
 use Rattle.cel_verify.proofs.charges.operator_charge.Goals as goal
 

@@ -1,5 +1,5 @@
 use Rattle.std.proofs.Common.{◌≡◌, length}
-use Rattle.cel_check.specs.Lists.{join_behind, join_all}
+use Rattle.cel_operators.specs.Lists.{join_behind, join_all}
 use Rattle.cel_verify.proofs.listed.join_all.Given as goal
 
 -- the types that are left are joined with what there is

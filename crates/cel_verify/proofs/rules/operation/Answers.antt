@@ -1,5 +1,5 @@
 use Rattle.std.proofs.Common.{sym, ◌∙◌, subst}
-use Rattle.cel_check.specs.Operators.{row}
+use Rattle.cel_operators.specs.Operators.{row}
 use Rattle.cel_verify.specs.Walked.{Follows}
 use Rattle.cel_verify.proofs.Operations.{rule_by_one, rule_by_two}
 use Rattle.cel_verify.proofs.rules.operation.Goals as goal

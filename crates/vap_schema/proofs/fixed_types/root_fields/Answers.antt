@@ -5,5 +5,5 @@ pub returns : goal.returns
 returns c =
     c.with_optional.ensures _ _
     (c.with_optional-all-2.ensures _ _
-    (c.with_optional-all.ensures _ _ c.copy_fields.ensures (c.object_of-metadata.ensures _ c.metadata_fields.ensures)) refl)
+    (c.with_optional-all.ensures _ _ c.copy_fields.ensures c.metadata_type-metadata.ensures) refl)
     refl

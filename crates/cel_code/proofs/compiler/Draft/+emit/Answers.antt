@@ -1,9 +1,10 @@
 use Rattle.std.proofs.Common.{◌++◌, [], ◌∷◌, refl, ap, ◌∙◌, arith}
 use Rattle.std.proofs.lemmas.Result.{on_ok_weaker}
-use Rattle.cel_code.proofs.Leaving.{split_at, none_left, goes_on, all_stand, all_written}
+use Rattle.cel_code.proofs.Leaving.{split_at, none_left, goes_on, entry_goes_on, all_stand, all_written}
 use Rattle.cel_code.proofs.Place.{emits_items, emits_literal, emits_unary, emits_binary, emits_both, emits_either, emits_conditional}
-use Rattle.cel_code.proofs.Place.{emits_slot}
-use Rattle.cel_code.proofs.Written.{writes_binary, writes_both, writes_either, writes_conditional}
+use Rattle.cel_code.proofs.Place.{emits_slot, emits_entries, emits_with_text}
+use Rattle.cel_code.proofs.Written.{writes_binary, writes_both, writes_either, writes_conditional, writes_entries, writes_with_text}
+use Rattle.cel_check.specs.Meaning.{by_turns}
 use Rattle.cel_code.proofs.compiler.Draft.+emit.Goals as goal
 
 pub emit_within-returns-in_ok-number-in-Literal-clause-stands : goal.emit_within-returns-in_ok-number-in-Literal-clause-stands
@@ -35,29 +36,39 @@ emit_within-returns-in_ok-emit_over-in-Binary-clause-writes t c =
     writes_binary _ _ _ _ _ _ _ _ _ _ _ c.in-Binary.is c.get-in-Binary.ensures c.get-in-Binary-2.ensures c.get-in-Binary-3.ensures c.in_ok-emit-in-Binary.ensures.writes c.in_ok-emit_over-in-Binary.ensures.writes g)
     c.put-in-Binary.ensures.grows
 
-pub emit_within-returns-in_ok-put-in-And-2-clause-stands : goal.emit_within-returns-in_ok-put-in-And-2-clause-stands
-emit_within-returns-in_ok-put-in-And-2-clause-stands t c =
-    emits_both _ _ _ _ _ _ _ _ _ _ _ _ _ c.in-And.is c.get-in-And.ensures c.get-in-And-2.ensures c.in_ok-emit-in-And.ensures.stands
-    c.len-test.ensures c.in_ok-put-in-And.ensures.code c.in_ok-emit_over-in-And.ensures.stands c.in_ok-put-in-And-2.ensures.code
-    c.len.ensures c.patch.ensures.code
+pub emit_and-returns-clause-stands : goal.emit_and-returns-clause-stands
+emit_and-returns-clause-stands t c =
+    emits_both _ _ _ _ _ _ _ _ _ _ _ _ _ c.requires.is refl refl c.in_ok-emit.ensures.stands c.len-test.ensures
+    c.in_ok-put.ensures.code c.in_ok-emit_over.ensures.stands c.in_ok-put-2.ensures.code c.len.ensures c.patch.ensures.code
 
-pub emit_within-returns-in_ok-put-in-And-2-clause-writes : goal.emit_within-returns-in_ok-put-in-And-2-clause-writes
-emit_within-returns-in_ok-put-in-And-2-clause-writes t c =
-    writes_both _ _ _ _ _ _ _ _ _ _ _ _ c.in-And.is c.get-in-And.ensures c.get-in-And-2.ensures c.get-in-And-3.ensures
-    c.in_ok-emit-in-And.ensures.writes c.in_ok-put-in-And.ensures.grows c.in_ok-emit_over-in-And.ensures.writes
-    c.in_ok-put-in-And-2.ensures.grows c.patch.ensures.grows
+pub emit_and-returns-clause-writes : goal.emit_and-returns-clause-writes
+emit_and-returns-clause-writes t c =
+    writes_both _ _ _ _ _ _ _ _ _ _ _ _ c.requires.is refl refl refl c.in_ok-emit.ensures.writes c.in_ok-put.ensures.grows
+    c.in_ok-emit_over.ensures.writes c.in_ok-put-2.ensures.grows c.patch.ensures.grows
 
-pub emit_within-returns-in_ok-put-in-Or-2-clause-stands : goal.emit_within-returns-in_ok-put-in-Or-2-clause-stands
-emit_within-returns-in_ok-put-in-Or-2-clause-stands t c =
-    emits_either _ _ _ _ _ _ _ _ _ _ _ _ _ c.in-Or.is c.get-in-Or.ensures c.get-in-Or-2.ensures c.in_ok-emit-in-Or.ensures.stands
-    c.len-test-in-Or.ensures c.in_ok-put-in-Or.ensures.code c.in_ok-emit_over-in-Or.ensures.stands c.in_ok-put-in-Or-2.ensures.code
-    c.len-in-Or.ensures c.patch-in-Or.ensures.code
+pub emit_or-returns-clause-stands : goal.emit_or-returns-clause-stands
+emit_or-returns-clause-stands t c =
+    emits_either _ _ _ _ _ _ _ _ _ _ _ _ _ c.requires.is refl refl c.in_ok-emit.ensures.stands c.len-test.ensures
+    c.in_ok-put.ensures.code c.in_ok-emit_over.ensures.stands c.in_ok-put-2.ensures.code c.len.ensures c.patch.ensures.code
 
-pub emit_within-returns-in_ok-put-in-Or-2-clause-writes : goal.emit_within-returns-in_ok-put-in-Or-2-clause-writes
-emit_within-returns-in_ok-put-in-Or-2-clause-writes t c =
-    writes_either _ _ _ _ _ _ _ _ _ _ _ _ c.in-Or.is c.get-in-Or.ensures c.get-in-Or-2.ensures c.get-in-Or-3.ensures
-    c.in_ok-emit-in-Or.ensures.writes c.in_ok-put-in-Or.ensures.grows c.in_ok-emit_over-in-Or.ensures.writes
-    c.in_ok-put-in-Or-2.ensures.grows c.patch-in-Or.ensures.grows
+pub emit_or-returns-clause-writes : goal.emit_or-returns-clause-writes
+emit_or-returns-clause-writes t c =
+    writes_either _ _ _ _ _ _ _ _ _ _ _ _ c.requires.is refl refl refl c.in_ok-emit.ensures.writes c.in_ok-put.ensures.grows
+    c.in_ok-emit_over.ensures.writes c.in_ok-put-2.ensures.grows c.patch.ensures.grows
+
+pub emit_within-returns-in_ok-number-in-WithText-clause-stands : goal.emit_within-returns-in_ok-number-in-WithText-clause-stands
+emit_within-returns-in_ok-number-in-WithText-clause-stands t c =
+    on_ok_weaker c.put-in-WithText.result
+    (λ e.
+    emits_with_text _ _ _ _ _ _ _ _ _ _ c.in-WithText.is c.get-in-WithText.ensures c.in_ok-emit-in-WithText.ensures.stands c.in_ok-number-in-WithText.ensures.number e)
+    c.put-in-WithText.ensures.code
+
+pub emit_within-returns-in_ok-number-in-WithText-clause-writes : goal.emit_within-returns-in_ok-number-in-WithText-clause-writes
+emit_within-returns-in_ok-number-in-WithText-clause-writes t c =
+    on_ok_weaker c.put-in-WithText.result
+    (λ g.
+    writes_with_text _ _ _ _ _ _ _ _ _ c.in-WithText.is c.get-in-WithText.ensures c.in_ok-emit-in-WithText.ensures.writes c.in_ok-number-in-WithText.ensures.grows g)
+    c.put-in-WithText.ensures.grows
 
 pub emit_conditional-returns-clause-stands : goal.emit_conditional-returns-clause-stands
 emit_conditional-returns-clause-stands t c =
@@ -77,6 +88,42 @@ emit_list-returns-clause-stands t c =
     (λ e.
     emits_items _ _ _ _ _ _ _ _ c.requires.is c.as_slice.ensures c.in_ok-emit_each.ensures.stands c.leave.ensures.code c.len.ensures e)
     c.put.ensures.code
+
+pub emit_map-returns-clause-stands : goal.emit_map-returns-clause-stands
+emit_map-returns-clause-stands t c =
+    on_ok_weaker c.put.result
+    (λ e.
+    emits_entries _ _ _ _ _ _ _ _ c.requires.is c.as_slice.ensures c.in_ok-emit_entries.ensures.stands c.leave.ensures.code c.len.ensures e)
+    c.put.ensures.code
+
+pub emit_map-returns-clause-writes : goal.emit_map-returns-clause-writes
+emit_map-returns-clause-writes t c =
+    let under = c.leave.ensures.below _ _ c.in_ok-emit_entries.ensures.writes.below c.len-below.ensures in
+    on_ok_weaker c.put.result
+    (λ g.
+    writes_entries _ _ _ _ _ _ _ c.requires.is c.as_slice.ensures c.in_ok-emit_entries.ensures.writes c.leave.ensures.code c.leave.ensures.targets under g)
+    c.put.ensures.grows
+
+pub emit_entries-loop-entry-preserved : goal.emit_entries-loop-entry-preserved
+emit_entries-loop-entry-preserved t c =
+    let l = c.loop-entry in
+    let entry = c.entry-item.result in
+    let left = split_at c.args.entries.now l.entry-index entry (omega (arith, c.loop-entry-test.true)) c.entry-item.is in
+    let under = c.in_ok-push.ensures.ok ∙ ap (λ t. c.emit.new.self.below ++ t ∷ []) c.in_ok-copy.ensures in
+    let under_value = c.in_ok-push-2.ensures.ok ∙ ap (λ t. c.emit-in-loop-entry.new.self.below ++ t ∷ []) c.in_ok-copy-2.ensures in
+    entry_goes_on _ _ c.emit.new.self _ c.emit-in-loop-entry.new.self _ _ _ _ entry.key entry.value (ap by_turns left) l.invariant
+    c.in_ok-emit.ensures.writes c.in_ok-emit.ensures.stands c.in_ok-emit-2.ensures.writes c.in_ok-emit-2.ensures.stands refl refl under
+    refl refl under_value
+
+pub emit_entries-returns-clause-stands : goal.emit_entries-returns-clause-stands
+emit_entries-returns-clause-stands t c =
+    let l = c.loop-entry in
+    all_stand _ _ _ _ (ap by_turns (none_left c.args.entries.now l.entry-index (omega (arith, c.loop-entry-test.false)))) l.invariant
+
+pub emit_entries-returns-clause-writes : goal.emit_entries-returns-clause-writes
+emit_entries-returns-clause-writes t c =
+    let l = c.loop-entry in
+    all_written _ _ _ _ (ap by_turns (none_left c.args.entries.now l.entry-index (omega (arith, c.loop-entry-test.false)))) l.invariant
 
 pub emit_each-loop-tree-preserved : goal.emit_each-loop-tree-preserved
 emit_each-loop-tree-preserved t c =

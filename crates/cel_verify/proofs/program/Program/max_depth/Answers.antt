@@ -1,5 +1,5 @@
 use Rattle.std.proofs.Common.{◌≡◌, true, [], sym, subst, arith}
-use Rattle.cel_check.specs.Outcomes.{slots_fit}
+use Rattle.cel_operators.specs.Outcomes.{slots_fit}
 use Rattle.cel_code.specs.Machine.{on, Gets}
 use Rattle.cel_verify.proofs.Bounded.{greatest_within}
 use Rattle.cel_verify.proofs.Depths.{never_more}

@@ -1,5 +1,0 @@
-use Rattle.std.proofs.Common.{rules}
-use Rattle.cel_check.proofs.operator.Operator.operands.Goals as goal
-
-pub returns-in-Negate : goal.returns-in-Negate
-returns-in-Negate c = search rules

@@ -1,0 +1,18 @@
+use Rattle.cel_operators.specs.declared.text_operator.TextOperator.TheVariants.{Select, Has, Matches}
+use Rattle.cel_machine.proofs.Meters.{led}
+use Rattle.cel_machine.proofs.with_text.operate_with.Goals as goal
+
+pub returns-in-Select-clause-acts : goal.returns-in-Select-clause-acts
+returns-in-Select-clause-acts c =
+    led c.select.result c.args.op Select c.args.text.now c.args.at c.args.stack.now.items c.select.new.stack.items
+    c.in-Select.is c.select.ensures.acts
+
+pub returns-in-Has-clause-acts : goal.returns-in-Has-clause-acts
+returns-in-Has-clause-acts c =
+    led c.has.result c.args.op Has c.args.text.now c.args.at c.args.stack.now.items c.has.new.stack.items
+    c.in-Has.is c.has.ensures.acts
+
+pub returns-in-Matches-clause-acts : goal.returns-in-Matches-clause-acts
+returns-in-Matches-clause-acts c =
+    led c.search.result c.args.op Matches c.args.text.now c.args.at c.args.stack.now.items c.search.new.stack.items
+    c.in-Matches.is c.search.ensures.acts

@@ -1,0 +1,33 @@
+//! Patterns that are looked for in texts.
+
+ghost use Rattle.std.specs.Prelude.{◌≡◌, Some, IfOk};
+ghost use Rattle.cel_operators.specs.Operators.{at_one};
+ghost use Rattle.cel_operators.specs.TextOperators.{row_with};
+ghost use Rattle.cel_apply.specs.Counted.{counted};
+ghost use Rattle.cel_apply.specs.Lent.{lent};
+
+use crate::fault::RunFault;
+use cel_apply::{alone, characters, made};
+use cel_operators::{Made, TextOperator, matching_charge};
+use cel_patterns::Matchers;
+use cel_value::{CelError, Value, code_points};
+use std::alloc::Global;
+
+/// Whether a pattern is found in an operand.
+pub fn matches(
+    alloc: Global,
+    x: Result<&Value, CelError>,
+    pattern: &str,
+    matchers: &mut Matchers,
+) -> Result<Option<Made>, RunFault>
+    ensures { IfOk result (λ made. made ≡ counted (at_one (row_with TextOperator.Matches pattern.now) (Some (lent x.entry)))) }
+{
+    match alone(characters(x)) {
+        Ok(text) => {
+            let found = matchers.finds(alloc, pattern, text)?;
+            let charge = matching_charge(pattern, code_points(text) as u64);
+            Ok(made(Ok(Value::Bool(found)), charge))
+        }
+        Err(made) => Ok(made),
+    }
+}

@@ -1,0 +1,96 @@
+//! The instruction of the operators that are given a text.
+
+ghost use Rattle.std.specs.Prelude.{◌≡◌, ◌+◌, ◌<◌, ◌^◌, IfOk, Some, option_map, slice_get};
+ghost use Rattle.cel_operators.specs.TextOperators.{row_with};
+ghost use Rattle.cel_code.specs.Machine.{constant_text, operate_with};
+ghost use Rattle.cel_machine.specs.Room.{HasRoom};
+ghost use Rattle.cel_machine.specs.Follow.{LeadsTo, Comes, metered_one};
+
+use crate::fault::RunFault;
+use crate::operand::read;
+use crate::parts::{field, has_field};
+use crate::searching::matches;
+use crate::stack::Stack;
+use crate::step::{Move, finish};
+use cel_code::Image;
+use cel_operators::TextOperator;
+use cel_patterns::Matchers;
+use cel_value::Value;
+use std::alloc::Global;
+
+/// The text that a constant is, if it is one.
+pub fn text_at(image: &Image, number: usize) -> Option<&str>
+    ensures { option_map (λ s. s.now) result ≡ constant_text (slice_get image.now.constants number) }
+{
+    match image.constants.get(number) {
+        Some(Value::Text(text)) => Some(text.as_str()),
+        _ => None,
+    }
+}
+
+/// An operator with a text at the operand on the stack.
+pub fn operate_with(
+    alloc: Global,
+    op: TextOperator,
+    text: &str,
+    at: usize,
+    stack: &mut Stack<'_>,
+    matchers: &mut Matchers,
+) -> Result<Move, RunFault>
+    requires at { at + 1 < 2 ^ 64 }
+    requires room { HasRoom stack.old }
+    ensures acts { IfOk result (λ m. LeadsTo (operate_with op (Some text.now) at stack.old.items) m stack.new.items) }
+    ensures room { stack.new.room ≡ stack.old.room }
+{
+    match op {
+        TextOperator::Select => select(alloc, text, at, stack),
+        TextOperator::Has => has(text, at, stack),
+        TextOperator::Matches => search(alloc, text, at, stack, matchers),
+    }
+}
+
+fn select(alloc: Global, name: &str, at: usize, stack: &mut Stack<'_>) -> Result<Move, RunFault>
+    requires at { at + 1 < 2 ^ 64 }
+    requires room { HasRoom stack.old }
+    ensures acts { IfOk result (λ m. Comes (metered_one (row_with TextOperator.Select name.now) at stack.old.items) m stack.new.items) }
+    ensures room { stack.new.room ≡ stack.old.room }
+{
+    let Some(x) = stack.pop() else {
+        return Ok(Move::IsStuckHere);
+    };
+    let Some(part) = field(alloc, x, name)? else {
+        return Ok(Move::IsStuckHere);
+    };
+    stack.push(part);
+    Ok(Move::GoesTo(1, at + 1))
+}
+
+fn has(name: &str, at: usize, stack: &mut Stack<'_>) -> Result<Move, RunFault>
+    requires at { at + 1 < 2 ^ 64 }
+    requires room { HasRoom stack.old }
+    ensures acts { IfOk result (λ m. Comes (metered_one (row_with TextOperator.Has name.now) at stack.old.items) m stack.new.items) }
+    ensures room { stack.new.room ≡ stack.old.room }
+{
+    let Some(x) = stack.pop() else {
+        return Ok(Move::IsStuckHere);
+    };
+    finish(Ok(has_field(read(&x), name)), at, stack)
+}
+
+fn search(
+    alloc: Global,
+    pattern: &str,
+    at: usize,
+    stack: &mut Stack<'_>,
+    matchers: &mut Matchers,
+) -> Result<Move, RunFault>
+    requires at { at + 1 < 2 ^ 64 }
+    requires room { HasRoom stack.old }
+    ensures acts { IfOk result (λ m. Comes (metered_one (row_with TextOperator.Matches pattern.now) at stack.old.items) m stack.new.items) }
+    ensures room { stack.new.room ≡ stack.old.room }
+{
+    let Some(x) = stack.pop() else {
+        return Ok(Move::IsStuckHere);
+    };
+    finish(matches(alloc, read(&x), pattern, matchers), at, stack)
+}

@@ -1,0 +1,549 @@
+-- The operators: for each the kinds of its operands, its answer and errors, its charge, its type and its greatest
+-- charge. The value, the cost, the machine and the verifier take an operator from here alone.
+use Rattle.std.specs.Prelude.{ℕ, zero, suc, ◌+◌, ◌-◌, ◌*◌, ◌/◌, ◌%◌, ◌^◌, min, max, ℤ, pos, negsuc, ◌+ℤ◌, ◌-ℤ◌, ◌≡◌}
+use Rattle.std.specs.Prelude.{◌*ℤ◌, neg_ℤ, int_div, int_rem, int_lt, Bool, true, false, not, ◌&&◌, nat_lt, nat_le, List, []}
+use Rattle.std.specs.Prelude.{◌∷◌, ◌++◌, map, length, sum, sum_by, if◌then◌else◌, slice_get, is_some, Option, Some, None, Result, Ok, Err}
+use Rattle.std.specs.Prelude.{chars, decimal}
+use Rattle.std.specs.Fmt.{signed_decimal}
+use Rattle.std.specs.Char.{to_ascii_lowercase, to_ascii_uppercase}
+use Rattle.std.specs.List.{list_any, join_by}
+use Rattle.std.specs.Ordering.{nat_cmp, is_lt}
+use Rattle.std.specs.Cmp.Lexicographic.{slice_cmp}
+use Rattle.plain.specs.Keys.{value_under}
+use Rattle.cel_value.specs.declared.value.Value.{Value, out-Value}
+use Rattle.cel_value.specs.declared.value.Value as value
+use Rattle.cel_value.specs.declared.value.Value.TheOpen.{Value-F}
+use Rattle.cel_value.specs.declared.cel_type.CelType.{CelType}
+use Rattle.cel_value.specs.declared.cel_type.CelType as type
+use Rattle.cel_value.specs.declared.cel_error.CelError.{CelError}
+use Rattle.cel_value.specs.declared.cel_error.CelError.TheVariants.{Overflow, DivideByZero, OutOfRange, NoSuchKey, BadConversion, EmptyList}
+use Rattle.cel_value.specs.Value.{weight_of, items_weight_of, text_weight_of, tenths_of, code_points, same, bool_lt}
+use Rattle.cel_value.specs.CelType.{greatest_of, join}
+use Rattle.cel_text.specs.Numbers.{int_of, uint_of}
+use Rattle.cel_text.specs.Parts.{starts_with, ends_with, contains}
+use Rattle.cel_operators.specs.declared.operator.Operator.{Operator}
+use Rattle.cel_operators.specs.declared.operator.Operator.TheVariants.{Not, Negate, Add, AddUint, AddText, AddList, Subtract, SubtractUint}
+use Rattle.cel_operators.specs.declared.operator.Operator.TheVariants.{Multiply, MultiplyUint, Divide, DivideUint, Remainder, RemainderUint}
+use Rattle.cel_operators.specs.declared.operator.Operator.TheVariants.{Equal, NotEqual, Less, AtMost, Greater, AtLeast, InList, InMap}
+use Rattle.cel_operators.specs.declared.operator.Operator.TheVariants.{IndexList, IndexMap, SizeText, SizeList, SizeMap, StartsWith}
+use Rattle.cel_operators.specs.declared.operator.Operator.TheVariants.{EndsWith, Contains, LowerAscii, UpperAscii, StringOfInt}
+use Rattle.cel_operators.specs.declared.operator.Operator.TheVariants.{StringOfUint, StringOfText, IntOfInt, IntOfUint, IntOfText}
+use Rattle.cel_operators.specs.declared.operator.Operator.TheVariants.{UintOfInt, UintOfUint, UintOfText, SumInts, SumUints, MinInts}
+use Rattle.cel_operators.specs.declared.operator.Operator.TheVariants.{MinUints, MaxInts, MaxUints, Join}
+pub use Rattle.cel_operators.specs.declared.operator.Made.{Made}
+use Rattle.cel_operators.specs.declared.operands.Operands.TheVariants as operands
+use Rattle.cel_operators.specs.declared.operands.Operands.{Operands}
+use Rattle.cel_operators.specs.declared.type_rule.TypeRule.{TypeRule}
+use Rattle.cel_operators.specs.declared.type_rule.TypeRule.TheVariants.{NoOverload, TooLarge}
+use Rattle.cel_operators.specs.Compared.{compared}
+use Rattle.cel_operators.specs.Outcomes.{Outcome}
+use Rattle.cel_operators.specs.Wants.{Want, Any, Truth, Whole, Natural, Ordered, Characters, Items, Entries, Indexed, Sought, Wholes}
+use Rattle.cel_operators.specs.Wants.{Naturals, Texts, Of, taken, Limit, Shelf, limit_of}
+use Rattle.cel_operators.specs.declared.type_rule.Untyped.{Untyped}
+use Rattle.cel_operators.specs.declared.type_rule.Untyped.TheVariants as untyped
+
+-- an operator with one operand; None is no answer at an operand of its kind
+pub record OneRow (w : Want) : Type 0 where
+  pub answer : Of w → Option Outcome
+  pub charge : Of w → ℕ
+  pub result : Limit w → Result CelType TypeRule
+  pub greatest : Limit w → ℕ
+
+-- an operator with two operands
+pub record TwoRow (v w : Want) : Type 0 where
+  pub answer : Of v → Of w → Option Outcome
+  pub charge : Of v → Of w → ℕ
+  pub result : Limit v → Limit w → Result CelType TypeRule
+  pub greatest : Limit v → Limit w → ℕ
+
+-- an operator's row of the table
+pub data Row : Type 0 where
+  One : (w : Want) → OneRow w → Row
+  Two : (v w : Want) → TwoRow v w → Row
+
+-- how many operands a row has, and their kinds
+abbrev pub operands_of : Row → Operands
+operands_of (One w r) = operands.One w
+operands_of (Two v w r) = operands.Two v w
+
+-- whether a whole number is an int of 64 bits
+abbrev pub in_range : ℤ → Bool
+in_range (pos n) = nat_lt n (2 ^ 63)
+in_range (negsuc n) = nat_lt n (2 ^ 63)
+
+-- an int, or that it is out of range
+abbrev pub int_or_overflow : ℤ → Outcome
+int_or_overflow z = if in_range z then Ok (value.Int z) else Err Overflow
+
+-- an unsigned integer, or that it is out of range
+abbrev pub uint_or_overflow : ℕ → Outcome
+uint_or_overflow n = if nat_lt n (2 ^ 64) then Ok (value.Uint n) else Err Overflow
+
+-- a quotient or a remainder; the remainder overflows where the quotient does
+abbrev pub divided : (ℤ → ℤ → ℤ) → ℤ → ℤ → Outcome
+divided f a (pos zero) = Err DivideByZero
+divided f a b = if in_range (int_div a b) then Ok (value.Int (f a b)) else Err Overflow
+
+-- a difference of unsigned integers, which has no sign
+abbrev pub uint_difference : ℕ → ℕ → Outcome
+uint_difference m n = if nat_le n m then Ok (value.Uint (m - n)) else Err Overflow
+
+-- a quotient or a remainder of unsigned integers
+abbrev pub uint_divided : (ℕ → ℕ → ℕ) → ℕ → ℕ → Outcome
+uint_divided f m zero = Err DivideByZero
+uint_divided f m (suc n) = Ok (value.Uint (f m (suc n)))
+
+-- the order of two levels of one kind: false before true, the numbers, and texts by their code points
+abbrev pub less_at : Value-F Value → Value-F Value → Option Bool
+less_at (Value-F.Bool a) (Value-F.Bool b) = Some (bool_lt a b)
+less_at (Value-F.Int m) (Value-F.Int n) = Some (int_lt m n)
+less_at (Value-F.Uint m) (Value-F.Uint n) = Some (nat_lt m n)
+less_at (Value-F.Text a) (Value-F.Text b) = Some (is_lt (slice_cmp nat_cmp (chars a) (chars b)))
+less_at _ _ = None
+
+-- the order of two values of one kind
+abbrev pub less : Value → Value → Option Bool
+less v w = less_at (out-Value v) (out-Value w)
+
+-- a comparison's truth value, where it has one
+abbrev pub truth_of : Option Bool → Option Outcome
+truth_of None = None
+truth_of (Some b) = Some (Ok (value.Bool b))
+
+-- the opposite of a comparison's truth value
+abbrev pub untruth_of : Option Bool → Option Outcome
+untruth_of None = None
+untruth_of (Some b) = Some (Ok (value.Bool (not b)))
+
+-- a truth value, where two types have a join
+abbrev pub bool_where : Option CelType → Result CelType TypeRule
+bool_where None = Err NoOverload
+bool_where (Some t) = Ok type.Bool
+
+-- the lesser weight of two values
+abbrev pub lesser_weight : Value → Value → ℕ
+lesser_weight v w = min (weight_of v) (weight_of w)
+
+-- the lesser greatest weight of two types
+abbrev pub lesser_greatest : CelType → CelType → ℕ
+lesser_greatest s t = min (greatest_of s) (greatest_of t)
+
+-- `!`
+abbrev pub not_row : OneRow Truth
+not_row = record { answer = λ b. Some (Ok (value.Bool (not b))); charge = λ b. 1; result = λ l. Ok type.Bool; greatest = λ l. 1 }
+
+-- `-` in front
+abbrev pub negate_row : OneRow Whole
+negate_row = record { answer = λ n. Some (int_or_overflow (neg_ℤ n)); charge = λ n. 1; result = λ l. Ok type.Int; greatest = λ l. 1 }
+
+-- an operation on two integers
+abbrev pub arithmetic_row : (ℤ → ℤ → Outcome) → TwoRow Whole Whole
+arithmetic_row f = record { answer = λ m n. Some (f m n); charge = λ m n. 1; result = λ l k. Ok type.Int; greatest = λ l k. 1 }
+
+-- an operation on two unsigned integers
+abbrev pub natural_row : (ℕ → ℕ → Outcome) → TwoRow Natural Natural
+natural_row f = record { answer = λ m n. Some (f m n); charge = λ m n. 1; result = λ l k. Ok type.Uint; greatest = λ l k. 1 }
+
+-- `==`, and `!=` by the opposite
+abbrev pub equality_row : (Bool → Bool) → TwoRow Any Any
+equality_row f = record { answer = λ v w. Some (Ok (value.Bool (f (same v w)))); charge = lesser_weight; result = compared; greatest = lesser_greatest }
+
+-- `<` and its like, by what they say of two values
+abbrev pub order_row : (Value → Value → Option Outcome) → TwoRow Ordered Ordered
+order_row f = record { answer = f; charge = lesser_weight; result = λ s t. bool_where (join s t); greatest = lesser_greatest }
+
+-- the tenths of a text's code points, rounded up
+abbrev pub tenths_in : List ℕ → ℕ
+tenths_in bytes = tenths_of (code_points bytes)
+
+-- the type of texts of at most so many code points, where there is one
+abbrev pub text_type : ℕ → Result CelType TypeRule
+text_type n = if nat_lt n (2 ^ 32) then Ok (type.Text n) else Err TooLarge
+
+-- the type of plain lists of at most so many items, likewise
+abbrev pub list_type : ℕ → CelType → Result CelType TypeRule
+list_type n item = if nat_lt n (2 ^ 32) then Ok (type.List n true item) else Err TooLarge
+
+-- the type of two lists in a row: both are plain, and their items have a join
+abbrev pub both_lists : ℕ → Bool → Option CelType → Result CelType TypeRule
+both_lists n false item = Err NoOverload
+both_lists n true None = Err NoOverload
+both_lists n true (Some item) = list_type n item
+
+-- a truth value as an answer
+abbrev pub truth : Bool → Option Outcome
+truth b = Some (Ok (value.Bool b))
+
+-- a count as an answer
+abbrev pub counts : ℕ → Option Outcome
+counts n = Some (Ok (value.Int (pos n)))
+
+-- a text as an answer
+abbrev pub answers_text : List ℕ → Option Outcome
+answers_text bytes = Some (Ok (value.Text bytes))
+
+-- `+` of texts
+abbrev pub text_sum_row : TwoRow Characters Characters
+text_sum_row = record {
+  answer = λ s t. answers_text (s ++ t);
+  charge = λ s t. 1 + tenths_in s + tenths_in t;
+  result = λ m n. text_type (m + n);
+  greatest = λ m n. 1 + tenths_of m + tenths_of n;
+}
+
+-- `+` of lists
+abbrev pub list_sum_row : TwoRow Items Items
+list_sum_row = record {
+  answer = λ vs ws. Some (Ok (value.List (vs ++ ws)));
+  charge = λ vs ws. 1 + length vs + length ws;
+  result = λ r q. both_lists (r.max + q.max) (r.plain && q.plain) (join r.item q.item);
+  greatest = λ r q. 1 + r.max + q.max;
+}
+
+-- `in` a list, whose own weight is 1 beside that of its items
+abbrev pub in_list_row : TwoRow Any Items
+in_list_row = record {
+  answer = λ v vs. truth (list_any (same v) vs);
+  charge = λ v vs. 1 + (1 + items_weight_of vs);
+  result = λ t r. compared t r.item;
+  greatest = λ t r. 1 + (1 + r.max * greatest_of r.item);
+}
+
+-- `in` a map
+abbrev pub in_map_row : TwoRow Characters Entries
+in_map_row = record {
+  answer = λ k es. truth (is_some (value_under k es));
+  charge = λ k es. 1 + tenths_in k;
+  result = λ m s. Ok type.Bool;
+  greatest = λ m s. 1 + tenths_of m;
+}
+
+-- what there is, or an error
+abbrev pub or_error : CelError → Option Value → Outcome
+or_error e None = Err e
+or_error e (Some v) = Ok v
+
+-- the item at a place, if the list has it
+abbrev pub item_at : List Value → ℤ → Outcome
+item_at vs (pos n) = or_error OutOfRange (slice_get vs n)
+item_at vs (negsuc n) = Err OutOfRange
+
+-- an item by its place
+abbrev pub index_list_row : TwoRow Indexed Whole
+index_list_row = record { answer = λ vs n. Some (item_at vs n); charge = λ vs n. 1; result = λ r l. Ok r.item; greatest = λ r l. 1 }
+
+-- what stands under a key
+abbrev pub index_map_row : TwoRow Sought Characters
+index_map_row = record {
+  answer = λ es k. Some (or_error NoSuchKey (value_under k es));
+  charge = λ es k. 1 + tenths_in k;
+  result = λ s m. Ok s.item;
+  greatest = λ s m. 1 + tenths_of m;
+}
+
+-- an operation on a text that looks at each code point, by its answer and the type of that
+abbrev pub text_row : (List ℕ → Option Outcome) → (ℕ → CelType) → OneRow Characters
+text_row f t = record { answer = f; charge = λ s. 1 + tenths_in s; result = λ m. Ok (t m); greatest = λ m. 1 + tenths_of m }
+
+-- how many items there are
+abbrev pub size_list_row : OneRow Items
+size_list_row = record { answer = λ vs. counts (length vs); charge = λ vs. 1; result = λ r. Ok type.Int; greatest = λ r. 1 }
+
+-- how many entries there are
+abbrev pub size_map_row : OneRow Entries
+size_map_row = record { answer = λ es. counts (length es); charge = λ es. 1; result = λ s. Ok type.Int; greatest = λ s. 1 }
+
+-- by what a text begins, or ends
+abbrev pub end_row : (List ℕ → List ℕ → Bool) → TwoRow Characters Characters
+end_row f = record {
+  answer = λ s t. truth (f s t);
+  charge = λ s t. 1 + tenths_in t;
+  result = λ m n. Ok type.Bool;
+  greatest = λ m n. 1 + tenths_of n;
+}
+
+-- what a text has somewhere
+abbrev pub contains_row : TwoRow Characters Characters
+contains_row = record {
+  answer = λ s t. truth (contains s t);
+  charge = λ s t. (1 + tenths_in s) * (1 + tenths_in t);
+  result = λ m n. Ok type.Bool;
+  greatest = λ m n. (1 + tenths_of m) * (1 + tenths_of n);
+}
+
+-- an operation on one integer that charges 1, by its answer and the type of that
+abbrev pub int_row : (ℤ → Outcome) → CelType → OneRow Whole
+int_row f t = record { answer = λ n. Some (f n); charge = λ n. 1; result = λ l. Ok t; greatest = λ l. 1 }
+
+-- the same of an unsigned one
+abbrev pub uint_row : (ℕ → Outcome) → CelType → OneRow Natural
+uint_row f t = record { answer = λ n. Some (f n); charge = λ n. 1; result = λ l. Ok t; greatest = λ l. 1 }
+
+-- an integer in decimal digits: of 64 bits it has 20 code points at most, and there is no other
+abbrev pub string_of_int : ℤ → Outcome
+string_of_int n = if in_range n then Ok (value.Text (signed_decimal n)) else Err Overflow
+
+-- an unsigned one, likewise
+abbrev pub string_of_uint : ℕ → Outcome
+string_of_uint n = if nat_lt n (2 ^ 64) then Ok (value.Text (decimal n)) else Err Overflow
+
+-- a text as it is
+abbrev pub same_text_row : OneRow Characters
+same_text_row = record { answer = answers_text; charge = λ s. 1; result = λ m. Ok (type.Text m); greatest = λ m. 1 }
+
+-- the number that a text spells, as a value, or that it spells none
+abbrev pub spelled : {A : Type 0} → (A → Value) → Option A → Outcome
+spelled f None = Err BadConversion
+spelled f (Some n) = Ok (f n)
+
+-- an integer as an unsigned one
+abbrev pub uint_of_int : ℤ → Outcome
+uint_of_int (pos n) = Ok (value.Uint n)
+uint_of_int (negsuc n) = Err Overflow
+
+-- the sum of all, whole before its range is looked at; of nothing it is 0
+abbrev pub sum_of_ints : List ℤ → ℤ
+sum_of_ints [] = pos 0
+sum_of_ints (n ∷ ns) = n +ℤ sum_of_ints ns
+
+-- the lesser of two integers
+abbrev pub lesser_int : ℤ → ℤ → ℤ
+lesser_int m n = if int_lt n m then n else m
+
+-- the greater of two integers
+abbrev pub greater_int : ℤ → ℤ → ℤ
+greater_int m n = if int_lt m n then n else m
+
+-- what is left of several things, where of two one is left; of nothing there is none
+abbrev pub left_of : {A : Type 0} → (A → A → A) → A → List A → A
+left_of f a [] = a
+left_of f a (b ∷ bs) = left_of f (f a b) bs
+
+-- what is left of several things, as a value, or that there is nothing
+abbrev pub extreme_of : {A : Type 0} → (A → A → A) → (A → Value) → List A → Outcome
+extreme_of f v [] = Err EmptyList
+extreme_of f v (a ∷ rest) = Ok (v (left_of f a rest))
+
+-- an operation on a list of integers, by its answer
+abbrev pub ints_row : (List ℤ → Outcome) → OneRow Wholes
+ints_row f = record { answer = λ ns. Some (f ns); charge = λ ns. 1 + length ns; result = λ m. Ok type.Int; greatest = λ m. 1 + m }
+
+-- the same of unsigned ones
+abbrev pub uints_row : (List ℕ → Outcome) → OneRow Naturals
+uints_row f = record { answer = λ ns. Some (f ns); charge = λ ns. 1 + length ns; result = λ m. Ok type.Uint; greatest = λ m. 1 + m }
+
+-- the most code points of texts in a row, with a separator between each two
+abbrev pub join_limit : Shelf → ℕ → ℕ
+join_limit s m = s.max * s.text_max + (s.max - 1) * m
+
+-- texts in a row, a separator between each two; a list of texts weighs 1 and what they do
+abbrev pub join_row : TwoRow Texts Characters
+join_row = record {
+  answer = λ ts t. answers_text (join_by (λ u. u) t ts);
+  charge = λ ts t. 1 + (1 + sum_by text_weight_of ts) + length ts * (1 + tenths_in t);
+  result = λ s m. text_type (join_limit s m);
+  greatest = λ s m. 1 + (1 + s.max * (1 + tenths_of s.text_max)) + s.max * (1 + tenths_of m);
+}
+
+-- the table
+abbrev pub row : Operator → Row
+row Not = One Truth not_row
+row Negate = One Whole negate_row
+row Add = Two Whole Whole (arithmetic_row (λ m n. int_or_overflow (m +ℤ n)))
+row AddUint = Two Natural Natural (natural_row (λ m n. uint_or_overflow (m + n)))
+row AddText = Two Characters Characters text_sum_row
+row AddList = Two Items Items list_sum_row
+row Subtract = Two Whole Whole (arithmetic_row (λ m n. int_or_overflow (m -ℤ n)))
+row SubtractUint = Two Natural Natural (natural_row uint_difference)
+row Multiply = Two Whole Whole (arithmetic_row (λ m n. int_or_overflow (m *ℤ n)))
+row MultiplyUint = Two Natural Natural (natural_row (λ m n. uint_or_overflow (m * n)))
+row Divide = Two Whole Whole (arithmetic_row (divided int_div))
+row DivideUint = Two Natural Natural (natural_row (uint_divided (λ m n. m / n)))
+row Remainder = Two Whole Whole (arithmetic_row (divided int_rem))
+row RemainderUint = Two Natural Natural (natural_row (uint_divided (λ m n. m % n)))
+row Equal = Two Any Any (equality_row (λ b. b))
+row NotEqual = Two Any Any (equality_row not)
+row Less = Two Ordered Ordered (order_row (λ v w. truth_of (less v w)))
+row AtMost = Two Ordered Ordered (order_row (λ v w. untruth_of (less w v)))
+row Greater = Two Ordered Ordered (order_row (λ v w. truth_of (less w v)))
+row AtLeast = Two Ordered Ordered (order_row (λ v w. untruth_of (less v w)))
+row InList = Two Any Items in_list_row
+row InMap = Two Characters Entries in_map_row
+row IndexList = Two Indexed Whole index_list_row
+row IndexMap = Two Sought Characters index_map_row
+row SizeText = One Characters (text_row (λ s. counts (code_points s)) (λ m. type.Int))
+row SizeList = One Items size_list_row
+row SizeMap = One Entries size_map_row
+row StartsWith = Two Characters Characters (end_row starts_with)
+row EndsWith = Two Characters Characters (end_row ends_with)
+row Contains = Two Characters Characters contains_row
+row LowerAscii = One Characters (text_row (λ s. answers_text (map to_ascii_lowercase s)) (λ m. type.Text m))
+row UpperAscii = One Characters (text_row (λ s. answers_text (map to_ascii_uppercase s)) (λ m. type.Text m))
+row StringOfInt = One Whole (int_row string_of_int (type.Text 20))
+row StringOfUint = One Natural (uint_row string_of_uint (type.Text 20))
+row StringOfText = One Characters same_text_row
+row IntOfInt = One Whole (int_row (λ n. Ok (value.Int n)) type.Int)
+row IntOfUint = One Natural (uint_row (λ n. int_or_overflow (pos n)) type.Int)
+row IntOfText = One Characters (text_row (λ s. Some (spelled value.Int (int_of s))) (λ m. type.Int))
+row UintOfInt = One Whole (int_row uint_of_int type.Uint)
+row UintOfUint = One Natural (uint_row (λ n. Ok (value.Uint n)) type.Uint)
+row UintOfText = One Characters (text_row (λ s. Some (spelled value.Uint (uint_of s))) (λ m. type.Uint))
+row SumInts = One Wholes (ints_row (λ ns. int_or_overflow (sum_of_ints ns)))
+row SumUints = One Naturals (uints_row (λ ns. uint_or_overflow (sum ns)))
+row MinInts = One Wholes (ints_row (extreme_of lesser_int value.Int))
+row MinUints = One Naturals (uints_row (extreme_of min value.Uint))
+row MaxInts = One Wholes (ints_row (extreme_of greater_int value.Int))
+row MaxUints = One Naturals (uints_row (extreme_of max value.Uint))
+row Join = Two Texts Characters join_row
+
+-- the operators by their numbers
+abbrev pub operators : List Operator
+operators =
+    Not ∷ Negate ∷ Add ∷ AddUint ∷ AddText ∷ AddList ∷ Subtract ∷ SubtractUint ∷ Multiply ∷ MultiplyUint ∷ Divide
+    ∷ DivideUint ∷ Remainder ∷ RemainderUint ∷ Equal ∷ NotEqual ∷ Less ∷ AtMost ∷ Greater ∷ AtLeast ∷ InList ∷ InMap
+    ∷ IndexList ∷ IndexMap ∷ SizeText ∷ SizeList ∷ SizeMap ∷ StartsWith ∷ EndsWith ∷ Contains ∷ LowerAscii ∷ UpperAscii
+    ∷ StringOfInt ∷ StringOfUint ∷ StringOfText ∷ IntOfInt ∷ IntOfUint ∷ IntOfText ∷ UintOfInt ∷ UintOfUint ∷ UintOfText
+    ∷ SumInts ∷ SumUints ∷ MinInts ∷ MinUints ∷ MaxInts ∷ MaxUints ∷ Join ∷ []
+
+-- the operator of a number, if there is one
+abbrev pub operator_of : ℕ → Option Operator
+operator_of n = slice_get operators n
+
+-- the number of an operator
+abbrev pub code_of : Operator → ℕ
+code_of Not = 0
+code_of Negate = 1
+code_of Add = 2
+code_of AddUint = 3
+code_of AddText = 4
+code_of AddList = 5
+code_of Subtract = 6
+code_of SubtractUint = 7
+code_of Multiply = 8
+code_of MultiplyUint = 9
+code_of Divide = 10
+code_of DivideUint = 11
+code_of Remainder = 12
+code_of RemainderUint = 13
+code_of Equal = 14
+code_of NotEqual = 15
+code_of Less = 16
+code_of AtMost = 17
+code_of Greater = 18
+code_of AtLeast = 19
+code_of InList = 20
+code_of InMap = 21
+code_of IndexList = 22
+code_of IndexMap = 23
+code_of SizeText = 24
+code_of SizeList = 25
+code_of SizeMap = 26
+code_of StartsWith = 27
+code_of EndsWith = 28
+code_of Contains = 29
+code_of LowerAscii = 30
+code_of UpperAscii = 31
+code_of StringOfInt = 32
+code_of StringOfUint = 33
+code_of StringOfText = 34
+code_of IntOfInt = 35
+code_of IntOfUint = 36
+code_of IntOfText = 37
+code_of UintOfInt = 38
+code_of UintOfUint = 39
+code_of UintOfText = 40
+code_of SumInts = 41
+code_of SumUints = 42
+code_of MinInts = 43
+code_of MinUints = 44
+code_of MaxInts = 45
+code_of MaxUints = 46
+code_of Join = 47
+
+-- an answer with its charge
+abbrev pub makes : Option Outcome → ℕ → Option Made
+makes None n = None
+makes (Some x) n = Some (record { outcome = x; charge = n })
+
+-- the operand's error, which charges 1, or the row at it
+abbrev pub one : {A : Type 0} → (A → Option Made) → Option (Result A CelError) → Option Made
+one f None = None
+one f (Some (Err e)) = makes (Some (Err e)) 1
+one f (Some (Ok a)) = f a
+
+-- the leftmost error, which charges 1, or the row at both
+abbrev pub two : {A B : Type 0} → (A → B → Option Made) → Option (Result A CelError) → Option (Result B CelError) → Option Made
+two f None y = None
+two f (Some (Err e)) None = None
+two f (Some (Ok a)) None = None
+two f (Some (Err e)) (Some y) = makes (Some (Err e)) 1
+two f (Some (Ok a)) (Some (Err e)) = makes (Some (Err e)) 1
+two f (Some (Ok a)) (Some (Ok b)) = f a b
+
+-- an operator at one operand; None where it takes two, or another kind
+abbrev pub at_one : Row → Option Outcome → Option Made
+at_one (One w r) x = one (λ a. makes (r.answer a) (r.charge a)) (taken w x)
+at_one (Two v w r) x = None
+
+-- an operator at two operands, likewise
+abbrev pub at_two : Row → Option Outcome → Option Outcome → Option Made
+at_two (One w r) x y = None
+at_two (Two v w r) x y = two (λ a b. makes (r.answer a b) (r.charge a b)) (taken v x) (taken w y)
+
+-- what was answered
+abbrev pub outcome_made : Option Made → Option Outcome
+outcome_made None = None
+outcome_made (Some m) = Some m.outcome
+
+-- what an answer charges
+abbrev pub charge_made : Option Made → ℕ
+charge_made None = 0
+charge_made (Some m) = m.charge
+
+-- what a row says at a limit, where the type has it
+abbrev pub of_limit : {A : Type 0} → (A → Result CelType TypeRule) → Option A → Result CelType TypeRule
+of_limit f None = Err NoOverload
+of_limit f (Some l) = f l
+
+-- what a row says at two limits, where the types have them
+abbrev pub of_limits : {A B : Type 0} → (A → B → Result CelType TypeRule) → Option A → Option B → Result CelType TypeRule
+of_limits f None m = Err NoOverload
+of_limits f (Some l) None = Err NoOverload
+of_limits f (Some l) (Some m) = f l m
+
+-- the type of an operator's answers, from the type of one operand
+abbrev pub type_of_one : Row → CelType → Result CelType TypeRule
+type_of_one (One w r) s = of_limit r.result (limit_of w s)
+type_of_one (Two v w r) s = Err NoOverload
+
+-- the type of an operator's answers, from the types of two operands
+abbrev pub type_of_two : Row → CelType → CelType → Result CelType TypeRule
+type_of_two (One w r) s t = Err NoOverload
+type_of_two (Two v w r) s t = of_limits r.result (limit_of v s) (limit_of w t)
+
+-- the greatest charge at a limit, where the type has it
+abbrev pub most : {A : Type 0} → (A → ℕ) → Option A → ℕ
+most f None = 0
+most f (Some l) = f l
+
+-- the greatest charge at two limits, where the types have them
+abbrev pub most_of_two : {A B : Type 0} → (A → B → ℕ) → Option A → Option B → ℕ
+most_of_two f None m = 0
+most_of_two f (Some l) None = 0
+most_of_two f (Some l) (Some m) = f l m
+
+-- the greatest charge of an operator at one operand of a type
+abbrev pub greatest_of_one : Row → CelType → ℕ
+greatest_of_one (One w r) s = most r.greatest (limit_of w s)
+greatest_of_one (Two v w r) s = 0
+
+-- the greatest charge of an operator at two operands of types
+abbrev pub greatest_of_two : Row → CelType → CelType → ℕ
+greatest_of_two (One w r) s t = 0
+greatest_of_two (Two v w r) s t = most_of_two r.greatest (limit_of v s) (limit_of w t)
+
+-- what a row is found to give is what it gives, unless memory ran out
+abbrev pub Tells : {X : Type 0} → Result X Untyped → Result X TypeRule → Type 0
+Tells (Ok x) r = r ≡ Ok x
+Tells (Err untyped.OutOfMemory) r = Unit {0}
+Tells (Err (untyped.Rule e)) r = r ≡ Err e

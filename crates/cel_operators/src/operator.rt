@@ -1,0 +1,334 @@
+ghost use Rattle.std.specs.Prelude.{◌≡◌};
+ghost use Rattle.cel_operators.specs.Operators.{row, code_of, operands_of, operator_of, type_of_one, type_of_two, Tells};
+
+use crate::answer_type::{
+    in_list, index_list, index_map, joined, list_sum, order, same_text, text_sum, where_both_taken,
+    where_taken,
+};
+use crate::equating::compared;
+use crate::operands::{Operands, Want};
+use crate::type_rule::{TypeRule, Untyped};
+use cel_value::{CelError, CelType, Value};
+use std::alloc::Global;
+
+/// An operator at one kind of operands (cel-spec, "List of Standard Definitions").
+#[derive(Clone, Copy, Debug, PartialEq, Eq)]
+pub enum Operator {
+    Not,
+    Negate,
+    Add,
+    AddUint,
+    AddText,
+    AddList,
+    Subtract,
+    SubtractUint,
+    Multiply,
+    MultiplyUint,
+    Divide,
+    DivideUint,
+    Remainder,
+    RemainderUint,
+    Equal,
+    NotEqual,
+    Less,
+    AtMost,
+    Greater,
+    AtLeast,
+    InList,
+    InMap,
+    IndexList,
+    IndexMap,
+    SizeText,
+    SizeList,
+    SizeMap,
+    StartsWith,
+    EndsWith,
+    Contains,
+    LowerAscii,
+    UpperAscii,
+    StringOfInt,
+    StringOfUint,
+    StringOfText,
+    IntOfInt,
+    IntOfUint,
+    IntOfText,
+    UintOfInt,
+    UintOfUint,
+    UintOfText,
+    SumInts,
+    SumUints,
+    MinInts,
+    MinUints,
+    MaxInts,
+    MaxUints,
+    Join,
+}
+
+/// An operator that takes certain operands, and the type of its answers.
+#[derive(Drop)]
+pub struct Overload {
+    pub operator: Operator,
+    pub cel_type: CelType,
+}
+
+/// What an operator answers, and what that charges.
+#[derive(Drop)]
+pub struct Made {
+    pub outcome: Result<Value, CelError>,
+    pub charge: u64,
+}
+
+impl Operator {
+    /// The number that stands for the operator in an instruction.
+    pub fn code(&self) -> usize
+        ensures { result ≡ code_of self.now }
+    {
+        match self {
+            Operator::Not => 0,
+            Operator::Negate => 1,
+            Operator::Add => 2,
+            Operator::AddUint => 3,
+            Operator::AddText => 4,
+            Operator::AddList => 5,
+            Operator::Subtract => 6,
+            Operator::SubtractUint => 7,
+            Operator::Multiply => 8,
+            Operator::MultiplyUint => 9,
+            Operator::Divide => 10,
+            Operator::DivideUint => 11,
+            Operator::Remainder => 12,
+            Operator::RemainderUint => 13,
+            Operator::Equal => 14,
+            Operator::NotEqual => 15,
+            Operator::Less => 16,
+            Operator::AtMost => 17,
+            Operator::Greater => 18,
+            Operator::AtLeast => 19,
+            Operator::InList => 20,
+            Operator::InMap => 21,
+            Operator::IndexList => 22,
+            Operator::IndexMap => 23,
+            Operator::SizeText => 24,
+            Operator::SizeList => 25,
+            Operator::SizeMap => 26,
+            Operator::StartsWith => 27,
+            Operator::EndsWith => 28,
+            Operator::Contains => 29,
+            Operator::LowerAscii => 30,
+            Operator::UpperAscii => 31,
+            Operator::StringOfInt => 32,
+            Operator::StringOfUint => 33,
+            Operator::StringOfText => 34,
+            Operator::IntOfInt => 35,
+            Operator::IntOfUint => 36,
+            Operator::IntOfText => 37,
+            Operator::UintOfInt => 38,
+            Operator::UintOfUint => 39,
+            Operator::UintOfText => 40,
+            Operator::SumInts => 41,
+            Operator::SumUints => 42,
+            Operator::MinInts => 43,
+            Operator::MinUints => 44,
+            Operator::MaxInts => 45,
+            Operator::MaxUints => 46,
+            Operator::Join => 47,
+        }
+    }
+
+    /// How many operands the operator has, and what each must be.
+    pub fn operands(&self) -> Operands
+        ensures { result ≡ operands_of (row self.now) }
+    {
+        match self {
+            Operator::Not => Operands::One(Want::Truth),
+            Operator::Negate | Operator::StringOfInt | Operator::IntOfInt | Operator::UintOfInt =>
+                Operands::One(Want::Whole),
+            Operator::StringOfUint | Operator::IntOfUint | Operator::UintOfUint => Operands::One(
+                Want::Natural,
+            ),
+            Operator::SizeText
+            | Operator::LowerAscii
+            | Operator::UpperAscii
+            | Operator::StringOfText
+            | Operator::IntOfText
+            | Operator::UintOfText => Operands::One(Want::Characters),
+            Operator::SizeList => Operands::One(Want::Items),
+            Operator::SizeMap => Operands::One(Want::Entries),
+            Operator::SumInts | Operator::MinInts | Operator::MaxInts => Operands::One(
+                Want::Wholes,
+            ),
+            Operator::SumUints | Operator::MinUints | Operator::MaxUints => Operands::One(
+                Want::Naturals,
+            ),
+            Operator::Add
+            | Operator::Subtract
+            | Operator::Multiply
+            | Operator::Divide
+            | Operator::Remainder => Operands::Two(Want::Whole, Want::Whole),
+            Operator::AddUint
+            | Operator::SubtractUint
+            | Operator::MultiplyUint
+            | Operator::DivideUint
+            | Operator::RemainderUint => Operands::Two(Want::Natural, Want::Natural),
+            Operator::Equal | Operator::NotEqual => Operands::Two(Want::Any, Want::Any),
+            Operator::Less | Operator::AtMost | Operator::Greater | Operator::AtLeast =>
+                Operands::Two(Want::Ordered, Want::Ordered),
+            Operator::AddText | Operator::StartsWith | Operator::EndsWith | Operator::Contains =>
+                Operands::Two(Want::Characters, Want::Characters),
+            Operator::AddList => Operands::Two(Want::Items, Want::Items),
+            Operator::InList => Operands::Two(Want::Any, Want::Items),
+            Operator::InMap => Operands::Two(Want::Characters, Want::Entries),
+            Operator::IndexList => Operands::Two(Want::Indexed, Want::Whole),
+            Operator::IndexMap => Operands::Two(Want::Sought, Want::Characters),
+            Operator::Join => Operands::Two(Want::Texts, Want::Characters),
+        }
+    }
+
+    /// The type of the operator's answers at one operand of a type.
+    pub fn type_of_one(&self, operand: &CelType) -> Result<CelType, TypeRule>
+        ensures { result ≡ type_of_one (row self.now) operand.now }
+    {
+        match self {
+            Operator::Not => where_taken(Want::Truth, operand, CelType::Bool),
+            Operator::Negate | Operator::IntOfInt => where_taken(
+                Want::Whole,
+                operand,
+                CelType::Int,
+            ),
+            Operator::UintOfInt => where_taken(Want::Whole, operand, CelType::Uint),
+            Operator::StringOfInt => where_taken(Want::Whole, operand, CelType::Text { max: 20 }),
+            Operator::IntOfUint => where_taken(Want::Natural, operand, CelType::Int),
+            Operator::UintOfUint => where_taken(Want::Natural, operand, CelType::Uint),
+            Operator::StringOfUint => {
+                where_taken(Want::Natural, operand, CelType::Text { max: 20 })
+            }
+            Operator::SizeText | Operator::IntOfText => {
+                where_taken(Want::Characters, operand, CelType::Int)
+            }
+            Operator::UintOfText => where_taken(Want::Characters, operand, CelType::Uint),
+            Operator::LowerAscii | Operator::UpperAscii | Operator::StringOfText => {
+                same_text(operand)
+            }
+            Operator::SizeList => where_taken(Want::Items, operand, CelType::Int),
+            Operator::SizeMap => where_taken(Want::Entries, operand, CelType::Int),
+            Operator::SumInts | Operator::MinInts | Operator::MaxInts => {
+                where_taken(Want::Wholes, operand, CelType::Int)
+            }
+            Operator::SumUints | Operator::MinUints | Operator::MaxUints => {
+                where_taken(Want::Naturals, operand, CelType::Uint)
+            }
+            _ => Err(TypeRule::NoOverload),
+        }
+    }
+
+    /// The type of the operator's answers at two operands of types.
+    pub fn type_of_two(
+        &self,
+        alloc: Global,
+        left: &CelType,
+        right: &CelType,
+    ) -> Result<CelType, Untyped>
+        ensures { Tells result (type_of_two (row self.now) left.now right.now) }
+    {
+        match self {
+            Operator::Add
+            | Operator::Subtract
+            | Operator::Multiply
+            | Operator::Divide
+            | Operator::Remainder => {
+                where_both_taken(Want::Whole, Want::Whole, left, right, CelType::Int)
+            }
+            Operator::AddUint
+            | Operator::SubtractUint
+            | Operator::MultiplyUint
+            | Operator::DivideUint
+            | Operator::RemainderUint => {
+                where_both_taken(Want::Natural, Want::Natural, left, right, CelType::Uint)
+            }
+            Operator::Equal | Operator::NotEqual => compared(alloc, left, right),
+            Operator::Less | Operator::AtMost | Operator::Greater | Operator::AtLeast => {
+                order(alloc, left, right)
+            }
+            Operator::StartsWith | Operator::EndsWith | Operator::Contains => {
+                where_both_taken(
+                    Want::Characters,
+                    Want::Characters,
+                    left,
+                    right,
+                    CelType::Bool,
+                )
+            }
+            Operator::AddText => text_sum(left, right),
+            Operator::AddList => list_sum(alloc, left, right),
+            Operator::InList => in_list(alloc, left, right),
+            Operator::InMap => {
+                where_both_taken(Want::Characters, Want::Entries, left, right, CelType::Bool)
+            }
+            Operator::IndexList => index_list(left, right),
+            Operator::IndexMap => index_map(left, right),
+            Operator::Join => joined(left, right),
+            _ => Err(Untyped::Rule(TypeRule::NoOverload)),
+        }
+    }
+
+    /// The operator of a number, if there is one.
+    pub fn from_code(code: usize) -> Option<Operator>
+        ensures { result ≡ operator_of code }
+    {
+        match OPERATORS.get(code) {
+            Some(operator) => Some(*operator),
+            None => None,
+        }
+    }
+}
+
+static OPERATORS: [Operator; 48] = [
+    Operator::Not,
+    Operator::Negate,
+    Operator::Add,
+    Operator::AddUint,
+    Operator::AddText,
+    Operator::AddList,
+    Operator::Subtract,
+    Operator::SubtractUint,
+    Operator::Multiply,
+    Operator::MultiplyUint,
+    Operator::Divide,
+    Operator::DivideUint,
+    Operator::Remainder,
+    Operator::RemainderUint,
+    Operator::Equal,
+    Operator::NotEqual,
+    Operator::Less,
+    Operator::AtMost,
+    Operator::Greater,
+    Operator::AtLeast,
+    Operator::InList,
+    Operator::InMap,
+    Operator::IndexList,
+    Operator::IndexMap,
+    Operator::SizeText,
+    Operator::SizeList,
+    Operator::SizeMap,
+    Operator::StartsWith,
+    Operator::EndsWith,
+    Operator::Contains,
+    Operator::LowerAscii,
+    Operator::UpperAscii,
+    Operator::StringOfInt,
+    Operator::StringOfUint,
+    Operator::StringOfText,
+    Operator::IntOfInt,
+    Operator::IntOfUint,
+    Operator::IntOfText,
+    Operator::UintOfInt,
+    Operator::UintOfUint,
+    Operator::UintOfText,
+    Operator::SumInts,
+    Operator::SumUints,
+    Operator::MinInts,
+    Operator::MinUints,
+    Operator::MaxInts,
+    Operator::MaxUints,
+    Operator::Join,
+];

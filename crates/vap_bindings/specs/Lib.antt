@@ -1,0 +1,2 @@
+pub mod BindingForm
+pub mod BindingReading

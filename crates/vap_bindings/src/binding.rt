@@ -1,0 +1,57 @@
+//! Bindings of policies.
+
+ghost use Rattle.std.specs.Prelude.{◌≡◌, IfOk};
+
+use plain::{Shared, Text};
+use std::alloc::AllocError;
+use vap_match::{Rules, Selector};
+
+/// What is made of a request where there are no params.
+#[derive(Clone, Copy)]
+pub enum NotFoundAction {
+    Allow,
+    Deny,
+}
+
+/// Which objects are the params: the one of a name or those of a selector. The namespace is empty where none is given.
+#[derive(Drop)]
+pub struct ParamRef {
+    pub name: Option<Text>,
+    pub namespace: Text,
+    pub selector: Option<Selector>,
+    pub parameter_not_found_action: NotFoundAction,
+}
+
+/// What is done with each failure, of which there is one at least.
+#[derive(Clone, Copy)]
+pub struct ValidationActions {
+    pub deny: bool,
+    pub warn: bool,
+    pub audit: bool,
+}
+
+/// What a binding says. Rules that are absent are as rules that say nothing, which match every request.
+#[derive(Drop)]
+pub struct BindingSpec {
+    pub policy_name: Text,
+    pub param_ref: Option<ParamRef>,
+    pub match_resources: Rules,
+    pub validation_actions: ValidationActions,
+}
+
+/// A binding, which may have several owners.
+#[derive(Drop)]
+pub struct Binding {
+    pub spec: Shared<BindingSpec>,
+}
+
+impl Binding {
+    /// An equal binding: one more owner of the same.
+    pub fn copy(&self) -> Result<Binding, AllocError>
+        ensures { IfOk result (λ binding. binding ≡ self.now) }
+    {
+        Ok(Binding {
+            spec: self.spec.share()?,
+        })
+    }
+}

@@ -1,0 +1,3 @@
+pub mod Definitions
+pub mod FixedKinds
+pub mod Kinds

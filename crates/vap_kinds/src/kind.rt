@@ -1,0 +1,55 @@
+//! Kinds of objects.
+
+ghost use Rattle.std.specs.Prelude.{◌≡◌};
+ghost use Rattle.std.specs.List.{list_any};
+ghost use Rattle.std.specs.Option.{option_copied};
+ghost use Rattle.vap_kinds.specs.Kinds.{is_named, kind_named};
+
+use cel_value::CelType;
+use plain::Text;
+
+/// A kind of objects in one version.
+#[derive(Drop)]
+pub struct Kind {
+    pub group: Text,
+    pub version: Text,
+    pub kind: Text,
+    /// Its name in the resources of requests.
+    pub plural: Text,
+    /// Whether its objects stand in namespaces.
+    pub namespaced: bool,
+    /// The type of its objects. There is none where the schema is refused: the kind is then as one that is unknown.
+    pub object_type: Option<CelType>,
+}
+
+fn is_named(group: &str, version: &str, kind: &str, known: &Kind) -> bool
+    ensures { result ≡ is_named group.now version.now kind.now known.now }
+{
+    known.group.as_str() == group
+        && known.version.as_str() == version
+        && known.kind.as_str() == kind
+}
+
+/// Whether there is a kind of this group, version and name.
+pub fn has_named(kinds: &[Kind], group: &str, version: &str, kind: &str) -> bool
+    ensures { result ≡ list_any (is_named group.now version.now kind.now) kinds.now }
+{
+    for known in kinds {
+        if is_named(group, version, kind, known) {
+            return true;
+        }
+    }
+    false
+}
+
+/// The kind of this group, version and name, if there is one.
+pub fn find_kind<'a>(kinds: &'a [Kind], group: &str, version: &str, kind: &str) -> Option<&'a Kind>
+    ensures { option_copied result ≡ kind_named group.now version.now kind.now kinds.now }
+{
+    for known in kinds {
+        if is_named(group, version, kind, known) {
+            return Some(known);
+        }
+    }
+    None
+}

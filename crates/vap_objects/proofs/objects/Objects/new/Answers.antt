@@ -1,0 +1,5 @@
+use Rattle.vap_objects.proofs.Taken.{nothing_within}
+use Rattle.vap_objects.proofs.objects.Objects.new.Goals as goal
+
+pub invariant_of-result : goal.invariant_of-result
+invariant_of-result c = rw c.new.ensures nothing_within

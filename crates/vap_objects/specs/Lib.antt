@@ -1,0 +1,5 @@
+pub mod After
+pub mod Cluster
+pub mod Limits
+pub mod Listed
+pub mod OfKind

@@ -1,0 +1,168 @@
+//! The objects of a cluster.
+
+ghost use Rattle.std.specs.Prelude.{◌≡◌, ◌≤◌, ◌↔◌, length, IsTrue, IfOk, OnOk, OnErr};
+ghost use Rattle.std.specs.Option.{option_copied};
+ghost use Rattle.vap_select.specs.Select.{lent_labels};
+ghost use Rattle.vap_objects.specs.After.{nothing, after, objects_after};
+ghost use Rattle.vap_objects.specs.Limits.{takes, IsWithin};
+ghost use Rattle.vap_objects.specs.Listed.{policies_in, bindings_in, kinds_in};
+ghost use Rattle.vap_objects.specs.OfKind.{object_at, objects_of_kind, namespace_labels};
+
+use crate::listed::{bindings_in, definitions_in, policies_in};
+use crate::of_kind::{namespace_labels, objects_of_kind};
+use crate::room::has_room;
+use plain::{Items, Keyed, Shared};
+use std::alloc::{AllocError, Global};
+use std::marker::Model;
+use vap_bindings::Binding;
+use vap_kinds::{Kind, kinds_of};
+use vap_policies::Policy;
+use vap_read::{Event, Key, Object, ObjectMap};
+use vap_select::Labels;
+
+/// The objects that events leave, and how many events there were. They are always within the limits.
+#[derive(Drop)]
+pub struct Objects {
+    objects: ObjectMap,
+    events: u64,
+}
+
+impl Model for Objects {
+    ghost use Rattle.std.specs.Coded.{codes};
+    ghost use Rattle.vap_read.specs.contracts.key.Key as object_key;
+    ghost use Rattle.vap_read.specs.contracts.object.Object as kept;
+    ghost use Rattle.vap_objects.specs.Cluster.{Cluster};
+    ghost use Rattle.vap_objects.specs.Limits.{IsWithin};
+
+    ghost Value = { Cluster };
+
+    ghost coded = { Prim.hlevel (codes, object_key.the_row.coded, kept.the_row.coded) };
+
+    ghost view = { λ o. record { objects = o.objects; events = o.events } };
+
+    ghost invariant = { λ o. IsWithin (record { objects = o.objects; events = o.events }) };
+}
+
+impl Objects {
+    /// No objects, before any event.
+    pub fn new(alloc: Global) -> Objects
+        ensures { result ≡ nothing }
+    {
+        Objects {
+            objects: ObjectMap::new(alloc),
+            events: 0,
+        }
+    }
+
+    /// How many events there were.
+    pub fn events(&self) -> u64
+        ensures exact { result ≡ self.now.events }
+        // As objects always are.
+        ensures within { IsWithin self.now }
+    {
+        self.events
+    }
+
+    /// Equal objects: one more owner of each of them.
+    pub fn copy(&self, alloc: Global) -> Result<Objects, AllocError>
+        ensures { IfOk result (λ objects. objects ≡ self.now) }
+    {
+        Ok(Objects {
+            objects: self.objects.copy(alloc)?,
+            events: self.events,
+        })
+    }
+
+    /// Whether the limits hold after an event: 65,536 events, 4,096 objects, among them 256 policies and 256 bindings, and 2,048
+    /// versions of definitions, those that are refused too. This takes no memory.
+    pub fn takes(&self, event: &Event) -> bool
+        ensures { IsTrue result ↔ IsWithin (after event.now self.now) }
+    {
+        self.is_taken(event)
+    }
+
+    fn is_taken(&self, event: &Event) -> bool
+        ensures { result ≡ takes event.now self.now }
+    {
+        self.events < 65_536 && has_room(event, &self.objects)
+    }
+
+    /// Takes an event in. A refusal leaves all as it was.
+    pub fn apply(&mut self, alloc: Global, event: &Event) -> Result<(), AllocError>
+        requires { IsWithin (after event.now self.old) }
+        ensures ok { OnOk result (self.new ≡ after event.now self.old) }
+        ensures err { OnErr result (self.new ≡ self.old) }
+    {
+        change(alloc, event, &mut self.objects)?;
+        self.events += 1;
+        Ok(())
+    }
+
+    /// The object under a key.
+    pub fn get(&self, key: &Key) -> Option<&Shared<Object>>
+        ensures { option_copied result ≡ object_at key.now self.now.objects }
+    {
+        self.objects.get(key)
+    }
+
+    /// The policies by their names.
+    #[tactic(auto, using(crate::proofs::Listing::policies_few))]
+    pub fn policies(&self, alloc: Global) -> Result<Items<Keyed<Policy>>, AllocError>
+        ensures exact { IfOk result (λ policies. policies ≡ policies_in self.now.objects) }
+        ensures few { IfOk result (λ policies. length policies ≤ 256) }
+    {
+        policies_in(alloc, &self.objects)
+    }
+
+    /// The bindings by their names.
+    #[tactic(auto, using(crate::proofs::Listing::bindings_few))]
+    pub fn bindings(&self, alloc: Global) -> Result<Items<Keyed<Binding>>, AllocError>
+        ensures exact { IfOk result (λ bindings. bindings ≡ bindings_in self.now.objects) }
+        ensures few { IfOk result (λ bindings. length bindings ≤ 256) }
+    {
+        bindings_in(alloc, &self.objects)
+    }
+
+    /// The kinds that are known or refused, each group, version and name once.
+    pub fn kinds(&self, alloc: Global) -> Result<Items<Kind>, AllocError>
+        ensures { IfOk result (λ kinds. kinds ≡ kinds_in self.now.objects) }
+    {
+        let definitions = definitions_in(alloc, &self.objects)?;
+        kinds_of(alloc, definitions.as_slice())
+    }
+
+    /// The objects of a version and kind, by namespace, then by name.
+    #[tactic(auto, using(crate::proofs::Listing::of_kind_few))]
+    pub fn of_kind(
+        &self,
+        alloc: Global,
+        api_version: &str,
+        kind: &str,
+    ) -> Result<Items<Shared<Object>>, AllocError>
+        ensures exact { IfOk result (λ found. found ≡ objects_of_kind api_version.now kind.now self.now.objects) }
+        ensures few { IfOk result (λ found. length found ≤ 4096) }
+    {
+        objects_of_kind(alloc, api_version, kind, &self.objects)
+    }
+
+    /// The labels that are held of a Namespace.
+    pub fn namespace_labels(&self, alloc: Global, name: &str) -> Result<Labels<'_>, AllocError>
+        ensures { IfOk result (λ labels. lent_labels labels ≡ namespace_labels name.now self.now.objects) }
+    {
+        namespace_labels(alloc, name, &self.objects)
+    }
+}
+
+/// What an event does to the objects.
+fn change(alloc: Global, event: &Event, objects: &mut ObjectMap) -> Result<(), AllocError>
+    ensures ok { OnOk result (objects.new ≡ objects_after event.now objects.old) }
+    ensures err { OnErr result (objects.new ≡ objects.old) }
+{
+    match event {
+        Event::Put(object) => objects.put(object.share()?)?,
+        Event::Removed(key) => objects.remove(key.get()),
+        Event::Passed => {}
+        Event::Replaced(all) => *objects = all.get().copy(alloc)?,
+    }
+    Ok(())
+}

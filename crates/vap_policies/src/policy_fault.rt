@@ -1,0 +1,70 @@
+//! Why a policy or a binding is refused.
+
+ghost use Rattle.std.specs.Prelude.{◌≡◌};
+ghost use Rattle.vap_policies.specs.Names.{policy_fault_name};
+
+use std::alloc::{AllocError, AllocFailed};
+use thiserror::Error;
+use vap_match::MatchFault;
+
+/// The faults by their numbers, from 1 on.
+#[derive(Clone, Copy, Debug, PartialEq, Eq, Error)]
+pub enum PolicyFault {
+    /// A policy has no rule in `resourceRules`, a needed member is absent, or a member is of a wrong kind or none of its
+    /// words. What rules and selectors hold is not meant, nor is the action of a `paramRef`.
+    #[error("a member that is absent or not understood")]
+    MissingField,
+    /// A binding both denies and warns.
+    #[error("both Deny and Warn")]
+    DenyWithWarn,
+    /// There are more than 64 match conditions, 20 annotations, 128 variables or 128 validations.
+    #[error("too many conditions, annotations, variables or validations")]
+    TooMany,
+    /// A message has a line break, or an expression has one and no message stands for it.
+    #[error("a message that has a line break or is needed")]
+    BadMessage,
+    /// A `paramRef` has both a name and a selector or neither, or its action is neither Allow nor Deny.
+    #[error("a reference to params that is not understood")]
+    BadParamRef,
+    /// Two match conditions or two variables have one name, or two annotations one key.
+    #[error("a name that stands twice")]
+    DuplicateName,
+    /// Rules or a selector have a fault, of these the least.
+    #[error("{0}")]
+    Rules(MatchFault),
+}
+
+impl PolicyFault {
+    /// The name that is printed: of a fault of rules its own.
+    pub fn name(&self) -> &'static str
+        ensures { result.now ≡ policy_fault_name self.now }
+    {
+        match self {
+            PolicyFault::MissingField => "MissingField",
+            PolicyFault::DenyWithWarn => "DenyWithWarn",
+            PolicyFault::TooMany => "TooMany",
+            PolicyFault::BadMessage => "BadMessage",
+            PolicyFault::BadParamRef => "BadParamRef",
+            PolicyFault::DuplicateName => "DuplicateName",
+            PolicyFault::Rules(fault) => fault.name(),
+        }
+    }
+}
+
+#[derive(Debug, Drop, Error)]
+pub enum PolicyError {
+    #[error("out of memory")]
+    OutOfMemory,
+    #[error("{0}")]
+    Fault(PolicyFault),
+}
+
+impl From<AllocError> for PolicyError {
+    ghost use Rattle.vap_policies.specs.declared.policy_fault.PolicyError.TheVariants.{OutOfMemory};
+
+    ghost from_gives = { λ _ e. e ≡ OutOfMemory };
+
+    fn from(_e: AllocError) -> PolicyError {
+        PolicyError::OutOfMemory
+    }
+}

@@ -1,0 +1,60 @@
+-- The faults of events, and which of them is told.
+use Rattle.std.specs.Prelude.{◌≡◌, ◌<◌, ◌+◌, ℕ, Bool, true, false, not, if◌then◌else◌}
+use Rattle.std.specs.Prelude.{Option, Some, None, Result, Ok, Err}
+use Rattle.serde_json.specs.Data.{Data}
+use Rattle.vap_policies.specs.Faults as policies
+use Rattle.vap_policies.specs.PolicyForm as policy
+use Rattle.vap_policies.specs.declared.policy_fault.PolicyError.{PolicyError}
+use Rattle.vap_policies.specs.declared.policy_fault.PolicyError.TheVariants as refused
+use Rattle.vap_bindings.specs.BindingForm as binding
+use Rattle.vap_read.specs.Objects.{is_object, is_policy, is_binding}
+use Rattle.vap_read.specs.declared.line.Action.{Action}
+use Rattle.vap_read.specs.declared.line.Action.TheVariants.{Put, Remove, Pass}
+use Rattle.vap_read.specs.declared.event_fault.EventFault.{EventFault}
+use Rattle.vap_read.specs.declared.event_fault.EventFault.TheVariants.{BadType, BadObject, OfPolicy}
+use Rattle.vap_read.specs.declared.event_fault.EventError.{EventError}
+use Rattle.vap_read.specs.declared.event_fault.EventError.TheVariants.{Fault, OutOfMemory}
+
+-- the number of a fault; those of policies and bindings stand behind the others, by their own numbers
+abbrev pub number_of : EventFault → ℕ
+number_of BadType = 1
+number_of BadObject = 2
+number_of (OfPolicy f) = 2 + policies.number_of f
+
+-- which faults an object has that is put
+abbrev pub has_fault : Data → EventFault → Bool
+has_fault d BadType = false
+has_fault d BadObject = not (is_object d)
+has_fault d (OfPolicy f) =
+    if is_policy d then policy.has_fault d f
+    else (if is_binding d then binding.has_fault d f
+    else false)
+
+-- which faults a watch event has: without a word it is none; a removal needs no more than a key, and what passes nothing
+abbrev pub watch_fault : Option Action → Data → EventFault → Bool
+watch_fault None d BadType = true
+watch_fault None d _ = false
+watch_fault (Some Put) d f = has_fault d f
+watch_fault (Some Remove) d BadObject = not (is_object d)
+watch_fault (Some Remove) d _ = false
+watch_fault (Some Pass) d f = false
+
+-- this fault is there, and none of a lesser number
+abbrev pub IsLeast : (EventFault → Bool) → EventFault → Type 0
+IsLeast has f = (has f ≡ true) × ((g : EventFault) → number_of g < number_of f → has g ≡ false)
+
+-- what is told is the least fault of some, or that memory ran out
+abbrev pub TellsLeast : (EventFault → Bool) → EventError → Type 0
+TellsLeast has (Fault f) = IsLeast has f
+TellsLeast has OutOfMemory = Unit {0}
+
+-- the answer is this one or this fault, or memory ran out
+abbrev pub Answers : {A : Type 0} → Result A EventFault → Result A EventError → Type 0
+Answers want (Ok a) = want ≡ Ok a
+Answers want (Err (Fault f)) = want ≡ Err f
+Answers want (Err OutOfMemory) = Unit {0}
+
+-- the refusal of a policy or a binding, as one of an event
+abbrev pub error_of : PolicyError → EventError
+error_of refused.OutOfMemory = OutOfMemory
+error_of (refused.Fault f) = Fault (OfPolicy f)

@@ -1,0 +1,19 @@
+-- Objects by their keys.
+use Rattle.std.specs.Prelude.{List}
+use Rattle.std.specs.Ordering.{nat_cmp, on, then_cmp}
+use Rattle.std.specs.declared.cmp.Ordering.{Ordering}
+use Rattle.std.specs.Cmp.Lexicographic.{slice_cmp}
+use Rattle.std.specs.BTreeMap.{insert_entry}
+use Rattle.vap_read.specs.declared.key.Key.{Key}
+use Rattle.vap_read.specs.declared.object.Object.{Object}
+
+-- keys by version, kind, namespace and name
+abbrev pub key_cmp : Key → Key → Ordering
+key_cmp =
+    then_cmp (on (λ k. k.api_version) (slice_cmp nat_cmp))
+    (then_cmp (on (λ k. k.kind) (slice_cmp nat_cmp))
+    (then_cmp (on (λ k. k.namespace) (slice_cmp nat_cmp)) (on (λ k. k.name) (slice_cmp nat_cmp))))
+
+-- the objects with one more, in place of what stands under its key
+abbrev pub with_object : Object → List (Key × Object) → List (Key × Object)
+with_object o os = insert_entry key_cmp os o.key o

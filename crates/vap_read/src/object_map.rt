@@ -1,0 +1,108 @@
+//! Objects by their keys.
+
+ghost use Rattle.std.specs.Prelude.{◌≡◌, [], length, IfOk, OnOk, OnErr};
+ghost use Rattle.std.specs.List.Sorted.{IsStrictlySortedBy};
+ghost use Rattle.std.specs.Option.{option_copied};
+ghost use Rattle.std.specs.Map.{keys_of, lookup, remove_entry};
+ghost use Rattle.std.specs.BTreeMap.{is_at};
+ghost use Rattle.vap_read.specs.Keys.{key_cmp, with_object};
+
+use crate::key::Key;
+use crate::object::Object;
+use plain::Shared;
+use std::alloc::{AllocError, Global};
+use std::collections::BTreeMap;
+use std::collections::btree_map::Iter;
+use std::marker::Model;
+
+/// Objects, each under its key, which contracts see as the list of their keys and them, by key.
+#[derive(Drop)]
+pub struct ObjectMap {
+    entries: BTreeMap<Key, Shared<Object>>,
+}
+
+impl Model for ObjectMap {
+    ghost use Rattle.std.specs.Prelude.{List};
+    ghost use Rattle.std.specs.Coded.{codes};
+    ghost use Rattle.vap_read.specs.declared.key.Key.{Key as ObjectKey};
+    ghost use Rattle.vap_read.specs.contracts.key.Key as object_key;
+    ghost use Rattle.vap_read.specs.declared.object.Object.{Object as Kept};
+    ghost use Rattle.vap_read.specs.contracts.object.Object as kept;
+
+    ghost Value = { List (ObjectKey × Kept) };
+
+    ghost coded = { Prim.hlevel (codes, object_key.the_row.coded, kept.the_row.coded) };
+
+    ghost view = { λ m. m.entries.entries };
+}
+
+impl ObjectMap {
+    pub fn new(alloc: Global) -> ObjectMap
+        ensures { result ≡ [] }
+    {
+        ObjectMap {
+            entries: BTreeMap::new(alloc),
+        }
+    }
+
+    /// How many keys there are.
+    pub fn len(&self) -> usize
+        ensures { result ≡ length self.now }
+    {
+        self.entries.len()
+    }
+
+    /// The object under a key.
+    pub fn get(&self, key: &Key) -> Option<&Shared<Object>>
+        ensures { option_copied result ≡ lookup (is_at (key_cmp key.now)) self.now }
+    {
+        self.entries.get(key)
+    }
+
+    /// The keys with their objects, by key.
+    pub fn iter(&self) -> Iter<'_, Key, Shared<Object>>
+        ensures entries { result ≡ self.now }
+        ensures ordered { IsStrictlySortedBy key_cmp (keys_of self.now) }
+    {
+        self.entries.iter()
+    }
+
+    /// An equal map with keys of its own: one more owner of each object.
+    pub fn copy(&self, alloc: Global) -> Result<ObjectMap, AllocError>
+        ensures { IfOk result (λ map. map ≡ self.now) }
+    {
+        Ok(ObjectMap {
+            entries: copied(alloc, &self.entries)?,
+        })
+    }
+
+    /// Puts an object under its key, in place of what stands there.
+    pub fn put(&mut self, object: Shared<Object>) -> Result<(), AllocError>
+        ensures ok { OnOk result (self.new ≡ with_object object self.old) }
+        ensures err { OnErr result (self.new ≡ self.old) }
+    {
+        let key = object.get().key.copy()?;
+        self.entries.insert(key, object)?;
+        Ok(())
+    }
+
+    /// Takes away what stands under a key, if anything does.
+    pub fn remove(&mut self, key: &Key)
+        ensures { self.new ≡ remove_entry (is_at (key_cmp key.now)) self.old }
+    {
+        self.entries.remove(key);
+    }
+}
+
+fn copied(
+    alloc: Global,
+    entries: &BTreeMap<Key, Shared<Object>>,
+) -> Result<BTreeMap<Key, Shared<Object>>, AllocError>
+    ensures { IfOk result (λ made. made.entries ≡ entries.now.entries) }
+{
+    let mut made = BTreeMap::new(alloc);
+    for (key, object) in entries.iter() {
+        made.insert(key.copy()?, object.share()?)?;
+    }
+    Ok(made)
+}
