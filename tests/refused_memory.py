@@ -2,8 +2,8 @@
 """Runs what `rt ci` built with its first allocation refused, then with its second, and so on to the last that it makes.
 
 The program is run on the first expression and on vectors of each answer, and then must give its right answer, or end
-with status 4 and nothing on standard output. Of crates/value_rows, crates/match_rows and crates/judge_rows the tests of
-TESTS are run, which take 'out of memory' for an answer and no other wrong one.
+with status 4 and nothing on standard output. Of crates/value_rows, crates/match_rows, crates/judge_rows and
+crates/replay_rows the tests of TESTS are run, which take 'out of memory' for an answer and no other wrong one.
 
 Then the allocations of crates/rows' tests of what is lent are counted: that ten runs more of the same expressions take as
 many, of as many bytes, where the slots hold much as where they hold little. The last line is 'N passed, M failed', each refused allocation
@@ -23,6 +23,7 @@ PROGRAM = TOP / "crates/vap/out/vap"
 ROWS = TOP / "crates/value_rows/out/value_rows_tests"
 MATCH_ROWS = TOP / "crates/match_rows/out/match_rows_tests"
 JUDGE_ROWS = TOP / "crates/judge_rows/out/judge_rows_tests"
+REPLAY_ROWS = TOP / "crates/replay_rows/out/replay_rows_tests"
 UPPER_ROWS = TOP / "crates/rows/out/rows_tests"
 FIRST = "1 + 2 * 3 == 7 && !(4 < 3)"
 TESTS = [
@@ -34,6 +35,7 @@ TESTS = [
     (MATCH_ROWS, "events::lines_are_read_or_out_of_memory"),
     (MATCH_ROWS, "objects::objects_are_held_or_out_of_memory"),
     (JUDGE_ROWS, "answers::a_verdict_is_made_or_out_of_memory"),
+    (REPLAY_ROWS, "lines::lines_are_read_or_out_of_memory"),
 ]
 VECTORS = 50
 MOST = 100_000

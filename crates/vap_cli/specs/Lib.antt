@@ -1,5 +1,4 @@
 pub mod Answer
-pub mod Counted
 pub mod Eval
 pub mod Evaluation
 pub mod Status

@@ -1,16 +1,16 @@
 //! The command `eval`.
 
 ghost use Rattle.std.specs.Prelude.{◌≡◌, ◌+◌, ◌<◌, ◌^◌, ◌-◌, IfOk, OnOk, IsErrOf, string_bytes};
-ghost use Rattle.vap_cli.specs.Counted.{inner_of, failures_of};
+ghost use Rattle.vap_lines.specs.Counted.{inner_of, failures_of};
 ghost use Rattle.vap_cli.specs.Eval.{Tells, TellsBy};
 ghost use Rattle.vap_cli.specs.declared.eval.EvalError.TheVariants.{OutOfMemory};
 
-use crate::counted::Counted;
 use crate::evaluation::answer;
 use crate::status::Status;
 use std::alloc::{AllocError, Global};
 use std::io::Write;
 use thiserror::Error;
+use vap_lines::Counted;
 
 /// Why an expression's answer is not told.
 #[derive(Clone, Copy, Debug, PartialEq, Eq, Error)]

@@ -3,17 +3,16 @@
 //! [`eval_to`] writes the line for an expression's value, error or refusal, and tells the status with which the
 //! program then ends; [`Status::code`] is its number, and [`EvalError::status`] the status where nothing is told.
 //! [`one_outcome`] is the law that a text comes to one value or error at most. [`Counted`] counts the reads, writes
-//! and flushes that failed.
+//! and flushes that failed, and is of `vap_lines`.
 #![tactic(auto)]
 
 mod answer;
-mod counted;
 mod eval;
 mod evaluation;
 mod status;
 
 pub use answer::{Answer, Refusal};
-pub use counted::Counted;
 pub use eval::{EvalError, eval_to};
 pub use evaluation::one_outcome;
 pub use status::Status;
+pub use vap_lines::Counted;

@@ -1,0 +1,3 @@
+pub mod Splits
+pub mod Taken
+pub mod WorkedRows

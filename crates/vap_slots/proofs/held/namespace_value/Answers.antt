@@ -1,0 +1,15 @@
+use Rattle.std.proofs.Common.{◌≡◌, true, rules, tests}
+use Rattle.cel_value.specs.CelType.{fits}
+use Rattle.cel_value.specs.declared.cel_type.CelType as type
+use Rattle.cel_value.specs.declared.cel_type.CelType.{CelType}
+use Rattle.cel_value.specs.declared.value.Value as value
+use Rattle.vap_slots.proofs.held.namespace_value.Goals as goal
+
+null_fits : (t : CelType) → fits value.Null (type.Nullable t) ≡ true
+null_fits t = search (rules, tests, type.the_lemmas, value.the_lemmas)
+
+pub returns-then-is_cluster-clause-fits : goal.returns-then-is_cluster-clause-fits
+returns-then-is_cluster-clause-fits c = null_fits _
+
+pub returns-clause-fits : goal.returns-clause-fits
+returns-clause-fits c = null_fits _

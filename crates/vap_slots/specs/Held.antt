@@ -1,0 +1,84 @@
+-- What the first names of a policy's expressions hold at a request.
+use Rattle.std.specs.Prelude.{◌≡◌, ℕ, true, List, [], ◌∷◌, codes, Option, Some, None, Result, Ok, Err, if◌then◌else◌}
+use Rattle.serde_json.specs.Data.{Data}
+use Rattle.cel_value.specs.CelType.{fits}
+use Rattle.cel_value.specs.declared.cel_type.CelType as type
+use Rattle.cel_value.specs.declared.cel_type.CelType.{CelType}
+use Rattle.cel_value.specs.declared.cel_error.CelError.TheVariants.{BadConversion}
+use Rattle.cel_value.specs.declared.value.Value as value
+use Rattle.cel_value.specs.declared.value.Value.{Value}
+use Rattle.cel_operators.specs.Outcomes.{Outcome, outcome_fits}
+use Rattle.vap_fit.specs.Seen.{seen}
+use Rattle.vap_fit.specs.declared.fit_fault.FitFault.{FitFault}
+use Rattle.vap_kinds.specs.FixedKinds.{namespace_type}
+use Rattle.vap_match.specs.Namespaces.{is_cluster}
+use Rattle.vap_objects.specs.Cluster.{Cluster}
+use Rattle.vap_objects.specs.OfKind.{namespace_key, object_at}
+use Rattle.vap_read.specs.declared.object.Object.{Object}
+use Rattle.vap_request.specs.Requests.{object_of, old_object_of}
+use Rattle.vap_request.specs.declared.request.Admission.{Admission}
+use Rattle.vap_slots.specs.RequestType.{request_type}
+use Rattle.vap_slots.specs.RequestValue.{request_value}
+use Rattle.vap_slots.specs.declared.held.Held.{Held}
+
+-- what a document is at a type, null where there is none
+abbrev pub value_at : List ℕ → CelType → Option Data → Result Value FitFault
+value_at root t None = Ok value.Null
+value_at root t (Some d) = seen root t d
+
+-- the object as it was; one that does not fit is an error
+abbrev pub old_outcome : Result Value FitFault → Outcome
+old_outcome (Ok v) = Ok v
+old_outcome (Err fault) = Err BadConversion
+
+-- a value, null where there is a fault
+abbrev pub or_null : Result Value FitFault → Value
+or_null (Ok v) = v
+or_null (Err fault) = value.Null
+
+-- a Namespace that is held
+abbrev pub held_namespace : Option Object → Value
+held_namespace None = value.Null
+held_namespace (Some o) = or_null (seen (codes "namespaceObject") namespace_type o.document)
+
+-- the object of the namespace that a request is in: null where it is in none, or none is held
+abbrev pub namespace_value : Cluster → Admission → Value
+namespace_value c r = if is_cluster r then value.Null else held_namespace (object_at (namespace_key r.namespace) c.objects)
+
+-- what `request` holds, which is an error where it is no value of its type: no request that was read is such
+abbrev pub request_outcome : Admission → Outcome
+request_outcome r = if fits (request_value r) request_type then Ok (request_value r) else Err BadConversion
+
+-- what all names but `params` hold, where the object is this
+abbrev pub held_with : Cluster → CelType → Admission → Value → Held
+held_with c t r v = record {
+  object = v;
+  old_object = old_outcome (value_at (codes "oldObject") t (old_object_of r));
+  request = request_outcome r;
+  namespace = namespace_value c r;
+}
+
+-- the same, unless the object has a fault
+abbrev pub held_by : Cluster → CelType → Admission → Result Value FitFault → Result Held FitFault
+held_by c t r (Ok v) = Ok (held_with c t r v)
+held_by c t r (Err fault) = Err fault
+
+-- what all names but `params` hold at a request whose objects are of this type, or the fault of the object
+abbrev pub held_at : Cluster → CelType → Admission → Result Held FitFault
+held_at c t r = held_by c t r (value_at (codes "object") t (object_of r))
+
+-- what all names hold, in their order
+abbrev pub slots_of : Held → Value → List Outcome
+slots_of h params = Ok h.object ∷ h.old_object ∷ h.request ∷ Ok params ∷ Ok h.namespace ∷ []
+
+-- the types of all names in their order, where the objects are of one type and `params` is of another
+abbrev pub slot_types : CelType → CelType → List CelType
+slot_types t params =
+    type.Nullable t ∷ type.Nullable t ∷ request_type ∷ params ∷ type.Nullable namespace_type ∷ []
+
+-- what all names but `params` hold is of their types, where the objects are of this one
+pub record IsHeldAt (t : CelType) (h : Held) : Type 0 where
+  pub object : fits h.object (type.Nullable t) ≡ true
+  pub old_object : outcome_fits (type.Nullable t) (Some h.old_object) ≡ true
+  pub request : outcome_fits request_type (Some h.request) ≡ true
+  pub namespace : fits h.namespace (type.Nullable namespace_type) ≡ true

@@ -1,0 +1,3 @@
+pub mod RequestType
+pub mod RequestValue
+pub mod Held

@@ -1,0 +1,177 @@
+//! What the first names of a policy's expressions hold.
+
+ghost use Rattle.std.specs.Prelude.{◌≡◌, IfOk, Some, codes, true};
+ghost use Rattle.cel_value.specs.CelType.{fits};
+ghost use Rattle.cel_value.specs.declared.cel_type.CelType as type;
+ghost use Rattle.cel_operators.specs.Outcomes.{outcome_fits};
+ghost use Rattle.json_members.specs.Parts.{lent};
+ghost use Rattle.vap_request.specs.Requests.{old_object_of};
+ghost use Rattle.vap_kinds.specs.FixedKinds.{namespace_type};
+ghost use Rattle.vap_match.specs.Namespaces.{is_cluster};
+ghost use Rattle.vap_objects.specs.OfKind.{namespace_key};
+ghost use Rattle.vap_slots.specs.Held.{IsHeldAt, held_at, held_namespace, held_with, namespace_value, old_outcome};
+ghost use Rattle.vap_slots.specs.Held.{request_outcome, value_at};
+ghost use Rattle.vap_slots.specs.RequestType.{request_type};
+
+use crate::types::request_type;
+use crate::values::request_value;
+use cel_value::{CelError, CelType, Value, fits};
+use plain::Text;
+use serde_json::Value as Json;
+use std::alloc::{AllocError, Global};
+use vap_fit::{FitError, FitFault, fit};
+use vap_kinds::namespace_type;
+use vap_objects::Objects;
+use vap_read::{Key, Object};
+use vap_request::Admission;
+
+/// What all names but `params` hold at a request.
+#[derive(Drop)]
+pub struct Held {
+    pub object: Value,
+    pub old_object: Result<Value, CelError>,
+    pub request: Result<Value, CelError>,
+    /// The object of the request's namespace.
+    pub namespace: Value,
+}
+
+/// What a document is at a type, null where there is none.
+fn value_at(
+    alloc: Global,
+    root: &str,
+    cel_type: &CelType,
+    document: Option<&Json>,
+) -> Result<Result<Value, FitFault>, AllocError>
+    ensures exact { IfOk result (λ seen. seen ≡ value_at root.now cel_type.now (lent document.entry)) }
+    ensures fits { IfOk result (λ seen. IfOk seen (λ v. fits v (type.Nullable cel_type.now) ≡ true)) }
+{
+    match document {
+        None => Ok(Ok(Value::Null)),
+        Some(document) => match fit(alloc, document, cel_type, root) {
+            Ok(value) => Ok(Ok(value)),
+            Err(FitError::Fault(fault)) => Ok(Err(fault)),
+            Err(FitError::OutOfMemory) => Err(AllocError),
+        },
+    }
+}
+
+/// The object as it was; one that does not fit is an error.
+fn old_outcome(
+    alloc: Global,
+    cel_type: &CelType,
+    request: &Admission,
+) -> Result<Result<Value, CelError>, AllocError>
+    ensures exact { IfOk result (λ outcome. outcome ≡ old_outcome (value_at (codes "oldObject") cel_type.now (old_object_of request.now))) }
+    ensures fits { IfOk result (λ outcome. outcome_fits (type.Nullable cel_type.now) (Some outcome) ≡ true) }
+{
+    match value_at(alloc, "oldObject", cel_type, request.old_object())? {
+        Ok(value) => Ok(Ok(value)),
+        Err(_) => Ok(Err(CelError::BadConversion)),
+    }
+}
+
+fn held_namespace(alloc: Global, object: &Object) -> Result<Value, AllocError>
+    ensures exact { IfOk result (λ v. v ≡ held_namespace (Some object.now)) }
+    ensures fits { IfOk result (λ v. fits v (type.Nullable namespace_type) ≡ true) }
+{
+    let cel_type = namespace_type(alloc)?;
+    match value_at(
+        alloc,
+        "namespaceObject",
+        &cel_type,
+        Some(object.document.json()),
+    )? {
+        Ok(value) => Ok(value),
+        Err(_) => Ok(Value::Null),
+    }
+}
+
+fn namespace_key(alloc: Global, name: &str) -> Result<Key, AllocError>
+    ensures { IfOk result (λ key. key ≡ namespace_key name.now) }
+{
+    Ok(Key {
+        api_version: Text::from_str(alloc, "v1")?,
+        kind: Text::from_str(alloc, "Namespace")?,
+        namespace: Text::from_str(alloc, "")?,
+        name: Text::from_str(alloc, name)?,
+    })
+}
+
+/// Whether a request is on what stands in no namespace.
+fn is_cluster(request: &Admission) -> bool
+    ensures { result ≡ is_cluster request.now }
+{
+    let resource = &request.resource;
+    request.namespace.as_str().is_empty()
+        || (resource.group.as_str().is_empty() && resource.resource.as_str() == "namespaces")
+}
+
+/// The object of the namespace that a request is in.
+fn namespace_value(
+    alloc: Global,
+    objects: &Objects,
+    request: &Admission,
+) -> Result<Value, AllocError>
+    ensures exact { IfOk result (λ v. v ≡ namespace_value objects.now request.now) }
+    ensures fits { IfOk result (λ v. fits v (type.Nullable namespace_type) ≡ true) }
+{
+    if is_cluster(request) {
+        return Ok(Value::Null);
+    }
+    match objects.get(&namespace_key(alloc, request.namespace.as_str())?) {
+        Some(object) => held_namespace(alloc, object.get()),
+        None => Ok(Value::Null),
+    }
+}
+
+/// What `request` holds, which is an error where it is no value of its type.
+fn request_outcome(
+    alloc: Global,
+    request: &Admission,
+) -> Result<Result<Value, CelError>, AllocError>
+    ensures exact { IfOk result (λ outcome. outcome ≡ request_outcome request.now) }
+    ensures fits { IfOk result (λ outcome. outcome_fits request_type (Some outcome) ≡ true) }
+{
+    let cel_type = request_type(alloc)?;
+    let value = request_value(alloc, request)?;
+    if fits(&value, &cel_type) {
+        Ok(Ok(value))
+    } else {
+        Ok(Err(CelError::BadConversion))
+    }
+}
+
+fn held_with(
+    alloc: Global,
+    objects: &Objects,
+    cel_type: &CelType,
+    request: &Admission,
+    object: Value,
+) -> Result<Held, AllocError>
+    requires { fits object (type.Nullable cel_type.now) ≡ true }
+    ensures exact { IfOk result (λ held. held ≡ held_with objects.now cel_type.now request.now object) }
+    ensures fits { IfOk result (IsHeldAt cel_type.now) }
+{
+    Ok(Held {
+        object,
+        old_object: old_outcome(alloc, cel_type, request)?,
+        request: request_outcome(alloc, request)?,
+        namespace: namespace_value(alloc, objects, request)?,
+    })
+}
+
+/// What all names but `params` hold at a request whose objects are of this type, or the fault of the object.
+pub fn held_at(
+    alloc: Global,
+    objects: &Objects,
+    cel_type: &CelType,
+    request: &Admission,
+) -> Result<Result<Held, FitFault>, AllocError>
+    ensures exact { IfOk result (λ held. held ≡ held_at objects.now cel_type.now request.now) }
+    ensures fits { IfOk result (λ held. IfOk held (IsHeldAt cel_type.now)) }
+{
+    match value_at(alloc, "object", cel_type, request.object())? {
+        Ok(object) => Ok(Ok(held_with(alloc, objects, cel_type, request, object)?)),
+        Err(fault) => Ok(Err(fault)),
+    }
+}

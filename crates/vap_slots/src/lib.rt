@@ -1,0 +1,13 @@
+//! What the names of a policy's expressions hold at a request.
+//!
+//! [`request_type`] is the type of `request`, and [`request_value`] what it holds of a review. [`held_at`] makes what all names
+//! but `params` hold, or tells the fault of the object; an old object that does not fit is an error, which its name then holds.
+#![tactic(auto)]
+
+mod held;
+mod types;
+mod values;
+
+pub use held::{Held, held_at};
+pub use types::request_type;
+pub use values::request_value;
