@@ -1,7 +1,7 @@
 #!/usr/bin/env python3
 """Runs what `rt ci` built with its first allocation refused, then with its second, and so on to the last that it makes.
 
-The program is run on the first expression and on vectors of each answer, and then must give its right answer, or end
+The program is run on the first expression, on one with loops and on vectors of each answer, and then must give its right answer, or end
 with status 4 and nothing on standard output. Of crates/value_rows, crates/match_rows, crates/judge_rows and
 crates/replay_rows the tests of TESTS are run, which take 'out of memory' for an answer and no other wrong one.
 
@@ -26,6 +26,7 @@ JUDGE_ROWS = TOP / "crates/judge_rows/out/judge_rows_tests"
 REPLAY_ROWS = TOP / "crates/replay_rows/out/replay_rows_tests"
 UPPER_ROWS = TOP / "crates/rows/out/rows_tests"
 FIRST = "1 + 2 * 3 == 7 && !(4 < 3)"
+LOOPS = "[[1, 2], [3]].map(r, r.filter(c, {'a': c}.exists(k, k == 'a') && c != 2))"
 TESTS = [
     (ROWS, "containers::containers_grow_or_are_out_of_memory"),
     (ROWS, "values::copies_and_joins_are_made_or_out_of_memory"),
@@ -78,7 +79,8 @@ def cases():
         lines += [json.loads(text) for text in file.read_text(encoding="utf-8").splitlines()]
     lines = [line for line in lines if len(line["expression"]) < 1000]
     first = {"expression": FIRST, "status": 0, "stdout": "true\n"}
-    for line in [first] + spread(lines):
+    loops = {"expression": LOOPS, "status": 0, "stdout": "[[1],[3]]\n"}
+    for line in [first, loops] + spread(lines):
         well = (line["status"], line["stdout"].encode())
         is_well = lambda status, out, well=well: (status, out) in (well, (4, b""))
         yield line["expression"], [PROGRAM, "eval", "--", line["expression"]], well, is_well

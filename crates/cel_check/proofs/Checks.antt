@@ -31,14 +31,18 @@ use Rattle.cel_check.specs.declared.tree.Form.TheVariants as form
 use Rattle.cel_operators.specs.Outcomes.{Types, types_outside}
 use Rattle.cel_operators.specs.Operators.{row, of_limit, type_of_one, type_of_two}
 use Rattle.cel_check.specs.Meaning.{type_of, takes_result, Judged, right_at, judged_step, judged_of, is_right, types_judged, by_turns}
-use Rattle.cel_check.specs.Meaning.{each_right as all_right, takes_slot}
+use Rattle.cel_check.specs.Meaning.{each_right as all_right, takes_slot, right_loop, right_where}
+use Rattle.cel_check.specs.Loops.{types_inside, loop_type, where_ranged}
+use Rattle.cel_parse.specs.declared.expr.Loop.{Loop}
+use Rattle.cel_parse.specs.declared.expr.Loop.TheVariants as loop
 use Rattle.cel_operators.specs.Lists.{items_type}
 use Rattle.cel_check.specs.Typing.{Trees, tree_in_front, each_tree, after_items, root_types, typed_by, list_literal}
 use Rattle.cel_check.specs.Typing.{Names, types_in, types_of, names_of, Checked, refused, node, after}
 use Rattle.cel_operators.specs.Maps.{entries_type}
 use Rattle.cel_operators.specs.TextOperators.{row_with}
 use Rattle.cel_operators.specs.Wants.{limit_of, is_there, is_truth}
-use Rattle.cel_operators.specs.declared.operands.Want.TheVariants.{Members, Characters}
+use Rattle.cel_operators.specs.declared.operands.Want.TheVariants.{Members, Characters, Ranged}
+use Rattle.cel_operators.specs.declared.limit.Span.{Span}
 use Rattle.cel_operators.specs.declared.text_operator.TextOperator.{TextOperator}
 use Rattle.cel_operators.specs.declared.text_operator.TextOperator.TheVariants as text_operator
 use Rattle.cel_patterns.specs.Choice.{refuses}
@@ -48,6 +52,7 @@ use Rattle.cel_check.specs.Typing.{after_each, after_entries, unary_overloads, b
 use Rattle.cel_check.specs.Typing.{joined_branches, conditional, index_overloads, function_overloads, method_overloads}
 use Rattle.cel_check.specs.Typing.{method_overloads_with, over_one, over_two, called, called_on, checked_at, checked, is_too_large}
 use Rattle.cel_check.specs.Typing.{checked_within, text_literal, slot_from, named, with_opaque, read, beside, checked_step}
+use Rattle.cel_check.specs.Typing.{with_local, Inside, entered, once_inside, looped, mapped_where}
 use Rattle.cel_check.specs.Opaque.{is_opaque}
 
 -- where there is a typed tree, it is well typed
@@ -298,16 +303,77 @@ slot_there i name (e ∷ es) = elim (cases_Bool (bytes_eq e.key name)) [
   | inr n ↦ rw n (slot_later i e es (slot_from (i + 1) name es) (slot_there (i + 1) name es))
 ]
 
-slot_right : (place : ℕ) (names : Names) (o : Option (ℕ × CelType)) → SlotThere 0 names.slots o → RightIn (types_of names) (named place o)
+found_right : (place : ℕ) (names : Names) (l s : Option (ℕ × CelType)) → SlotThere 0 names.locals l → SlotThere 0 names.slots s
+    → RightIn (types_of names) (named place l s)
 unfolding SlotThere
-slot_right place names None h = tt
-slot_right place names (Some s) h =
-    let here : s.0 ≡ h.0 = omega (arith, h.1) in
+found_right place names (Some l) s h k =
+    let here : l.0 ≡ h.0 = omega (arith, h.1) in
+    node_right l.1 (form.Local l.0) (types_of names)
+    (ap (λ d. takes_slot l.1 (slice_get (types_in names.locals) d)) here ∙ ap (takes_slot l.1) h.2 ∙ assignable-refl l.1)
+found_right place names None None h k = tt
+found_right place names None (Some s) h k =
+    let here : s.0 ≡ k.0 = omega (arith, k.1) in
     node_right s.1 (form.Slot s.0) (types_of names)
-    (ap (λ k. takes_slot s.1 (slice_get (types_in names.slots) k)) here ∙ ap (takes_slot s.1) h.2 ∙ assignable-refl s.1)
+    (ap (λ n. takes_slot s.1 (slice_get (types_in names.slots) n)) here ∙ ap (takes_slot s.1) k.2 ∙ assignable-refl s.1)
 
-name_right : (place : ℕ) (name : List ℕ) (names : Names) → RightIn (types_of names) (named place (slot_from 0 name names.slots))
-name_right place name names = slot_right place names (slot_from 0 name names.slots) (slot_there 0 name names.slots)
+name_right : (place : ℕ) (name : List ℕ) (names : Names)
+    → RightIn (types_of names) (named place (slot_from 0 name names.locals) (slot_from 0 name names.slots))
+name_right place name names =
+    found_right place names (slot_from 0 name names.locals) (slot_from 0 name names.slots) (slot_there 0 name names.locals)
+    (slot_there 0 name names.slots)
+
+-- what follows of a part that is well typed where names have other types
+after_inside : (types inner : Types) (c : Checked) (f : TypedTree → Checked) → RightIn inner c
+    → ((t : TypedTree) → is_right t inner ≡ true → RightIn types (f t)) → RightIn types (after c f)
+after_inside types inner (Err e) f h g = tt
+after_inside types inner (Ok t) f h g = g t h
+
+-- what follows inside a loop
+inside_right : (place : ℕ) (x : List ℕ) (names : Names) (o : Option Span) (f : Inside → Checked)
+    → ((span : Span) → o ≡ Some span → RightIn (types_of names) (f (record { names = with_local x span names; span = span })))
+    → RightIn (types_of names) (once_inside (entered place x names o) f)
+inside_right place x names None f h = tt
+inside_right place x names (Some span) f h = h span refl
+
+-- the type of a loop's answer is that of its node
+answer_right : (l : Loop) (span : Span) (b : TypedTree) (t : CelType) → loop_type l span (type_of b) ≡ Ok t
+    → takes_result t (loop_type l span (judged_of b).type) ≡ true
+answer_right l span b t e =
+    ap (λ s. takes_result t (loop_type l span s)) (judged-type b) ∙ ap (takes_result t) e ∙ assignable-refl t
+
+module _ (place : ℕ) (s : TypedTree) (span : Span) (types : Types) (h : is_right s types ≡ true)
+    (range : limit_of Ranged (type_of s) ≡ Some span) where
+  abbrev inner : Types
+  inner = types_inside span.item types
+
+  -- what holds at the span holds at what the range's node says
+  at_range : (p : Span → Bool) → p span ≡ true → where_ranged (limit_of Ranged (judged_of s).type) p ≡ true
+  at_range p k =
+      ap (λ u. where_ranged (limit_of Ranged u) p) (judged-type s) ∙ ap (λ o. where_ranged o p) range ∙ k
+
+  looped_right : (l : Loop) (b : TypedTree) → is_right b inner ≡ true → RightIn types (looped place l s span b)
+  looped_right l b k =
+      typed_by_right place (form.Loop l s b) types (loop_type l span (type_of b))
+      (λ t e.
+      node_right t (form.Loop l s b) types
+      (and_from _ _ h
+      (at_range (right_loop t l (judged_of b) types) (and_from (is_right b inner) _ k (answer_right l span b t e)))))
+
+  mapped_right : (p b : TypedTree) → is_right p inner ≡ true → is_right b inner ≡ true
+      → RightIn types (mapped_where place s span p b)
+  mapped_right p b k m = elim (cases_Bool (is_truth (type_of p))) [
+    | inl y ↦
+        rw y
+        (typed_by_right place (form.MapWhere s p b) types (loop_type loop.Map span (type_of b))
+        (λ t e.
+        node_right t (form.MapWhere s p b) types
+        (and_from _ _ h
+        (at_range (right_where t (judged_of p) (judged_of b) types)
+        (and_from (is_right p inner && is_truth (judged_of p).type) _
+        (and_from (is_right p inner) _ k (ap is_truth (judged-type p) ∙ y))
+        (and_from (is_right b inner) _ m (answer_right loop.Map span b t e)))))))
+    | inr n ↦ rw n tt
+  ]
 
 read_right : (b : Bool) (place : ℕ) (c : Checked) (types : Types) → RightIn types c → RightIn types (read b place c)
 read_right true place c types h = h
@@ -396,12 +462,22 @@ level p (syntax.List xs) names = items_right p (types_of names) (each_tree (map 
 level p (syntax.Map es) names = map_right p (types_of names) (each_entry (map own_entry es) names) (pairs_right es names)
 level p (syntax.Loop l a x b) names =
     after_right (types_of names) (checked a.0 names) _ (a.1 names)
-    (λ s h. after_right (types_of names) (checked b.0 names) _ (b.1 names) (λ t k. tt))
-level p (syntax.MapWhere a x q t) names =
+    (λ s h.
+    inside_right p x names (limit_of Ranged (type_of s)) _
+    (λ span e.
+    let within : Names = with_local x span names in
+    after_inside (types_of names) (types_of within) (checked b.0 within) _ (b.1 within)
+    (λ t k. looped_right p s span (types_of names) h e l t k)))
+level p (syntax.MapWhere a x q b) names =
     after_right (types_of names) (checked a.0 names) _ (a.1 names)
     (λ s h.
-    after_right (types_of names) (checked q.0 names) _ (q.1 names)
-    (λ r k. after_right (types_of names) (checked t.0 names) _ (t.1 names) (λ u l. tt)))
+    inside_right p x names (limit_of Ranged (type_of s)) _
+    (λ span e.
+    let within : Names = with_local x span names in
+    after_inside (types_of names) (types_of within) (checked q.0 within) _ (q.1 within)
+    (λ r k.
+    after_inside (types_of names) (types_of within) (checked b.0 within) _ (b.1 within)
+    (λ t m. mapped_right p s span (types_of names) h e r t k m))))
 level p (syntax.Unary op a) names =
     after_right (types_of names) (checked a.0 names) _ (a.1 names) (λ s h. unary_right p (unary_overloads op) s (types_of names) h)
 level p (syntax.Binary op a b) names =

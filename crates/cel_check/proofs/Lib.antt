@@ -1,4 +1,5 @@
 mod Turns
+pub mod Gathered
 pub mod Checks
 pub mod Levels
 pub mod Literals

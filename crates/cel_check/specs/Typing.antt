@@ -31,6 +31,8 @@ use Rattle.cel_operators.specs.declared.operator.Operator.{Operator}
 use Rattle.cel_operators.specs.declared.operator.Operator.TheVariants as operator
 use Rattle.cel_operators.specs.declared.operator.Overload.{Overload}
 use Rattle.cel_check.specs.declared.scope.Scope.{Scope}
+use Rattle.cel_check.specs.declared.bindings.Bindings.{Bindings}
+use Rattle.cel_check.specs.declared.loops.Opened.{Opened}
 use Rattle.cel_check.specs.declared.tree.TypedTree.{TypedTree, out-TypedTree, roll-TypedTree}
 use Rattle.cel_check.specs.declared.tree.Form.{Form}
 use Rattle.cel_check.specs.declared.tree.Form.TheVariants as form
@@ -42,10 +44,15 @@ use Rattle.cel_operators.specs.Lists.{items_type}
 use Rattle.cel_operators.specs.Maps.{entries_type}
 use Rattle.cel_operators.specs.TextOperators.{row_with}
 use Rattle.cel_operators.specs.Wants.{Contents, Fields, Stored, limit_of, is_there, is_truth}
-use Rattle.cel_operators.specs.declared.operands.Want.TheVariants.{Members, Characters}
+use Rattle.cel_operators.specs.declared.operands.Want.TheVariants.{Members, Characters, Ranged}
+use Rattle.cel_operators.specs.declared.limit.Span.{Span}
+use Rattle.cel_check.specs.Loops.{loop_type}
+use Rattle.cel_parse.specs.declared.expr.Loop.{Loop}
+use Rattle.cel_parse.specs.declared.expr.Loop.TheVariants as loop
 use Rattle.cel_operators.specs.declared.text_operator.TextOperator.{TextOperator}
 use Rattle.cel_operators.specs.declared.text_operator.TextOperator.TheVariants as text_operator
 use Rattle.cel_names.specs.Selectors.{selects}
+use Rattle.cel_patterns.specs.Answers.{choice_in}
 use Rattle.cel_patterns.specs.Choice.{refuses}
 use Rattle.cel_check.specs.Opaque.{is_opaque, is_equality}
 
@@ -68,6 +75,11 @@ types_of names = record { slots = types_in names.slots; locals = types_in names.
 -- the names of a scope, outside all loops, by a choice of texts that are no patterns
 abbrev pub names_of : List (List ℕ) → Scope → Names
 names_of choice scope = record { slots = scope.names; locals = []; opaque = false; choice = choice }
+
+-- the names that are bound, where what is checked may not be Opaque
+abbrev pub names_in : Bindings → Names
+names_in bound =
+    record { slots = bound.slots.now; locals = bound.locals; opaque = false; choice = choice_in bound.patterns.now }
 
 -- where what is checked may be Opaque, or may not
 abbrev pub with_opaque : Bool → Names → Names
@@ -327,15 +339,59 @@ abbrev pub text_literal : ℕ → List ℕ → Checked
 text_literal place bytes =
     if nat_lt (code_points bytes) (2 ^ 32) then Ok (node (type.Text (code_points bytes)) (form.Literal (value.Text bytes))) else refused place TooLarge
 
--- the number of the first of these slots that has the name, and its type, where they are numbered from i on
+-- the number of the first of these, slots or open loops, that has the name, and its type, where they are numbered from i on
 abbrev pub slot_from : ℕ → List ℕ → List (Keyed CelType) → Option (ℕ × CelType)
 slot_from i name [] = None
 slot_from i name (e ∷ es) = if bytes_eq e.key name then Some (i, e.value) else slot_from (i + 1) name es
 
--- a name that has a slot
-abbrev pub named : ℕ → Option (ℕ × CelType) → Checked
-named place None = refused place UnknownName
-named place (Some s) = Ok (node s.1 (form.Slot s.0))
+-- a name: the item of the innermost open loop of that name, or else what the first slot of that name holds
+abbrev pub named : ℕ → Option (ℕ × CelType) → Option (ℕ × CelType) → Checked
+named place (Some l) s = Ok (node l.1 (form.Local l.0))
+named place None (Some s) = Ok (node s.1 (form.Slot s.0))
+named place None None = refused place UnknownName
+
+-- inside one more loop, whose name hides those outside
+abbrev pub with_local : List ℕ → Span → Names → Names
+with_local x span names = record names { locals = record { key = x; value = span.item } ∷ names.locals }
+
+-- what stands inside a loop: the names, and what the type of its range says
+pub record Inside : Type 0 where
+  pub names : Names
+  pub span : Span
+
+-- inside a loop over a range, where it is one
+abbrev pub entered : ℕ → List ℕ → Names → Option Span → Result Inside TypeFault
+entered place x names None = Err (record { rule = NoOverload; place = place })
+entered place x names (Some span) = Ok (record { names = with_local x span names; span = span })
+
+-- what follows inside a loop
+abbrev pub once_inside : Result Inside TypeFault → (Inside → Checked) → Checked
+once_inside (Err e) f = Err e
+once_inside (Ok inner) f = f inner
+
+-- what is opened, as what stands inside
+abbrev pub inside_of : Opened → Inside
+inside_of o = record { names = names_in o.names; span = o.span }
+
+-- a loop over a range, by its body
+abbrev pub looped : ℕ → Loop → TypedTree → Span → TypedTree → Checked
+looped place l s span t = typed_by place (form.Loop l s t) (loop_type l span (type_of t))
+
+-- `map` with a predicate, by that and the transform
+abbrev pub mapped_where : ℕ → TypedTree → Span → TypedTree → TypedTree → Checked
+mapped_where place s span p t =
+    if is_truth (type_of p) then typed_by place (form.MapWhere s p t) (loop_type loop.Map span (type_of t)) else refused place NoOverload
+
+-- the body of a loop over a range
+abbrev pub over_body : ℕ → Loop → List ℕ → (Names → Checked) → Names → TypedTree → Checked
+over_body place l x b names s =
+    once_inside (entered place x names (limit_of Ranged (type_of s))) (λ inner. after (b inner.names) (looped place l s inner.span))
+
+-- the predicate and the transform of `map` over a range
+abbrev pub over_bodies : ℕ → List ℕ → (Names → Checked) → (Names → Checked) → Names → TypedTree → Checked
+over_bodies place x p b names s =
+    once_inside (entered place x names (limit_of Ranged (type_of s)))
+    (λ inner. after (p inner.names) (λ r. after (b inner.names) (mapped_where place s inner.span r)))
 
 -- what no operator reads is a fault at its own place, unless it may stand there
 abbrev pub read : Bool → ℕ → Checked → Checked
@@ -361,7 +417,7 @@ equated place op p l q r =
 abbrev pub checked_at : ℕ → Syntax (Names → Checked) → Names → Checked
 checked_at place (syntax.Bool b) names = Ok (node type.Bool (form.Literal (value.Bool b)))
 checked_at place (syntax.Int n) names = Ok (node type.Int (form.Literal (value.Int n)))
-checked_at place (syntax.Name n) names = named place (slot_from 0 n names.slots)
+checked_at place (syntax.Name n) names = named place (slot_from 0 n names.locals) (slot_from 0 n names.slots)
 checked_at place syntax.Null names = Ok (node type.Null (form.Literal value.Null))
 checked_at place (syntax.Uint n) names = Ok (node type.Uint (form.Literal (value.Uint n)))
 checked_at place (syntax.Text s) names = text_literal place s
@@ -372,8 +428,8 @@ checked_at place (syntax.Method a f xs) names = after (a names) (λ s. called_on
 checked_at place (syntax.Index a b) names = after (a names) (λ s. after (b names) (λ t. over_two place index_overloads s t))
 checked_at place (syntax.List xs) names = after_items (each_tree xs names) (list_literal place)
 checked_at place (syntax.Map es) names = after_entries (each_entry es names) (map_literal place)
-checked_at place (syntax.Loop l a x b) names = after (a names) (λ s. after (b names) (λ t. refused place NoOverload))
-checked_at place (syntax.MapWhere a x p t) names = after (a names) (λ s. after (p names) (λ r. after (t names) (λ u. refused place NoOverload)))
+checked_at place (syntax.Loop l a x b) names = after (a names) (over_body place l x b names)
+checked_at place (syntax.MapWhere a x p t) names = after (a names) (over_bodies place x p t names)
 checked_at place (syntax.Unary op a) names = after (a names) (λ s. over_one place (unary_overloads op) s)
 checked_at place (syntax.Binary op a b) names =
     after (a (beside op a b names)) (λ s. after (b (beside op a b names)) (λ t. over_two place (binary_overloads op) s t))

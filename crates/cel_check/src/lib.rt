@@ -5,10 +5,13 @@
 //! `cel_operators`, and what it hands out of that is handed on.
 #![tactic(auto)]
 
+mod accumulator;
 mod asking;
+mod bindings;
 mod checker;
 mod fault;
 mod lists;
+mod loops;
 mod maps;
 mod matching;
 mod node;
@@ -20,13 +23,15 @@ mod tree;
 mod typed;
 mod used;
 
+pub use accumulator::{Accumulator, Tally};
 pub use cel_operators::{
-    Made, Operands, Operator, Overload, TextOperator, TypeRule, Untyped, Want, greater_limit,
+    Made, Operands, Operator, Overload, Span, TextOperator, TypeRule, Untyped, Want, greater_limit,
     greatest_of_one, greatest_of_two, is_natural, is_ordered, is_truth, is_whole, join_next,
-    map_type, matching_charge, plain_list, takes, text_limit,
+    map_type, matching_charge, most_items, plain_list, span_of, takes, text_limit,
 };
 pub use checker::{check, check_with};
 pub use fault::{CheckError, TypeFault};
+pub use loops::loop_type;
 pub use scope::Scope;
 pub use tree::{Form, TypedTree};
 pub use typed::Typed;

@@ -1,11 +1,12 @@
 //! The nodes of a typed tree, each made where its parts are typed.
 
-ghost use Rattle.std.specs.Prelude.{◌≡◌, Ok};
+ghost use Rattle.std.specs.Prelude.{◌≡◌, Ok, None};
 ghost use Rattle.cel_check.specs.declared.tree.Form.TheVariants as form;
 ghost use Rattle.cel_operators.specs.declared.type_rule.TypeRule.TheVariants.{UnknownName, NoOverload};
 ghost use Rattle.cel_check.specs.Typing.{node, refused, over_one, over_two, logic, conditional, Answers, Follows};
 ghost use Rattle.cel_check.specs.Typing.{named, slot_from, text_literal};
 
+use crate::bindings::Bindings;
 use crate::fault::{CheckError, TypeFault};
 use crate::overload::{first_of_one, first_of_two};
 use crate::tree::{Form, TypedTree};
@@ -54,14 +55,33 @@ pub fn text_literal(
     }
 }
 
-/// A name: the first slot of the name, where there is one.
+/// A name: the item of the innermost open loop of the name, or else what the first slot of the name holds.
 pub fn named(
+    alloc: Global,
+    place: usize,
+    name: &str,
+    names: &Bindings<'_>,
+) -> Result<Boxed<TypedTree>, CheckError>
+    ensures { Answers result (λ tree. tree)
+        (named place (slot_from 0 name.now names.now.locals) (slot_from 0 name.now names.now.slots.now)) }
+{
+    let locals = names.locals.as_slice();
+    for (depth, local) in locals.iter().enumerate() {
+        if local.key.as_str() == name {
+            return new_node(alloc, local.value.get().copy()?, Form::Local(depth));
+        }
+    }
+    named_slot(alloc, place, name, names.slots)
+}
+
+// The first slot of a name.
+fn named_slot(
     alloc: Global,
     place: usize,
     name: &str,
     slots: &[Keyed<CelType>],
 ) -> Result<Boxed<TypedTree>, CheckError>
-    ensures { Answers result (λ tree. tree) (named place (slot_from 0 name.now slots.now)) }
+    ensures { Answers result (λ tree. tree) (named place None (slot_from 0 name.now slots.now)) }
 {
     for (number, slot) in slots.iter().enumerate() {
         if slot.key.as_str() == name {
@@ -76,19 +96,6 @@ pub fn untyped(place: usize) -> Result<Boxed<TypedTree>, CheckError>
     ensures { Answers result (λ tree. tree) (refused place NoOverload) }
 {
     Err(refused(TypeRule::NoOverload, place))
-}
-
-/// What has no type yet, behind the last of its parts.
-pub fn untyped_behind(
-    place: usize,
-    part: Result<Boxed<TypedTree>, CheckError>,
-) -> Result<Boxed<TypedTree>, CheckError>
-    ensures { Follows part result (λ s. refused place NoOverload) }
-{
-    match part {
-        Ok(_) => untyped(place),
-        Err(error) => Err(error),
-    }
 }
 
 /// The first of these overloads over an operand.

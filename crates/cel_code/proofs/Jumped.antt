@@ -9,12 +9,14 @@ use Rattle.cel_check.specs.Meaning.{by_turns}
 use Rattle.cel_code.specs.declared.image.Image.{Image}
 use Rattle.cel_code.specs.declared.image.Target.{Target}
 use Rattle.cel_code.specs.declared.instr.Instr.{Instr}
-use Rattle.cel_code.specs.declared.instr.Instr.TheVariants.{Const, AndTest, OrTest, Cond, Jump, End}
+use Rattle.cel_code.specs.declared.instr.Instr.TheVariants.{Const, AndTest, OrTest, Cond, Jump, Item, When, End}
+use Rattle.cel_code.specs.declared.instr.Instr.TheVariants as instr
+use Rattle.cel_parse.specs.declared.expr.Loop.TheVariants as loop
 use Rattle.cel_code.specs.Compiled.{IsCompiled, Layout, target, target_at_end, targets_from, layout_of, sizes_of, targets_of}
 use Rattle.cel_code.specs.Drafts.{layouts_of}
 use Rattle.cel_code.specs.Jumps.{Jumps, IsJumpedTo, IsTarget, Rises, TargetsAreJumps}
 use Rattle.cel_code.specs.Placed.{Code, code_in, Has, Stands, literal, unary, binary, both, either, conditional, items, StandEach}
-use Rattle.cel_code.specs.Placed.{no_items, first_item, slot, entries, with_text}
+use Rattle.cel_code.specs.Placed.{no_items, first_item, slot, entries, with_text, local, looped, mapped}
 use Rattle.cel_code.proofs.Written.{laid, laid_map}
 
 -- one list of targets behind another
@@ -91,6 +93,12 @@ module _ (code : Code) where
     sized e from to (entries es m f hs i after) =
         let x = sized_each (by_turns es) from m hs in rw (laid_map e es f.is) (omega (arith, x, after))
     sized e from to (with_text op a text m f h i after) = let x = sized a from m h in rw (laid e _ f.is) (omega (arith, x, after))
+    sized e from to (local d f h next) = rw (laid e _ f.is) (sym next)
+    sized e from to (looped l a b m n f h i k j next) =
+        let x = sized a from m h in let y = sized b (m + 2) n k in rw (laid e _ f.is) (omega (arith, x, y, next))
+    sized e from to (mapped a p b m k n f h i hp hw hb hn next) =
+        let x = sized a from m h in
+        let y = sized p (m + 2) k hp in let z = sized b (k + 1) n hb in rw (laid e _ f.is) (omega (arith, x, y, z, next))
 
     sized_each : (xs : List TypedTree) (from to : ℕ) → StandEach code xs from to → from + sizes_of (layouts_of xs) ≡ to
     sized_each xs from to (no_items none same) = rw none (omega (arith, same))
@@ -149,6 +157,28 @@ module _ (code : Code) where
     rise e from to (with_text op a text m f h i after) at same below =
         let x = sized a from m h in
         rw (laid e _ f.is, after) (all_rise (layout_of a) (from + 1) at m below (omega arith) (rise a from m h at same below))
+    rise e from to (local d f h next) at same below = rw (laid e _ f.is) (omega (arith, next))
+    rise e from to (looped l a b m n f h i k j next) at same below =
+        let x = sized a from m h in
+        let y = sized b (m + 2) n k in
+        let p = all_rise (layout_of a) (from + 1) at m below (omega arith) (rise a from m h at same below) in
+        let q =
+        all_rise (layout_of b) (m + 2 + 1) (at + (layout_of a).size + 2) n [] (omega arith) (rise b (m + 2) n k _ (omega arith) []) in
+        rw (laid e _ f.is, next) (rises_on _ _ (from + 1) (m + 1) (n + 1) p (rises_from _ (m + 1) (m + 2 + 1) (n + 1) (omega arith) q))
+    rise e from to (mapped a p b m k n f h i hp hw hb hn next) at same below =
+        let x = sized a from m h in
+        let y = sized p (m + 2) k hp in
+        let z = sized b (k + 1) n hb in
+        let q = all_rise (layout_of a) (from + 1) at m below (omega arith) (rise a from m h at same below) in
+        let r =
+        all_rise (layout_of p) (m + 2 + 1) (at + (layout_of a).size + 2) k [] (omega arith) (rise p (m + 2) k hp _ (omega arith) []) in
+        let t =
+        all_rise (layout_of b) (k + 1 + 1) (at + (layout_of a).size + 2 + (layout_of p).size + 1) n [] (omega arith)
+        (rise b (k + 1) n hb _ (omega arith) []) in
+        rw (laid e _ f.is, next)
+        (rises_on _ _ (from + 1) (k + 1) (n + 1)
+        (rises_on _ _ (from + 1) (m + 1) (k + 1) q (rises_from _ (m + 1) (m + 2 + 1) (k + 1) (omega arith) r))
+        (rises_from _ (k + 1) (k + 1 + 1) (n + 1) (omega arith) t))
 
     rise_each : (xs : List TypedTree) (from to : ℕ) → StandEach code xs from to → (at : ℕ) → at ≡ from → (below : List CelType)
         → Rises (from + 1) (targets_of (layouts_of xs) at below) (to + 1)
@@ -278,6 +308,64 @@ module _ (code : Code) where
           | inl less ↦ inl (all_go (layout_of a) at m below x (omega arith) (go a from m h at same below s le less instr has x j))
           | inr more ↦ absurd (here s m instr _ has i.instr (omega arith) x j)
         ])
+    go e from to (local d f h next) at same below s le lt instr has x j =
+        absurd (here s from instr _ has h (omega (arith, next)) x j)
+    go e from to (looped l a b m n f h i k j' next) at same below s le lt instr' has x j =
+        let u = sized a from m h in
+        let v = sized b (m + 2) n k in
+        rw (laid e _ f.is) (elim (cases_lt s m) [
+          | inl less ↦
+              inl (target_left _ _ x (all_go (layout_of a) at m below x (omega arith) (go a from m h at same below s le less instr' has x j)))
+          | inr more ↦ elim (cases_lt s (m + 1)) [
+            | inl less ↦ inr (sym (here s m instr' (instr.Loop l to) has i.begins (omega arith) x j), refl)
+            | inr behind ↦ elim (cases_lt s (m + 2)) [
+              | inl less ↦ absurd (here s (m + 1) instr' Item has i.item (omega arith) x j)
+              | inr inside ↦ elim (cases_lt s n) [
+                | inl less ↦
+                    inl
+                    (target_right (targets_from (layout_of a) at below) _ x
+                    (all_go (layout_of b) _ n [] x (omega arith) (go b (m + 2) n k _ (omega arith) [] s inside less instr' has x j)))
+                | inr last ↦ absurd (here s n instr' _ has j' (omega arith) x j)
+              ]
+            ]
+          ]
+        ])
+    go e from to (mapped a p b m k n f h i hp hw hb hn next) at same below s le lt instr' has x j =
+        let u = sized a from m h in
+        let v = sized p (m + 2) k hp in
+        let w = sized b (k + 1) n hb in
+        let first = targets_from (layout_of a) at below in
+        let second = targets_from (layout_of p) (at + (layout_of a).size + 2) [] in
+        rw (laid e _ f.is) (elim (cases_lt s m) [
+          | inl less ↦
+              inl
+              (target_left (first ++ second) _ x
+              (target_left first second x
+              (all_go (layout_of a) at m below x (omega arith) (go a from m h at same below s le less instr' has x j))))
+          | inr more ↦ elim (cases_lt s (m + 1)) [
+            | inl less ↦ inr (sym (here s m instr' (instr.Loop loop.Map to) has i.begins (omega arith) x j), refl)
+            | inr behind ↦ elim (cases_lt s (m + 2)) [
+              | inl less ↦ absurd (here s (m + 1) instr' Item has i.item (omega arith) x j)
+              | inr inside ↦ elim (cases_lt s k) [
+                | inl less ↦
+                    inl
+                    (target_left (first ++ second) _ x
+                    (target_right first second x
+                    (all_go (layout_of p) _ k [] x (omega arith) (go p (m + 2) k hp _ (omega arith) [] s inside less instr' has x j))))
+                | inr tested ↦ elim (cases_lt s (k + 1)) [
+                  | inl less ↦ absurd (here s k instr' When has hw (omega arith) x j)
+                  | inr later ↦ elim (cases_lt s n) [
+                    | inl less ↦
+                        inl
+                        (target_right (first ++ second) _ x
+                        (all_go (layout_of b) _ n [] x (omega arith) (go b (k + 1) n hb _ (omega arith) [] s later less instr' has x j)))
+                    | inr last ↦ absurd (here s n instr' _ has hn (omega arith) x j)
+                  ]
+                ]
+              ]
+            ]
+          ]
+        ])
 
     go_each : (xs : List TypedTree) (from to : ℕ) → StandEach code xs from to → (at : ℕ) → at ≡ from → (below : List CelType) → (s : ℕ)
         → from ≤ s → s < to → (instr : Instr) → Has code s instr → (x : ℕ) → Jumps instr x
@@ -304,6 +392,10 @@ module _ (code : Code) where
   come_end e from to (entries es m f hs i after) q = let no_join : false ≡ true = rw (laid e _ f.is) at q in cc
   come_end e from to (with_text op a text m f h i after) q = let no_join : false ≡ true = rw (laid e _ f.is) at q in cc
   come_end e from to (conditional c a b m n f h i k j l) q = record { from = n; instr = Jump to; stands = j.is; jumps = refl }
+  come_end e from to (local d f h next) q = let no_join : false ≡ true = rw (laid e _ f.is) at q in cc
+  come_end e from to (looped l a b m n f h i k j next) q = record { from = m; instr = instr.Loop l to; stands = i.begins.is; jumps = refl }
+  come_end e from to (mapped a p b m k n f h i hp hw hb hn next) q =
+      record { from = m; instr = instr.Loop loop.Map to; stands = i.begins.is; jumps = refl }
 
   all_come : (l : Layout) (at to : ℕ) (below : List CelType) (x : ℕ) → at + l.size ≡ to
       → (IsTarget (l.within at below) x → IsJumpedTo code.instrs x) → (l.joins ≡ true → IsJumpedTo code.instrs to)
@@ -377,6 +469,35 @@ module _ (code : Code) where
     come e from to (with_text op a text m f h i after) at same below x t =
         let u = sized a from m h in
         all_come (layout_of a) at m below x (omega arith) (come a from m h at same below x) (come_end a from m h) (rw (laid e _ f.is) at t)
+    come e from to (local d f h next) at same below x t = absurd (rw (laid e _ f.is) at t)
+    come e from to (looped l a b m n f h i k j next) at same below x t =
+        let u = sized a from m h in
+        let v = sized b (m + 2) n k in
+        let body_at = at + (layout_of a).size + 2 in
+        elim (target_cases (targets_from (layout_of a) at below) (targets_from (layout_of b) body_at []) x (rw (laid e _ f.is) at t)) [
+          | inl p ↦ all_come (layout_of a) at m below x (omega arith) (come a from m h at same below x) (come_end a from m h) p
+          | inr p ↦
+              all_come (layout_of b) body_at n [] x (omega arith) (come b (m + 2) n k body_at (omega arith) [] x) (come_end b (m + 2) n k) p
+        ]
+    come e from to (mapped a p b m k n f h i hp hw hb hn next) at same below x t =
+        let u = sized a from m h in
+        let v = sized p (m + 2) k hp in
+        let w = sized b (k + 1) n hb in
+        let test_at = at + (layout_of a).size + 2 in
+        let body_at = test_at + (layout_of p).size + 1 in
+        let first = targets_from (layout_of a) at below in
+        let second = targets_from (layout_of p) test_at [] in
+        elim (target_cases (first ++ second) (targets_from (layout_of b) body_at []) x (rw (laid e _ f.is) at t)) [
+          | inl q ↦ elim (target_cases first second x q) [
+            | inl r ↦ all_come (layout_of a) at m below x (omega arith) (come a from m h at same below x) (come_end a from m h) r
+            | inr r ↦
+                all_come (layout_of p) test_at k [] x (omega arith) (come p (m + 2) k hp test_at (omega arith) [] x)
+                (come_end p (m + 2) k hp) r
+          ]
+          | inr q ↦
+              all_come (layout_of b) body_at n [] x (omega arith) (come b (k + 1) n hb body_at (omega arith) [] x)
+              (come_end b (k + 1) n hb) q
+        ]
 
     come_each : (xs : List TypedTree) (from to : ℕ) → StandEach code xs from to → (at : ℕ) → at ≡ from → (below : List CelType) → (x : ℕ)
         → IsTarget (targets_of (layouts_of xs) at below) x → IsJumpedTo code.instrs x

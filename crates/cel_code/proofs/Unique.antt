@@ -12,11 +12,13 @@ use Rattle.cel_check.specs.declared.tree.Form.{Form}
 use Rattle.cel_check.specs.declared.tree.Form.TheVariants as form
 use Rattle.cel_code.specs.declared.image.Image.{Image}
 use Rattle.cel_code.specs.declared.instr.Instr.{Instr}
-use Rattle.cel_code.specs.declared.instr.Instr.TheVariants.{Const, Slot, Op, AndTest, OrTest, And, Or, Cond, Jump}
+use Rattle.cel_code.specs.declared.instr.Instr.TheVariants.{Const, Slot, Local, Op, AndTest, OrTest, And, Or, Cond, Jump, When}
 use Rattle.cel_code.specs.Compiled.{EachOnce, nothing, first, again, IsCompiled, layout_of}
 use Rattle.cel_operators.specs.Operators.{code_of}
 use Rattle.cel_code.specs.Placed.{Code, code_in, Has, Pushes, Stands, literal, unary, binary, both, either, conditional, items}
-use Rattle.cel_code.specs.Placed.{StandEach, no_items, first_item, slot, entries, with_text, HasText}
+use Rattle.cel_code.specs.Placed.{StandEach, no_items, first_item, slot, entries, with_text, HasText, local, looped, mapped, OpensLoop}
+use Rattle.cel_parse.specs.declared.expr.Loop.{Loop}
+use Rattle.cel_parse.specs.declared.expr.Loop.TheVariants as loop
 use Rattle.cel_code.specs.declared.instr.Instr.TheVariants as instr
 use Rattle.cel_code.proofs.Place.{contains_at, get_last}
 
@@ -118,6 +120,12 @@ Parts code (form.Conditional c a b) from to =
 Parts code (form.ListOf xs) from to = (m : ℕ) × StandEach code xs from m × Has code m (instr.List (length xs)) × (to ≡ m + 1)
 Parts code (form.MapOf es) from to = (m : ℕ) × StandEach code (by_turns es) from m × Has code m (instr.Map (length es)) × (to ≡ m + 1)
 Parts code (form.WithText op a text) from to = (m : ℕ) × Stands code a from m × HasText code m op text × (to ≡ m + 1)
+Parts code (form.Local d) from to = Has code from (Local d) × (to ≡ from + 1)
+Parts code (form.Loop l a b) from to =
+    (m n : ℕ) × Stands code a from m × OpensLoop code m l to × Stands code b (m + 2) n × Has code n instr.Next × (to ≡ n + 1)
+Parts code (form.MapWhere a p b) from to =
+    (m k n : ℕ) × Stands code a from m × OpensLoop code m loop.Map to × Stands code p (m + 2) k × Has code k When
+    × Stands code b (k + 1) n × Has code n instr.Next × (to ≡ n + 1)
 
 -- the parts of what stands one after another, by the list
 abbrev EachPart : Code → List TypedTree → ℕ → ℕ → Type 0
@@ -140,6 +148,10 @@ parts code e f from to is (conditional c a b m n g h i k j l) = subst (λ x. Par
 parts code e f from to is (items xs m g hs i n) = subst (λ x. Parts code x from to) (sym g.is ∙ is) (m, hs, i, n)
 parts code e f from to is (entries es m g hs i n) = subst (λ x. Parts code x from to) (sym g.is ∙ is) (m, hs, i, n)
 parts code e f from to is (with_text op a text m g h i n) = subst (λ x. Parts code x from to) (sym g.is ∙ is) (m, h, i, n)
+parts code e f from to is (local d g h i) = subst (λ x. Parts code x from to) (sym g.is ∙ is) (h, i)
+parts code e f from to is (looped l a b m n g h i k j o) = subst (λ x. Parts code x from to) (sym g.is ∙ is) (m, n, h, i, k, j, o)
+parts code e f from to is (mapped a p b m k n g h i hp hw hb hn o) =
+    subst (λ x. Parts code x from to) (sym g.is ∙ is) (m, k, n, h, i, hp, hw, hb, hn, o)
 
 module _ (c d : Code) where
   -- the same instructions from one place up to another
@@ -154,6 +166,13 @@ module _ (c d : Code) where
 
   on : (from m to : ℕ) → Alike from m → Alike m to → Alike from to
   on from m to a b = record { each = λ k le lt. elim (cases_lt k m) [ inl less ↦ a.each k le less | inr more ↦ b.each k more lt ] }
+
+  -- a loop begins alike in both
+  opened : (m : ℕ) (l : Loop) (to to' : ℕ) → OpensLoop c m l to → OpensLoop d m l to' → to ≡ to' → Alike m (m + 2)
+  opened m l to to' p q same =
+      let first = one m _ _ p.begins q.begins (ap (instr.Loop l) same) in
+      let two : m + 1 + 1 ≡ m + 2 = omega arith in
+      subst (Alike m) two (on m (m + 1) (m + 1 + 1) first (one (m + 1) _ _ p.item q.item refl))
 
   -- an expression stands in both alike, and ends where it does in the other
   record Twins (from to to' : ℕ) : Type 0 where
@@ -222,6 +241,30 @@ module _ (c d : Code) where
             ends = omega (arith, after, p.3, t.ends);
             alike = rw after (on from m (m + 1) t.alike (one m _ _ i.instr q.instr (ap (instr.WithText op) number)));
           }
+      twins e from to to' (local d' f h next) s =
+          let p = parts d e (form.Local d') from to' f.is s in
+          record { ends = p.1 ∙ sym next; alike = rw next (one from _ _ h p.0 refl) }
+      twins e from to to' (looped l a b m n f h i k j next) s =
+          let p = parts d e (form.Loop l a b) from to' f.is s in
+          let t = twins a from m p.0 h p.2 in
+          let q : OpensLoop d m l to' = rw t.ends at p.3 in
+          let u = twins b (m + 2) n p.1 k (rw t.ends at p.4) in
+          let ends : to' ≡ to = omega (arith, next, p.6, u.ends) in
+          let begun = opened m l to to' i q (sym ends) in
+          let body = on from (m + 2) n (on from m (m + 2) t.alike begun) u.alike in
+          let whole = on from n (n + 1) body (one n _ _ j (rw u.ends at p.5) refl) in
+          record { ends = ends; alike = rw next whole }
+      twins e from to to' (mapped a c' b m k n f h i hp hw hb hn next) s =
+          let p = parts d e (form.MapWhere a c' b) from to' f.is s in
+          let t = twins a from m p.0 h p.3 in
+          let q : OpensLoop d m loop.Map to' = rw t.ends at p.4 in
+          let v = twins c' (m + 2) k p.1 hp (rw t.ends at p.5) in
+          let u = twins b (k + 1) n p.2 hb (rw v.ends at p.7) in
+          let ends : to' ≡ to = omega (arith, next, p.9, u.ends) in
+          let begun = on from m (m + 2) t.alike (opened m loop.Map to to' i q (sym ends)) in
+          let tested = on from k (k + 1) (on from (m + 2) k begun v.alike) (one k _ _ hw (rw v.ends at p.6) refl) in
+          let whole = on from n (n + 1) (on from (k + 1) n tested u.alike) (one n _ _ hn (rw u.ends at p.8) refl) in
+          record { ends = ends; alike = rw next whole }
 
       each_twins : (xs : List TypedTree) (from to to' : ℕ) → StandEach c xs from to → StandEach d xs from to' → Twins from to to'
       each_twins xs from to to' (no_items none same') s =

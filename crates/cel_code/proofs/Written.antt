@@ -14,6 +14,7 @@ use Rattle.cel_operators.specs.declared.operator.Operator.{Operator}
 use Rattle.cel_check.specs.declared.tree.TypedTree.{TypedTree, out-TypedTree}
 use Rattle.cel_check.specs.declared.tree.TypedTree.TheFolds.{map-TypedTree, fold_out-TypedTree}
 use Rattle.cel_check.specs.declared.tree.Form.{Form}
+use Rattle.cel_parse.specs.declared.expr.Loop.{Loop}
 use Rattle.cel_check.specs.declared.tree.Form.TheVariants as form
 use Rattle.cel_code.specs.declared.compiler.Draft.{Draft}
 use Rattle.cel_code.specs.declared.image.Target.{Target}
@@ -58,7 +59,7 @@ module _ (a b c : Draft) where
   }
 
   -- code alone
-  grows_code : (m n : ℕ) (vs : List Value) (ts : List Target) → Grows a b m vs ts → Grows b c n [] [] → Grows a c (m + n) vs ts
+  pub grows_code : (m n : ℕ) (vs : List Value) (ts : List Target) → Grows a b m vs ts → Grows b c n [] [] → Grows a c (m + n) vs ts
   grows_code m n vs ts g h =
       rw (sym (append-nil vs), sym (append-nil ts)) (grows_on m n vs [] ts [] g h)
 
@@ -210,6 +211,49 @@ writes_with_text old d1 d2 new e op a a' text is same wa gi gp =
     let ts = targets_from (layout_of a) (length old.code) old.below in
     let both = grows_on old d1 d2 _ _ _ _ _ _ wa.grows gi in
     record { grows = rw (laid e _ is) (grows_as _ _ _ _ _ _ _ _ (omega arith) refl (sym (append-nil ts)) (grows_code old d2 new _ _ _ _ both gp)) }
+
+-- what is written over nothing, where the types below are put aside and come back
+pub writes_body : (old d1 d2 new : Draft) (e : TypedTree) → drafted d1 ≡ drafted old → d1.targets ≡ old.targets → d1.below ≡ []
+    → Writes d1 d2 e d1.below → drafted new ≡ drafted d2 → new.targets ≡ d2.targets → new.below ≡ old.below → Writes old new e []
+writes_body old d1 d2 new e aside targets empty w back targets' below =
+    let w : Writes d1 d2 e [] = rw (sym empty) w in
+    let more = (layout_of e).literals in
+    record {
+      grows = record {
+        size = ap (λ c. length c.instrs) back ∙ w.grows.size ∙ ap (λ c. length c.instrs + (layout_of e).size) aside;
+        constants = λ before once.
+            subst (λ cs. EachOnce (before ++ more) cs) (sym (ap (λ c. c.constants) back))
+            (w.grows.constants before (subst (λ cs. EachOnce before cs) (sym (ap (λ c. c.constants) aside)) once));
+        targets =
+            targets'
+            ∙ w.grows.targets
+            ∙ ap (λ ts. ts ++ targets_from (layout_of e) (length d1.code) []) targets
+            ∙ ap (λ c. old.targets ++ targets_from (layout_of e) (length c.instrs) []) aside;
+        below = below;
+      };
+    }
+
+-- a range, the beginning of a loop, its body and its end
+pub writes_loop : (old d1 d2 d3 new : Draft) (e a b : TypedTree) (l : Loop) → (out-TypedTree e).form ≡ form.Loop l a b
+    → Writes old d1 a old.below → Grows d1 d2 2 [] [] → Writes d2 d3 b [] → Grows d3 new 1 [] [] → WritesWithin old new e old.below
+writes_loop old d1 d2 d3 new e a b l is wa gl wb gn =
+    let begun = grows_code old d1 d2 _ _ _ _ wa.grows gl in
+    let here : length d2.code ≡ length old.code + (layout_of a).size + 2 = omega (arith, begun.size) in
+    let body = grows_by old d2 d3 _ _ _ b _ [] [] begun wb here refl in
+    record { grows = rw (laid e _ is) (grows_code old d3 new _ _ _ _ body gn) }
+
+-- likewise with a predicate and its test in front of the body
+pub writes_map_where : (old d1 d2 d3 d4 d5 new : Draft) (e a p b : TypedTree) → (out-TypedTree e).form ≡ form.MapWhere a p b
+    → Writes old d1 a old.below → Grows d1 d2 2 [] [] → Writes d2 d3 p [] → Grows d3 d4 1 [] [] → Writes d4 d5 b []
+    → Grows d5 new 1 [] [] → WritesWithin old new e old.below
+writes_map_where old d1 d2 d3 d4 d5 new e a p b is wa gl wp gw wb gn =
+    let begun = grows_code old d1 d2 _ _ _ _ wa.grows gl in
+    let here : length d2.code ≡ length old.code + (layout_of a).size + 2 = omega (arith, begun.size) in
+    let predicate = grows_by old d2 d3 _ _ _ p _ [] [] begun wp here refl in
+    let tested = grows_code old d3 d4 _ _ _ _ predicate gw in
+    let there : length d4.code ≡ length old.code + (layout_of a).size + 2 + (layout_of p).size + 1 = omega (arith, tested.size) in
+    let body = grows_by old d4 d5 _ _ _ b _ [] [] tested wb there refl in
+    record { grows = rw (laid e _ is) (grows_code old d5 new _ _ _ _ body gn) }
 
 -- what was written from nothing on, and END
 pub compiled : (start draft all : Draft) (image : Image) (e tree : TypedTree) (types : List CelType) → e ≡ tree

@@ -8,6 +8,7 @@ use Rattle.cel_check.specs.declared.tree.TypedTree.{TypedTree, fold-TypedTree}
 use Rattle.cel_check.specs.declared.tree.TypedTree.TheOpen.{TypedTree-F}
 use Rattle.cel_check.specs.declared.tree.Form.{Form}
 use Rattle.cel_check.specs.declared.tree.Form.TheVariants.{Literal, Unary, Binary, And, Or, Conditional, ListOf, MapOf, WithText, Slot}
+use Rattle.cel_check.specs.declared.tree.Form.TheVariants.{Local, Loop, MapWhere}
 use Rattle.cel_code.specs.declared.instr.Instr.TheVariants.{End}
 use Rattle.cel_code.specs.declared.image.Image.{Image}
 use Rattle.cel_code.specs.declared.image.Target.{Target}
@@ -42,6 +43,7 @@ sizes_of (a ∷ xs) = a.size + sizes_of xs
 abbrev pub size_at : Form Layout → ℕ
 size_at (Literal v) = 1
 size_at (Slot n) = 1
+size_at (Local d) = 1
 size_at (Unary op a) = a.size + 1
 size_at (Binary op a b) = a.size + b.size + 1
 size_at (And a b) = a.size + 1 + b.size + 1
@@ -50,6 +52,8 @@ size_at (Conditional c a b) = c.size + 1 + a.size + 1 + b.size
 size_at (ListOf xs) = sizes_of xs + 1
 size_at (MapOf es) = sizes_of (by_turns es) + 1
 size_at (WithText op a text) = a.size + 1
+size_at (Loop l a b) = a.size + 2 + b.size + 1
+size_at (MapWhere a p b) = a.size + 2 + p.size + 1 + b.size + 1
 
 -- the literals of several, from left to right
 abbrev pub literals_of : List Layout → List Value
@@ -60,6 +64,7 @@ literals_of (a ∷ xs) = a.literals ++ literals_of xs
 abbrev pub literals_at : Form Layout → List Value
 literals_at (Literal v) = v ∷ []
 literals_at (Slot n) = []
+literals_at (Local d) = []
 literals_at (Unary op a) = a.literals
 literals_at (Binary op a b) = a.literals ++ b.literals
 literals_at (And a b) = a.literals ++ b.literals
@@ -68,12 +73,16 @@ literals_at (Conditional c a b) = c.literals ++ a.literals ++ b.literals
 literals_at (ListOf xs) = literals_of xs
 literals_at (MapOf es) = literals_of (by_turns es)
 literals_at (WithText op a text) = a.literals ++ value.Text text ∷ []
+literals_at (Loop l a b) = a.literals ++ b.literals
+literals_at (MapWhere a p b) = a.literals ++ p.literals ++ b.literals
 
 -- whether jumps of a level go to its end
 abbrev pub joins_at : {A : Type 0} → Form A → Bool
 joins_at (And a b) = true
 joins_at (Or a b) = true
 joins_at (Conditional c a b) = true
+joins_at (Loop l a b) = true
+joins_at (MapWhere a p b) = true
 joins_at _ = false
 
 -- a place that jumps go to, with the types of the stack there
@@ -98,10 +107,12 @@ targets_of (a ∷ xs) from below = targets_from a from below ++ targets_of xs (f
 abbrev pub second_branch : Layout → ℕ → List CelType → List Target
 second_branch e from below = target from below ∷ e.within from below
 
--- the targets of a level before its end, from left to right; a right operand stands over the left one
+-- the targets of a level before its end, from left to right; a right operand stands over the left one, and the body of a
+-- loop over nothing, since the types of a target are those above the innermost loop
 abbrev pub within_at : Form Layout → ℕ → List CelType → List Target
 within_at (Literal v) from below = []
 within_at (Slot n) from below = []
+within_at (Local d) from below = []
 within_at (Unary op a) from below = targets_from a from below
 within_at (Binary op a b) from below = targets_from a from below ++ targets_from b (from + a.size) (below ++ a.type ∷ [])
 within_at (And a b) from below = targets_from a from below ++ targets_from b (from + a.size + 1) (below ++ a.type ∷ [])
@@ -111,6 +122,9 @@ within_at (Conditional c a b) from below =
 within_at (ListOf xs) from below = targets_of xs from below
 within_at (MapOf es) from below = targets_of (by_turns es) from below
 within_at (WithText op a text) from below = targets_from a from below
+within_at (Loop l a b) from below = targets_from a from below ++ targets_from b (from + a.size + 2) []
+within_at (MapWhere a p b) from below =
+    targets_from a from below ++ targets_from p (from + a.size + 2) [] ++ targets_from b (from + a.size + 2 + p.size + 1) []
 
 -- a node by the layouts of its parts
 abbrev pub layout_step : TypedTree-F Layout → Layout

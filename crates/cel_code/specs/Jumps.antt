@@ -1,7 +1,7 @@
 -- Where the jumps of an image go.
 use Rattle.std.specs.Prelude.{◌≡◌, ℕ, ◌+◌, ◌≤◌, ◌⊎◌, ◌↔◌, List, [], ◌∷◌, length, Some, slice_get}
 use Rattle.cel_code.specs.declared.instr.Instr.{Instr}
-use Rattle.cel_code.specs.declared.instr.Instr.TheVariants.{AndTest, OrTest, Cond, Jump}
+use Rattle.cel_code.specs.declared.instr.Instr.TheVariants.{AndTest, OrTest, Cond, Jump, Loop}
 use Rattle.cel_code.specs.declared.image.Image.{Image}
 use Rattle.cel_code.specs.declared.image.Target.{Target}
 
@@ -11,6 +11,7 @@ Jumps (AndTest to) at = to ≡ at
 Jumps (OrTest to) at = to ≡ at
 Jumps (Cond if_false if_error) at = (if_false ≡ at) ⊎ (if_error ≡ at)
 Jumps (Jump to) at = to ≡ at
+Jumps (Loop l exit) at = exit ≡ at
 Jumps _ at = ⊥
 
 -- an instruction of the code jumps to this one

@@ -1,13 +1,19 @@
 -- What the machine does with an image, one instruction at a time.
-use Rattle.std.specs.Prelude.{◌≡◌, ℕ, zero, suc, ◌+◌, true, false, List, [], ◌∷◌, Option, Some, None, Ok, Err, slice_get}
+use Rattle.std.specs.Prelude.{◌≡◌, ℕ, zero, suc, ◌+◌, true, false, List, [], ◌∷◌, Option, Some, None, Result, Ok, Err, slice_get}
 use Rattle.cel_value.specs.declared.value.Value.{Value, out-Value}
 use Rattle.cel_operators.specs.declared.operator.Operator.{Operator}
 use Rattle.cel_code.specs.declared.instr.Instr.{Instr}
-use Rattle.cel_code.specs.declared.instr.Instr.TheVariants.{Const, Op, WithText, AndTest, OrTest, And, Or, Cond, Jump, End, Slot}
+use Rattle.cel_code.specs.declared.instr.Instr.TheVariants.{Const, Op, WithText, AndTest, OrTest, And, Or, Cond, Jump, End, Slot, Local, Item, When}
 use Rattle.cel_code.specs.declared.instr.Instr.TheVariants as instr
 use Rattle.cel_code.specs.declared.image.Image.{Image}
 use Rattle.cel_operators.specs.Outcomes.{Outcome, Side, and_of, or_of, both_sides}
-use Rattle.cel_operators.specs.Wants.{side_of}
+use Rattle.cel_operators.specs.Wants.{side_of, taken}
+use Rattle.cel_operators.specs.declared.operands.Want.TheVariants.{Ranged}
+use Rattle.cel_check.specs.Loops.{Turn, Closes, GoesOn, nothing_yet, turn, result_of}
+use Rattle.cel_check.specs.declared.accumulator.Accumulator.{Accumulator}
+use Rattle.cel_parse.specs.declared.expr.Loop.{Loop}
+use Rattle.cel_parse.specs.declared.expr.Loop.TheVariants.{Map}
+use Rattle.cel_value.specs.declared.cel_error.CelError.{CelError}
 use Rattle.cel_operators.specs.declared.operator.Made.{Made}
 use Rattle.cel_operators.specs.Operators.{Row, One, Two, row, operator_of, at_one, at_two}
 use Rattle.cel_operators.specs.Lists.{list_made}
@@ -16,11 +22,15 @@ use Rattle.cel_operators.specs.TextOperators.{row_with}
 use Rattle.cel_check.specs.Typing.{literal_text_at}
 use Rattle.cel_operators.specs.declared.text_operator.TextOperator.{TextOperator}
 
--- an open loop: where it begins and where it leads, and the items of its range, the present one first
+-- an open loop: the number of its LOOP and where it leads, what it makes of its items, the item at which it is, those that
+-- are left, and what it has gathered
 pub record Frame : Type 0 where
   pub start : ℕ
   pub exit : ℕ
-  pub items : List Value
+  pub mode : Loop
+  pub item : Value
+  pub left : List Value
+  pub gathered : Accumulator
 
 -- the number of the next instruction, the stack of values and errors, the top first, and the open loops, the innermost first
 pub record State : Type 0 where
@@ -54,7 +64,7 @@ abbrev pub constant : Option Value → Option Outcome
 constant None = None
 constant (Some v) = Some (Ok v)
 
--- what a slot holds, for a charge of 1
+-- what a slot or an open loop holds, for a charge of 1
 abbrev pub slot : Option Outcome → ℕ → List Outcome → List Frame → Next
 slot None at stack frames = Stuck
 slot (Some x) at stack frames = Goes 1 (on (at + 1) (x ∷ stack) frames)
@@ -132,10 +142,55 @@ branch (Some (Ok true)) if_false if_error at stack frames = Goes 1 (on (at + 1) 
 branch (Some (Ok false)) if_false if_error at stack frames = Goes 1 (on if_false stack frames)
 branch (Some (Err e)) if_false if_error at stack frames = Goes 1 (on if_error (Err e ∷ stack) frames)
 
+-- the item of an open loop
+abbrev pub item_of : Option Frame → Option Outcome
+item_of None = None
+item_of (Some f) = Some (Ok f.item)
+
+-- a loop that is opened over these items
+abbrev pub frame : ℕ → ℕ → Loop → Value → List Value → Frame
+frame start exit l v vs = record { start = start; exit = exit; mode = l; item = v; left = v ∷ vs; gathered = nothing_yet }
+
+-- a range: its error, or the result of no items, goes where the loop leads; else the loop is opened
+abbrev pub opened : Loop → Option (Result (List Value) CelError) → ℕ → ℕ → List Outcome → List Frame → Next
+opened l None exit at stack frames = Stuck
+opened l (Some (Err e)) exit at stack frames = Goes 1 (on exit (Err e ∷ stack) frames)
+opened l (Some (Ok [])) exit at stack frames = Goes 1 (on exit (result_of l nothing_yet ∷ stack) frames)
+opened l (Some (Ok (v ∷ vs))) exit at stack frames = Goes 1 (on (at + 1) stack (frame at exit l v vs ∷ frames))
+
+-- the next item
+abbrev pub item_taken : Frame → List Value → ℕ → List Outcome → List Frame → Next
+item_taken f [] at stack frames = Stuck
+item_taken f (v ∷ vs) at stack frames = Goes 1 (on (at + 1) stack (record f { item = v; left = vs } ∷ frames))
+
+-- behind an item: the next one, or the loop's result where none is left
+abbrev pub gone_on : Frame → List Value → Accumulator → List Outcome → List Frame → Next
+gone_on f [] a stack frames = Goes 0 (on f.exit (result_of f.mode a ∷ stack) frames)
+gone_on f (v ∷ vs) a stack frames = Goes 0 (on (f.start + 1) stack (record f { gathered = a } ∷ frames))
+
+-- a turn: the loop ends, or goes on with what it has gathered
+abbrev pub turned : Frame → Option Turn → List Outcome → List Frame → Next
+turned f None stack frames = Stuck
+turned f (Some (Closes x)) stack frames = Goes 0 (on f.exit (x ∷ stack) frames)
+turned f (Some (GoesOn a)) stack frames = gone_on f f.left a stack frames
+
+-- the predicate of `map`: a true goes on to the transform, a false drops the item, and an error ends the loop
+abbrev pub tested : Frame → Option Side → ℕ → List Outcome → List Frame → Next
+tested f None at stack frames = Stuck
+tested f (Some (Ok true)) at stack frames = Goes 0 (on (at + 1) stack (f ∷ frames))
+tested f (Some (Ok false)) at stack frames = gone_on f f.left f.gathered stack frames
+tested f (Some (Err e)) at stack frames = Goes 0 (on f.exit (Err e ∷ stack) frames)
+
+-- a predicate stands in a `map` alone
+abbrev pub tested_in : Loop → Frame → Outcome → ℕ → List Outcome → List Frame → Next
+tested_in Map f x at stack frames = tested f (side_of (Some x)) at stack frames
+tested_in _ f x at stack frames = Stuck
+
 -- one instruction
 abbrev pub act : Inputs → Instr → ℕ → List Outcome → List Frame → Next
 act inputs (Const k) at stack frames = push (constant (slice_get inputs.constants k)) at stack frames
 act inputs (Slot n) at stack frames = slot (slice_get inputs.slots n) at stack frames
+act inputs (Local d) at stack frames = slot (item_of (slice_get frames d)) at stack frames
 act inputs (Op o) at stack frames = operate_by (operator_of o) at stack frames
 act inputs (WithText op k) at stack frames = operate_with op (constant_text (slice_get inputs.constants k)) at stack frames
 act inputs (instr.List n) at stack frames = listed (taken_off n [] stack) at frames
@@ -146,6 +201,10 @@ act inputs And at (y ∷ x ∷ stack) frames = joined (join and_of (side_of (Som
 act inputs Or at (y ∷ x ∷ stack) frames = joined (join or_of (side_of (Some x)) (side_of (Some y))) at stack frames
 act inputs (Cond if_false if_error) at (x ∷ stack) frames = branch (side_of (Some x)) if_false if_error at stack frames
 act inputs (Jump to) at stack frames = Goes 0 (on to stack frames)
+act inputs (instr.Loop l exit) at (x ∷ stack) frames = opened l (taken Ranged (Some x)) exit at stack frames
+act inputs Item at stack (f ∷ frames) = item_taken f f.left at stack frames
+act inputs When at (x ∷ stack) (f ∷ frames) = tested_in f.mode f x at stack frames
+act inputs instr.Next at (x ∷ stack) (f ∷ frames) = turned f (turn f.mode f.item f.gathered (Some x)) stack frames
 act inputs End at (x ∷ stack) frames = Ends x
 act inputs _ at _ frames = Stuck
 

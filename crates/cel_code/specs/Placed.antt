@@ -9,9 +9,11 @@ use Rattle.cel_operators.specs.declared.operator.Operator.{Operator}
 use Rattle.cel_check.specs.declared.tree.TypedTree.{TypedTree}
 use Rattle.cel_check.specs.declared.tree.Form.TheVariants as form
 use Rattle.cel_code.specs.declared.instr.Instr.{Instr}
-use Rattle.cel_code.specs.declared.instr.Instr.TheVariants.{Const, Op, WithText, AndTest, OrTest, And, Or, Cond, Jump, Slot}
+use Rattle.cel_code.specs.declared.instr.Instr.TheVariants.{Const, Op, WithText, AndTest, OrTest, And, Or, Cond, Jump, Slot, Local, Item, When}
 use Rattle.cel_code.specs.declared.instr.Instr.TheVariants as instr
 use Rattle.cel_code.specs.declared.image.Image.{Image}
+use Rattle.cel_parse.specs.declared.expr.Loop.{Loop}
+use Rattle.cel_parse.specs.declared.expr.Loop.TheVariants as loop
 use Rattle.cel_check.specs.Meaning.{IsForm, by_turns}
 use Rattle.cel_operators.specs.Operators.{code_of}
 
@@ -55,6 +57,11 @@ pub record HasText (code : Code) (at : ℕ) (op : TextOperator) (text : List ℕ
   pub instr : Has code at (WithText op number)
   pub constant : slice_get code.constants number ≡ Some (value.Text text)
 
+-- a loop begins at a place, whose body takes an item first, and leads to another place
+pub record OpensLoop (code : Code) (at : ℕ) (l : Loop) (exit : ℕ) : Type 0 where
+  pub begins : Has code at (instr.Loop l exit)
+  pub item : Has code (at + 1) Item
+
 mutual
   -- the instructions of an expression stand from one place up to another
   pub data Stands (code : Code) : TypedTree → ℕ → ℕ → Type 0 where
@@ -68,6 +75,9 @@ mutual
     items : {e : TypedTree} {from to : ℕ} (xs : List TypedTree) (m : ℕ) → IsForm e (form.ListOf xs) → StandEach code xs from m → Has code m (instr.List (length xs)) → to ≡ m + 1 → Stands code e from to
     entries : {e : TypedTree} {from to : ℕ} (es : List (Entry TypedTree)) (m : ℕ) → IsForm e (form.MapOf es) → StandEach code (by_turns es) from m → Has code m (instr.Map (length es)) → to ≡ m + 1 → Stands code e from to
     with_text : {e : TypedTree} {from to : ℕ} (op : TextOperator) (a : TypedTree) (text : List ℕ) (m : ℕ) → IsForm e (form.WithText op a text) → Stands code a from m → HasText code m op text → to ≡ m + 1 → Stands code e from to
+    local : {e : TypedTree} {from to : ℕ} (d : ℕ) → IsForm e (form.Local d) → Has code from (Local d) → to ≡ from + 1 → Stands code e from to
+    looped : {e : TypedTree} {from to : ℕ} (l : Loop) (a b : TypedTree) (m n : ℕ) → IsForm e (form.Loop l a b) → Stands code a from m → OpensLoop code m l to → Stands code b (m + 2) n → Has code n instr.Next → to ≡ n + 1 → Stands code e from to
+    mapped : {e : TypedTree} {from to : ℕ} (a p b : TypedTree) (m k n : ℕ) → IsForm e (form.MapWhere a p b) → Stands code a from m → OpensLoop code m loop.Map to → Stands code p (m + 2) k → Has code k When → Stands code b (k + 1) n → Has code n instr.Next → to ≡ n + 1 → Stands code e from to
 
   -- the instructions of several expressions stand one after another
   pub data StandEach (code : Code) : List TypedTree → ℕ → ℕ → Type 0 where

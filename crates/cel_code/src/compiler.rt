@@ -5,6 +5,7 @@ ghost use Rattle.cel_code.specs.declared.image.Image.{Image};
 ghost use Rattle.cel_check.specs.Meaning.{IsForm, type_of, by_turns};
 ghost use Rattle.cel_code.specs.Placed.{with_instr, patched, Interns, Emits, EmitsEach};
 ghost use Rattle.cel_check.specs.declared.tree.Form.TheVariants as form;
+ghost use Rattle.cel_code.specs.declared.instr.Instr.TheVariants as instr;
 ghost use Rattle.cel_code.specs.Compiled.{IsCompiled, joins_at, target};
 ghost use Rattle.cel_code.specs.Drafts.{drafted, Grows, Writes, WritesWithin, WritesEach};
 ghost use Rattle.cel_code.specs.Correct.{Computes, Preserves};
@@ -14,10 +15,11 @@ use crate::constants::Constants;
 use crate::image::{Image, Target};
 use crate::instr::Instr;
 use cel_check::{Form, Typed, TypedTree};
-use cel_parse::Entry;
+use cel_parse::{Entry, Loop};
 use cel_value::{CelType, Value, copy_types};
 use plain::{Items, Text};
 use std::alloc::{AllocError, Global};
+use std::mem;
 
 /// The image of an expression: its run gives the expression's value or error, and charges exactly what the
 /// expression costs. Constants stand in the order of their first use, each once, and targets in the order of places.
@@ -66,7 +68,10 @@ struct Draft {
 fn joins(form: &Form<TypedTree>) -> bool
     ensures { result ≡ joins_at form.now }
 {
-    matches!(form, Form::And(..) | Form::Or(..) | Form::Conditional(..))
+    matches!(
+        form,
+        Form::And(..) | Form::Or(..) | Form::Conditional(..) | Form::Loop(..) | Form::MapWhere(..)
+    )
 }
 
 impl Draft {
@@ -106,6 +111,32 @@ impl Draft {
         ensures grows { Grows self.old self.new 0 [] [] }
     {
         self.code.set(at, instr);
+    }
+
+    /// A loop begins, which does not know yet where it leads. Answers where it begins.
+    fn open_loop(&mut self, mode: Loop) -> Result<usize, AllocError>
+        ensures code { IfOk result (λ at.
+            drafted self.new ≡ with_instr (with_instr (drafted self.old) (instr.Loop mode 0)) instr.Item) }
+        ensures place { IfOk result (λ at. at ≡ length self.old.code) }
+        ensures grows { OnOk result (Grows self.old self.new 2 [] []) }
+    {
+        let start = self.len();
+        self.put(Instr::Loop(mode, 0))?;
+        self.put(Instr::Item)?;
+        Ok(start)
+    }
+
+    /// The loop that begins at a place ends here, and leads behind its last instruction.
+    fn close_loop(&mut self, start: usize, mode: Loop) -> Result<(), AllocError>
+        requires { start < length self.old.code }
+        ensures code { OnOk result
+            (drafted self.new ≡ patched (with_instr (drafted self.old) instr.Next) start (instr.Loop mode (length self.old.code + 1))) }
+        ensures grows { OnOk result (Grows self.old self.new 1 [] []) }
+    {
+        self.put(Instr::Next)?;
+        let exit = self.len();
+        self.patch(start, Instr::Loop(mode, exit));
+        Ok(())
     }
 
     /// The number of a constant, which is added where it is not there.
@@ -188,6 +219,7 @@ impl Draft {
                 self.put(Instr::Const(number))
             }
             Form::Slot(number) => self.put(Instr::Slot(*number)),
+            Form::Local(number) => self.put(Instr::Local(*number)),
             Form::Unary(operator, operand) => {
                 self.emit(operand.get())?;
                 self.put(Instr::Op(operator.code()))
@@ -208,6 +240,10 @@ impl Draft {
                 self.emit(operand.get())?;
                 let number = self.intern_text(text)?;
                 self.put(Instr::WithText(*operator, number))
+            }
+            Form::Loop(mode, range, body) => self.emit_loop(tree, *mode, range.get(), body.get()),
+            Form::MapWhere(range, predicate, transform) => {
+                self.emit_map_where(tree, range.get(), predicate.get(), transform.get())
             }
         }
     }
@@ -280,6 +316,59 @@ impl Draft {
         self.patch(test, Instr::Cond(jump + 1, end));
         self.patch(jump, Instr::Jump(end));
         Ok(())
+    }
+
+    /// The instructions of a range, and of a loop over it.
+    #[cycle(emit)]
+    fn emit_loop(
+        &mut self,
+        tree: &TypedTree,
+        mode: Loop,
+        range: &TypedTree,
+        body: &TypedTree,
+    ) -> Result<(), AllocError>
+        requires { IsForm tree.now (form.Loop mode range.now body.now) }
+        ensures stands { OnOk result (Emits (drafted self.old) (drafted self.new) tree.now) }
+        ensures writes { OnOk result (WritesWithin self.old self.new tree.now self.old.below) }
+    {
+        self.emit(range)?;
+        let start = self.open_loop(mode)?;
+        self.emit_body(body)?;
+        self.close_loop(start, mode)
+    }
+
+    /// The instructions of a range, and of a `map` over those of its items for which a predicate holds.
+    #[cycle(emit)]
+    fn emit_map_where(
+        &mut self,
+        tree: &TypedTree,
+        range: &TypedTree,
+        predicate: &TypedTree,
+        transform: &TypedTree,
+    ) -> Result<(), AllocError>
+        requires { IsForm tree.now (form.MapWhere range.now predicate.now transform.now) }
+        ensures stands { OnOk result (Emits (drafted self.old) (drafted self.new) tree.now) }
+        ensures writes { OnOk result (WritesWithin self.old self.new tree.now self.old.below) }
+    {
+        self.emit(range)?;
+        let start = self.open_loop(Loop::Map)?;
+        self.emit_body(predicate)?;
+        self.put(Instr::When)?;
+        self.emit_body(transform)?;
+        self.close_loop(start, Loop::Map)
+    }
+
+    /// The instructions of what is evaluated for each item of a loop. It stands over nothing, since the types of a target
+    /// are those above the innermost loop.
+    #[cycle(emit)]
+    fn emit_body(&mut self, tree: &TypedTree) -> Result<(), AllocError>
+        ensures stands { OnOk result (Emits (drafted self.old) (drafted self.new) tree.now) }
+        ensures writes { OnOk result (Writes self.old self.new tree.now []) }
+    {
+        let below = mem::replace(&mut self.below, Items::new(self.alloc));
+        let emitted = self.emit(tree);
+        self.below = below;
+        emitted
     }
 
     /// The instructions of items, and of their list.

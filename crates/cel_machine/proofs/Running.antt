@@ -5,32 +5,37 @@ use Rattle.std.specs.Prelude.{slice_get}
 use Rattle.cel_code.specs.declared.instr.Instr.{Instr}
 use Rattle.cel_code.specs.declared.image.Image.{Image}
 use Rattle.cel_operators.specs.Outcomes.{Outcome, slots_fit}
-use Rattle.cel_code.specs.Machine.{State, on, Next, Goes, Ends, Stuck, act, act_at, step, inputs_of, Gets, Run}
+use Rattle.cel_code.specs.Machine.{Frame, State, on, Next, Goes, Ends, Stuck, act, act_at, step, inputs_of, Gets, Stays, Run}
 use Rattle.cel_machine.specs.declared.step.Move.{Move}
 use Rattle.cel_machine.specs.declared.step.Move.TheVariants.{GoesTo, EndsWith, IsStuckHere}
 use Rattle.cel_verify.specs.StackTypes.{Fits}
 use Rattle.cel_verify.specs.Paths.{charge_at, path_cost, path_steps}
 use Rattle.cel_verify.specs.Typed.{total, GoesOn}
-use Rattle.cel_verify.specs.Accepted.{IsAccepted, budget, max_count}
+use Rattle.cel_verify.specs.Accepted.{IsAccepted, budget}
 use Rattle.cel_machine.specs.Follow.{metered, next_of}
-use Rattle.cel_verify.specs.Depths.{greatest_depth}
-use Rattle.cel_verify.proofs.Depths.{never_more}
-use Rattle.cel_verify.proofs.Steps.{begins, gets_typed, one_left, runs_within, step_goes}
+use Rattle.cel_verify.specs.Depths.{greatest_depth, greatest_nesting}
+use Rattle.cel_verify.proofs.StepsFit.{steps_fit}
+use Rattle.cel_verify.proofs.Depths.{never_more, never_more_loops}
+use Rattle.cel_verify.proofs.Steps.{begins, gets_typed, runs_within, step_goes}
 use Rattle.cel_verify.proofs.Turns.{one_more}
 
 -- what an instruction does, as a step
-stepped : (image : Image) (slots : List Outcome) (at : ℕ) (i : Instr) (stack stack' : List Outcome) (m : Move)
-    → slice_get image.code at ≡ Some i → metered (act (inputs_of image slots) i at stack []) ≡ next_of m stack' []
-    → metered (step image slots (on at stack [])) ≡ next_of m stack' []
-stepped image slots at i stack stack' m h e = ap (λ o. metered (act_at (inputs_of image slots) o at stack [])) h ∙ e
+stepped : (image : Image) (slots : List Outcome) (at : ℕ) (i : Instr) (stack stack' : List Outcome) (frames frames' : List Frame) (m : Move)
+    → slice_get image.code at ≡ Some i → metered (act (inputs_of image slots) i at stack frames) ≡ next_of m stack' frames'
+    → metered (step image slots (on at stack frames)) ≡ next_of m stack' frames'
+stepped image slots at i stack stack' frames frames' m h e = ap (λ o. metered (act_at (inputs_of image slots) o at stack frames)) h ∙ e
+
+-- no step yet, with nothing on the stack and no open loop
+pub begun : (image : Image) (slots : List Outcome) (stack : List Outcome) (frames : List Frame) → stack ≡ [] → frames ≡ []
+    → Gets image slots (on 0 [] []) (on 0 stack frames) 0 0
+begun image slots stack frames e f = rw (e, f) (Stays refl refl refl)
 
 -- where the run is
 pub record IsAt (image : Image) (at charged steps : ℕ) : Type 0 where
   pub inside : at < length image.code
   pub room : at + 1 < 65537
   pub within : steps + 1 ≤ path_steps image
-  pub counted : steps + 1 ≤ length image.code
-  pub few : steps + 1 ≤ max_count
+  pub few : steps + 1 < 2 ^ 64
   pub cost : charged ≤ path_cost image
   pub cheap : charged ≤ budget
 
@@ -39,14 +44,11 @@ module _ (p image : Image) (slots : List Outcome) (accepted : IsAccepted p) (is 
   state_at s charged steps g =
       let r = gets_typed p slots accepted.sound filled (on 0 [] []) s charged steps g (begins p slots accepted.sound filled) in
       let w = runs_within p slots accepted.sound filled in
-      let a = r.2 in
-      let b = one_left p slots accepted.sound filled s r.0 in
       record {
         inside = r.0.inside;
         room = omega (arith, r.0.inside, accepted.counted.code);
-        within = omega arith;
-        counted = w.steps s charged steps g;
-        few = omega (arith, w.steps s charged steps g, accepted.counted.code);
+        within = w.steps s charged steps g;
+        few = omega (arith, w.steps s charged steps g, steps_fit p accepted);
         cost = w.charge s charged steps g;
         cheap = omega (arith, w.charge s charged steps g, accepted.cheap);
       }
@@ -66,53 +68,64 @@ module _ (p image : Image) (slots : List Outcome) (accepted : IsAccepted p) (is 
       let a = r.1 in
       metered_next s (step p slots s) (omega (arith, accepted.cheap)) (step_goes p slots accepted.sound filled s r.0)
 
-  module _ (at : ℕ) (stack : List Outcome) (charged steps : ℕ) (g : Gets image slots (on 0 [] []) (on at stack []) charged steps) where
-    gets : Gets p slots (on 0 [] []) (on at stack []) charged steps
-    gets = subst (λ i. Gets i slots (on 0 [] []) (on at stack []) charged steps) is g
+  module _ (at : ℕ) (stack : List Outcome) (frames : List Frame) (charged steps : ℕ)
+      (g : Gets image slots (on 0 [] []) (on at stack frames) charged steps) where
+    gets : Gets p slots (on 0 [] []) (on at stack frames) charged steps
+    gets = subst (λ i. Gets i slots (on 0 [] []) (on at stack frames) charged steps) is g
 
     pub here : IsAt image at charged steps
-    here = subst (λ i. IsAt i at charged steps) (sym is) (state_at (on at stack []) charged steps gets)
+    here = subst (λ i. IsAt i at charged steps) (sym is) (state_at (on at stack frames) charged steps gets)
 
     -- a step charges no more than the budget, so that its charge is counted whole
-    metered_is : metered (step image slots (on at stack [])) ≡ step image slots (on at stack [])
+    metered_is : metered (step image slots (on at stack frames)) ≡ step image slots (on at stack frames)
     metered_is =
-        let s = on at stack [] in
+        let s = on at stack frames in
         subst (λ j. metered (step j slots s) ≡ step j slots s) (sym is) (metered_at s charged steps gets)
 
     -- no more operands than at any instruction
     pub deep : length stack ≤ greatest_depth image
-    deep = subst (λ i. length stack ≤ greatest_depth i) (sym is) (never_more p slots accepted.sound filled (on at stack []) charged steps gets)
+    deep =
+        subst (λ i. length stack ≤ greatest_depth i) (sym is)
+        (never_more p slots accepted.sound filled (on at stack frames) charged steps gets)
 
-    module _ (i : Instr) (m : Move) (stack' : List Outcome) (hi : slice_get image.code at ≡ Some i)
-        (e : metered (act (inputs_of image slots) i at stack []) ≡ next_of m stack' []) where
-      steps_to : step image slots (on at stack []) ≡ next_of m stack' []
-      steps_to = sym metered_is ∙ stepped image slots at i stack stack' m hi e
+    -- no more open loops than at any instruction
+    pub nested : length frames ≤ greatest_nesting image
+    nested =
+        subst (λ i. length frames ≤ greatest_nesting i) (sym is)
+        (never_more_loops p slots accepted.sound filled (on at stack frames) charged steps gets)
+
+    module _ (i : Instr) (m : Move) (stack' : List Outcome) (frames' : List Frame) (hi : slice_get image.code at ≡ Some i)
+        (e : metered (act (inputs_of image slots) i at stack frames) ≡ next_of m stack' frames') where
+      steps_to : step image slots (on at stack frames) ≡ next_of m stack' frames'
+      steps_to = sym metered_is ∙ stepped image slots at i stack stack' frames frames' m hi e
 
       -- the step, where the move is known
-      moved : (n : Move) → m ≡ n → step image slots (on at stack []) ≡ next_of n stack' []
-      moved n q = steps_to ∙ ap (λ k. next_of k stack' []) q
+      moved : (n : Move) → m ≡ n → step image slots (on at stack frames) ≡ next_of n stack' frames'
+      moved n q = steps_to ∙ ap (λ k. next_of k stack' frames') q
 
       pub goes : (charge to : ℕ) → m ≡ GoesTo charge to
-          → Gets image slots (on 0 [] []) (on to stack' []) (charged + charge) (steps + 1)
-      goes charge to q = one_more image slots (on at stack []) (on to stack' []) charge charged steps (moved (GoesTo charge to) q) g
+          → Gets image slots (on 0 [] []) (on to stack' frames') (charged + charge) (steps + 1)
+      goes charge to q =
+          one_more image slots (on at stack frames) (on to stack' frames') charge charged steps (moved (GoesTo charge to) q) g
 
       pub there : (charge to : ℕ) → m ≡ GoesTo charge to → IsAt image to (charged + charge) (steps + 1)
       there charge to q =
-          let h = subst (λ i. Gets i slots (on 0 [] []) (on to stack' []) (charged + charge) (steps + 1)) is (goes charge to q) in
-          subst (λ i. IsAt i to (charged + charge) (steps + 1)) (sym is) (state_at (on to stack' []) (charged + charge) (steps + 1) h)
+          let h = subst (λ i. Gets i slots (on 0 [] []) (on to stack' frames') (charged + charge) (steps + 1)) is (goes charge to q) in
+          subst (λ i. IsAt i to (charged + charge) (steps + 1)) (sym is) (state_at (on to stack' frames') (charged + charge) (steps + 1) h)
 
       pub finishes : (x : Outcome) → m ≡ EndsWith x → Run p slots x charged (steps + 1)
       finishes x q =
           let run : Run image slots x charged (steps + 1) =
-          record { last = on at stack []; before = steps; gets = g; ends = moved (EndsWith x) q; count = refl } in
+          record { last = on at stack frames; before = steps; gets = g; ends = moved (EndsWith x) q; count = refl } in
           subst (λ i. Run i slots x charged (steps + 1)) is run
 
       pub outcome_fits : (x : Outcome) → m ≡ EndsWith x → Fits x p.result
       outcome_fits x q =
           let w = runs_within p slots accepted.sound filled in
-          w.outcome (on at stack []) charged steps x gets (subst (λ i. step i slots (on at stack []) ≡ Ends x) is (moved (EndsWith x) q))
+          w.outcome (on at stack frames) charged steps x gets
+          (subst (λ i. step i slots (on at stack frames) ≡ Ends x) is (moved (EndsWith x) q))
 
       pub not_stuck : m ≡ IsStuckHere → ⊥
       not_stuck q =
           let w = runs_within p slots accepted.sound filled in
-          w.never (on at stack []) charged steps gets (subst (λ i. step i slots (on at stack []) ≡ Stuck) is (moved IsStuckHere q))
+          w.never (on at stack frames) charged steps gets (subst (λ i. step i slots (on at stack frames) ≡ Stuck) is (moved IsStuckHere q))

@@ -2,4 +2,6 @@ pub mod Faults
 pub mod Follow
 pub mod Found
 pub mod Operand
+pub mod Ranges
 pub mod Room
+pub mod Turns

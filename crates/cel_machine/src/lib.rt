@@ -3,22 +3,28 @@
 //! [`run`] runs a program that `cel_verify` accepted, where its slots hold what [`Slots`] has: it answers the
 //! definition's outcome, with what the run charges and how many steps it takes. It is given up where memory is wanting
 //! or a pattern is not built, and refuses nothing else. [`slots_fit`] is the test of what slots may hold. What slots and
-//! constants hold is lent and not copied, and so is what [`field`] takes out of it; what a list or a map literal takes in
-//! is copied where it is lent. [`Matchers`] keeps the patterns that a run built for later ones.
+//! constants hold is lent and not copied, and so is what [`field`] takes out of it and the item of a loop over it; what a
+//! list or a map literal takes in, or a loop into its list, is copied where it is lent. [`Matchers`] keeps the patterns
+//! that a run built for later ones.
 #![tactic(auto)]
 
 mod ended;
 mod fault;
+mod frame;
+mod frames;
 mod indexing;
 mod listing;
+mod looping;
 mod machine;
 mod mapping;
 mod operand;
 mod parts;
+mod range;
 mod searching;
 mod slots;
 mod stack;
 mod step;
+mod turning;
 mod with_text;
 
 pub use cel_patterns::Matchers;

@@ -1,12 +1,13 @@
-ghost use Rattle.std.specs.Prelude.{◌≡◌, ◌≤◌, true, length, IfOk};
+ghost use Rattle.std.specs.Prelude.{◌≡◌, ◌≤◌, true, IfOk};
 ghost use Rattle.cel_operators.specs.Outcomes.{slots_fit};
 ghost use Rattle.cel_code.specs.Machine.{Run as IsRun};
 ghost use Rattle.cel_verify.specs.StackTypes.{Fits};
-ghost use Rattle.cel_verify.specs.Paths.{path_cost};
+ghost use Rattle.cel_verify.specs.Paths.{path_cost, path_steps};
 ghost use Rattle.cel_verify.specs.Accepted.{budget};
 
 use crate::ended::Run;
 use crate::fault::RunFault;
+use crate::frames::Frames;
 use crate::slots::Slots;
 use crate::stack::Stack;
 use crate::step::{Move, step};
@@ -14,11 +15,12 @@ use cel_patterns::Matchers;
 use cel_verify::Program;
 use std::alloc::Global;
 
-/// Runs a program where its slots hold these. The run is the definition's; it ends within as many steps as there are
-/// instructions, for no more than the dearest route and no more than the budget, with an outcome of the image's type.
-/// Constants and what the slots hold are lent to it: memory is taken for the stack, once, before the first step, for the
-/// lists and maps that literals make, for the texts, lists and copied items that operators answer with, for patterns that
-/// are built and searched for, and for the outcome where it is a copy of a constant or of what a slot holds.
+/// Runs a program where its slots hold these. The run is the definition's; it ends within as many steps as the longest
+/// route has, for no more than the dearest route and no more than the budget, with an outcome of the image's type.
+/// Constants and what the slots hold are lent to it: memory is taken for the stack and the open loops, once, before the
+/// first step, for the lists and maps that literals and loops make, for the texts, lists and copied items that operators
+/// answer with, for items of lists that the run made and for keys of maps where a loop's body names them, for patterns
+/// that are built and searched for, and for the outcome where it is a copy of a constant or of what a slot holds.
 ///
 /// `matchers` finds the patterns of the program, and keeps what it built for later runs; no answer depends on that.
 ///
@@ -32,17 +34,27 @@ pub fn run<'a>(
     requires { slots_fit program.now.slots slots.now ≡ true }
     ensures run { IfOk result (λ r. IsRun program.now slots.now r.outcome r.charged r.steps) }
     ensures fits { IfOk result (λ r. Fits r.outcome program.now.result) }
-    ensures steps { IfOk result (λ r. r.steps ≤ length program.now.code) }
+    ensures steps { IfOk result (λ r. r.steps ≤ path_steps program.now) }
     ensures charged { IfOk result (λ r. r.charged ≤ path_cost program.now) }
     ensures within_budget { IfOk result (λ r. r.charged ≤ budget) }
 {
     let image = program.image();
     let mut stack = Stack::with_room(alloc, program.max_depth() + 1)?;
+    let mut frames = Frames::with_room(alloc, program.loop_depth() + 1)?;
     let mut at = 0;
     let mut charged: u64 = 0;
     let mut steps: u64 = 0;
     while let Some(instr) = image.code.get(at) {
-        match step(alloc, image, slots, *instr, at, &mut stack, matchers)? {
+        match step(
+            alloc,
+            image,
+            slots,
+            *instr,
+            at,
+            &mut stack,
+            &mut frames,
+            matchers,
+        )? {
             Move::GoesTo(charge, to) => {
                 charged += charge;
                 steps += 1;

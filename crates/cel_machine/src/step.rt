@@ -5,12 +5,15 @@ ghost use Rattle.cel_code.specs.Machine.{Frame, act, inputs_of, push, constant a
 ghost use Rattle.cel_code.specs.Machine.{made as made_next, join as sides_joined};
 ghost use Rattle.cel_machine.specs.Found.{made_by};
 ghost use Rattle.cel_apply.specs.Lent.{lent};
-ghost use Rattle.cel_machine.specs.Room.{HasRoom};
-ghost use Rattle.cel_machine.specs.Follow.{LeadsTo, Comes, Finishes, metered_one, metered_two, test_of, join_of, sides_of, branch_of};
+ghost use Rattle.cel_machine.specs.Room.{HasRoom, HasFrameRoom};
+ghost use Rattle.cel_machine.specs.Follow.{Follows, LeadsTo, Comes, Finishes, metered_one, metered_two};
+ghost use Rattle.cel_machine.specs.Follow.{test_of, join_of, sides_of, branch_of};
 
 use crate::fault::RunFault;
+use crate::frames::Frames;
 use crate::indexing::{Found, index_list, index_map};
 use crate::listing::list;
+use crate::looping::{item, local, next, open_loop, when};
 use crate::mapping::map;
 use crate::operand::{Operand, outcome_of, own, read};
 use crate::parts::lend;
@@ -34,6 +37,7 @@ pub enum Move {
 }
 
 /// One instruction. Its operands are the constants and what the slots hold, which are not copied, and what the run made.
+/// A loop that it opens stands among the open ones, and goes over what is lent in its place.
 pub fn step<'a>(
     alloc: Global,
     image: &'a Image,
@@ -41,16 +45,21 @@ pub fn step<'a>(
     instr: Instr,
     at: usize,
     stack: &mut Stack<'a>,
+    frames: &mut Frames<'a>,
     matchers: &mut Matchers,
 ) -> Result<Move, RunFault>
     requires at { at + 1 < 2 ^ 64 }
     requires room { HasRoom stack.old }
-    ensures acts { IfOk result (λ m. LeadsTo (act (inputs_of image.now slots.now) instr at stack.old.items) m stack.new.items) }
+    requires frame_room { HasFrameRoom frames.old }
+    ensures acts { IfOk result (λ m. Follows (act (inputs_of image.now slots.now) instr at stack.old.items frames.old.items)
+        m stack.new.items frames.new.items) }
     ensures room { stack.new.room ≡ stack.old.room }
+    ensures frame_room { frames.new.room ≡ frames.old.room }
 {
     match instr {
         Instr::Const(number) => Ok(constant(image, number, at, stack)),
         Instr::Slot(number) => Ok(slot(slots, number, at, stack)),
+        Instr::Local(number) => Ok(local(alloc, number, at, stack, frames)?),
         Instr::Op(code) => match Operator::from_code(code) {
             Some(op) => Ok(operate(alloc, op, at, stack)?),
             None => Ok(Move::IsStuckHere),
@@ -67,6 +76,10 @@ pub fn step<'a>(
         Instr::Or => Ok(join(stack, false, at)),
         Instr::Cond(if_false, if_error) => Ok(branch(stack, if_false, if_error, at)),
         Instr::Jump(to) => Ok(Move::GoesTo(0, to)),
+        Instr::Loop(mode, exit) => Ok(open_loop(alloc, mode, exit, at, stack, frames)),
+        Instr::Item => Ok(item(at, frames)),
+        Instr::When => Ok(when(at, stack, frames)),
+        Instr::Next => Ok(next(alloc, stack, frames)?),
         Instr::End => Ok(match stack.pop() {
             Some(x) => Move::EndsWith(outcome_of(alloc, x)?),
             None => Move::IsStuckHere,

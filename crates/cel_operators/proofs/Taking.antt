@@ -8,6 +8,9 @@ use Rattle.std.specs.List.{list_all}
 use Rattle.std.specs.Option.{option_map}
 use Rattle.cel_value.specs.declared.value.Value.{Value, out-Value, roll-Value, the_lemmas as value_lemmas}
 use Rattle.cel_value.specs.declared.value.Value.TheOpen.{Value-F}
+use Rattle.plain.specs.declared.text.Keyed.{Keyed}
+use Rattle.cel_value.specs.declared.value.Value as value
+use Rattle.cel_value.specs.declared.cel_type.CelType as type
 use Rattle.cel_value.specs.declared.cel_type.CelType.{CelType, out-CelType}
 use Rattle.cel_value.specs.declared.cel_type.CelType.TheOpen.{CelType-F}
 use Rattle.cel_value.specs.declared.cel_error.CelError.{CelError}
@@ -18,10 +21,11 @@ use Rattle.cel_value.specs.Value.{code_points}
 use Rattle.cel_text.specs.Joined.{text_at, text_of, texts_of}
 use Rattle.cel_operators.specs.Outcomes.{Outcome, outcome_fits}
 use Rattle.cel_operators.specs.Wants.{Want, Any, Truth, Whole, Natural, Ordered, Characters, Items, Entries, Indexed, Sought, Wholes}
-use Rattle.cel_operators.specs.Wants.{Naturals, Texts, Members, Of, kind_at, taken_value, taken, Limit, Shelf, limit_at, limit_of}
+use Rattle.cel_operators.specs.Wants.{Naturals}
+use Rattle.cel_operators.specs.Wants.{Texts, Members, Ranged, Of, keys_of, kind_at, taken_value, taken, Limit, Shelf, limit_at, limit_of}
 use Rattle.cel_operators.specs.Wants.{without_null_at, without_null, Within, order_at, order_of, order_of_level, order_of_type, in_order}
 use Rattle.cel_operators.specs.Wants.{each_of, whole_at, natural_at, wholes_of, naturals_of, wholes_limit, naturals_limit, texts_limit}
-use Rattle.cel_operators.proofs.Opened.{opened, fits-out, fits-levels}
+use Rattle.cel_operators.proofs.Opened.{opened, fits-out, fits-levels, text_fits}
 
 -- an operand of the right type, taken as one of the kind, is an error or within the limit
 abbrev pub Taken : (w : Want) → Limit w → Option (Result (Of w) CelError) → Type 0
@@ -235,6 +239,35 @@ members_taken v (CelType-F.Map max key_max item) (Value-F.Map es) t l e h =
 members_taken v (CelType-F.Map max key_max item) _ t l e h = absurd (true≢false (sym h))
 members_taken v _ p t l e h = absurd (none-some _ e)
 
+-- there are as many keys as entries, and each is a text of the length that is allowed
+keys_fit : (es : List (Keyed Value)) (key_max : ℕ) (item : CelType)
+    → list_all (λ e. nat_le (code_points e.key) key_max && fits e.value item) es ≡ true
+    → (length (keys_of es) ≡ length es) × (list_all (λ v. fits v (type.Text key_max)) (keys_of es) ≡ true)
+keys_fit [] key_max item h = (refl, refl)
+keys_fit (e ∷ es) key_max item h =
+    let p =
+    and_parts (nat_le (code_points e.key) key_max && fits e.value item)
+    (list_all (λ e. nat_le (code_points e.key) key_max && fits e.value item) es) h in
+    let q = and_parts (nat_le (code_points e.key) key_max) (fits e.value item) p.0 in
+    let rest = keys_fit es key_max item p.1 in (
+      ap suc rest.0,
+      and_from (fits (value.Text e.key) (type.Text key_max)) (list_all (λ v. fits v (type.Text key_max)) (keys_of es))
+          (text_fits e.key key_max (leb-true (code_points e.key) key_max q.0)) rest.1,
+    )
+
+ranged_taken : LevelTaken Ranged
+ranged_taken v (CelType-F.List max plain item) (Value-F.List vs) t l e h =
+    let p = and_parts (nat_le (length vs) max) (list_all (λ v. fits v item) vs) h in
+    subst (λ span. Within Ranged span vs) (same_Some _ _ e) (leb-true (length vs) max p.0, p.1)
+ranged_taken v (CelType-F.List max plain item) _ t l e h = absurd (true≢false (sym h))
+ranged_taken v (CelType-F.Map max key_max item) (Value-F.Map es) t l e h =
+    let p = and_parts (nat_le (length es) max) (list_all (λ e. nat_le (code_points e.key) key_max && fits e.value item) es) h in
+    let keys = keys_fit es key_max item p.1 in
+    let few : length es ≤ max = leb-true (length es) max p.0 in
+    subst (λ span. Within Ranged span (keys_of es)) (same_Some _ _ e) (omega (arith, keys.0, few), keys.1)
+ranged_taken v (CelType-F.Map max key_max item) _ t l e h = absurd (true≢false (sym h))
+ranged_taken v _ p t l e h = absurd (none-some _ e)
+
 kind_taken : (w : Want) (t : CelType) (v : Value) (l : Limit w) → limit_at w t (out-CelType t) ≡ Some l → fits v t ≡ true
     → Taken w l (kind_at w v (out-Value v))
 kind_taken Any t v l e h = subst (λ s. fits v s ≡ true) (same_Some _ _ e) h
@@ -251,6 +284,7 @@ kind_taken Wholes t v l e h = wholes_taken v (out-CelType t) (out-Value v) t l e
 kind_taken Naturals t v l e h = naturals_taken v (out-CelType t) (out-Value v) t l e (sym (fits-out v t) ∙ h)
 kind_taken Texts t v l e h = texts_taken v (out-CelType t) (out-Value v) t l e (sym (fits-out v t) ∙ h)
 kind_taken Members t v l e h = members_taken v (out-CelType t) (out-Value v) t l e (sym (fits-out v t) ∙ h)
+kind_taken Ranged t v l e h = ranged_taken v (out-CelType t) (out-Value v) t l e (sym (fits-out v t) ∙ h)
 
 -- what is of a type and not null is of the type beside null
 beside_null : (v : Value) (t : CelType) (o : CelType-F CelType) → out-CelType t ≡ o → is_null (out-Value v) ≡ false → fits v t ≡ true
@@ -289,6 +323,7 @@ value_taken Wholes t v l e h = kind_or_null Wholes t v l e h
 value_taken Naturals t v l e h = kind_or_null Naturals t v l e h
 value_taken Texts t v l e h = kind_or_null Texts t v l e h
 value_taken Members t v l e h = kind_or_null Members t v l e h
+value_taken Ranged t v l e h = kind_or_null Ranged t v l e h
 
 pub taken_fits : (w : Want) (t : CelType) (x : Option Outcome) (l : Limit w) → limit_of w t ≡ Some l → outcome_fits t x ≡ true
     → Taken w l (taken w x)

@@ -1,5 +1,5 @@
 -- The kinds of operands: what each is taken as, and what its type says of it.
-use Rattle.std.specs.Prelude.{◌≡◌, ◌≤◌, ℕ, zero, suc, Bool, true, ◌&&◌, nat_le, List, [], ◌∷◌, length, Option, Some, None, false}
+use Rattle.std.specs.Prelude.{◌≡◌, ◌≤◌, ℕ, zero, suc, Bool, true, ◌&&◌, nat_le, List, [], ◌∷◌, length, map, Option, Some, None, false}
 use Rattle.std.specs.Prelude.{Result, Ok, Err, ℤ, if◌then◌else◌}
 use Rattle.std.specs.List.{list_all}
 use Rattle.std.specs.Option.{option_map, option_and_then}
@@ -9,6 +9,7 @@ use Rattle.cel_value.specs.declared.cel_type.Field.{Field}
 use Rattle.cel_value.specs.Value.{code_points}
 use Rattle.cel_text.specs.Joined.{texts_of}
 use Rattle.cel_value.specs.declared.value.Value.{Value, out-Value}
+use Rattle.cel_value.specs.declared.value.Value as value
 use Rattle.cel_value.specs.declared.value.Value.TheOpen.{Value-F}
 use Rattle.cel_value.specs.declared.cel_type.CelType.{CelType, out-CelType}
 use Rattle.cel_value.specs.declared.cel_type.CelType.TheOpen.{CelType-F}
@@ -19,7 +20,8 @@ use Rattle.cel_value.specs.Fits.{is_null, admitted_by, object_fits}
 use Rattle.cel_operators.specs.Outcomes.{Outcome, Side}
 pub use Rattle.cel_operators.specs.declared.operands.Want.{Want}
 pub use Rattle.cel_operators.specs.declared.operands.Want.TheVariants.{Any, Truth, Whole, Natural, Ordered, Characters, Items, Entries}
-pub use Rattle.cel_operators.specs.declared.operands.Want.TheVariants.{Indexed, Sought, Wholes, Naturals, Texts, Members}
+pub use Rattle.cel_operators.specs.declared.operands.Want.TheVariants.{Indexed, Sought, Wholes, Naturals, Texts, Members, Ranged}
+pub use Rattle.cel_operators.specs.declared.limit.Span.{Span}
 
 -- what an operand of the kind is
 abbrev pub Of : Want → Type 0
@@ -37,6 +39,7 @@ Of Wholes = List ℤ
 Of Naturals = List ℕ
 Of Texts = List (List ℕ)
 Of Members = List (Keyed Value)
+Of Ranged = List Value
 
 -- the order that a level stands in, by its number: 2 that of truth values, 3 that of integers, 4 that of unsigned ones, 5
 -- that of texts; 0 is none
@@ -92,6 +95,10 @@ wholes_of = each_of (λ v. whole_at (out-Value v))
 abbrev pub naturals_of : List Value → Option (List ℕ)
 naturals_of = each_of (λ v. natural_at (out-Value v))
 
+-- keys, as texts
+abbrev pub keys_of : List (Keyed Value) → List Value
+keys_of es = map (λ e. value.Text e.key) es
+
 -- a value, and its level, as one of the kind; None where it is of another
 abbrev pub kind_at : (w : Want) → Value → Value-F Value → Option (Result (Of w) CelError)
 kind_at Any v _ = Some (Ok v)
@@ -109,6 +116,8 @@ kind_at Naturals v (Value-F.List vs) = option_map Ok (naturals_of vs)
 kind_at Texts v (Value-F.List vs) = option_map Ok (texts_of vs)
 kind_at Members v (Value-F.Object es) = Some (Ok es)
 kind_at Members v (Value-F.Map es) = Some (Ok es)
+kind_at Ranged v (Value-F.List vs) = Some (Ok vs)
+kind_at Ranged v (Value-F.Map es) = Some (Ok (keys_of es))
 kind_at _ v _ = None
 
 -- the same, where null is an error unless any value will do
@@ -168,6 +177,7 @@ Limit Wholes = ℕ
 Limit Naturals = ℕ
 Limit Texts = Shelf
 Limit Members = Contents
+Limit Ranged = Span
 
 -- how many items there may be, where those of a type, whose level is given, are integers
 abbrev pub wholes_limit : ℕ → CelType-F CelType → Option ℕ
@@ -213,6 +223,8 @@ limit_at Texts t CelType-F.Never = Some (record { max = 0; text_max = 0 })
 limit_at Texts t (CelType-F.List max plain item) = texts_limit max (out-CelType item)
 limit_at Members t (CelType-F.Object fields) = Some (Fields fields)
 limit_at Members t (CelType-F.Map max key_max item) = Some (Stored (record { max = max; key_max = key_max; item = item }))
+limit_at Ranged t (CelType-F.List max plain item) = Some (record { max = max; item = item })
+limit_at Ranged t (CelType-F.Map max key_max item) = Some (record { max = max; item = type.Text key_max })
 limit_at _ t _ = None
 
 -- the type beside null, where a type, whose level is given, has null too
@@ -254,6 +266,7 @@ Within Wholes max ns = length ns ≤ max
 Within Naturals max ns = length ns ≤ max
 Within Texts shelf ts = (length ts ≤ shelf.max) × (list_all (λ t. nat_le (code_points t) shelf.text_max) ts ≡ true)
 Within Members contents es = holds contents es ≡ true
+Within Ranged span vs = (length vs ≤ span.max) × (list_all (λ v. fits v span.item) vs ≡ true)
 
 -- whether there is something
 abbrev pub is_there : {A : Type 0} → Option A → Bool

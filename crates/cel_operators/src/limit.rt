@@ -1,15 +1,16 @@
 //! What types say of the values of a kind. Null may be one of a type's values: it is an error then, and of no kind.
 
-ghost use Rattle.std.specs.Prelude.{◌≡◌, option_copied, option_map, option_and_then};
+ghost use Rattle.std.specs.Prelude.{◌≡◌, IfOk, option_copied, option_map, option_and_then};
 ghost use Rattle.cel_value.specs.declared.cel_type.CelType.{out-CelType};
 ghost use Rattle.cel_operators.specs.Limits.{room_of};
 ghost use Rattle.cel_operators.specs.Wants.{Whole, Natural, Ordered, Characters, Items, Entries, Indexed, Sought, Wholes, Naturals, Texts};
 ghost use Rattle.cel_operators.specs.TextOperators.{type_under, field_named};
-ghost use Rattle.cel_operators.specs.Wants.{Members, limit_of, wholes_limit, naturals_limit, texts_limit, is_truth, is_there};
+ghost use Rattle.cel_operators.specs.Wants.{Members, Ranged, limit_of, wholes_limit, naturals_limit, texts_limit, is_truth, is_there};
 
 use crate::operands::{Want, without_null};
 use cel_value::{CelType, Field};
-use plain::TextMap;
+use plain::{Shared, TextMap};
+use std::alloc::{AllocError, Global};
 
 /// What a type says of its lists: the most items, whether they are plain, and the type of the items.
 #[derive(Clone, Copy)]
@@ -17,6 +18,13 @@ pub struct ListLimit<'a> {
     pub max: u32,
     pub plain: bool,
     pub item: &'a CelType,
+}
+
+/// What a type says of a range: the most items, and the type of each.
+#[derive(Drop)]
+pub struct Span {
+    pub max: u32,
+    pub item: Shared<CelType>,
 }
 
 /// Whether a type may stand where an operand of a kind is asked.
@@ -38,6 +46,7 @@ pub fn takes(want: Want, cel_type: &CelType) -> bool
         Want::Naturals => uints_limit(cel_type).is_some(),
         Want::Texts => texts_limit(cel_type).is_some(),
         Want::Members => has_members(cel_type),
+        Want::Ranged => most_items(cel_type).is_some(),
     }
 }
 
@@ -199,6 +208,33 @@ fn has_members(cel_type: &CelType) -> bool
         without_null(cel_type),
         CelType::Object { .. } | CelType::Map { .. }
     )
+}
+
+/// The most items of a range, where a type is that of lists or maps.
+pub fn most_items(cel_type: &CelType) -> Option<u32>
+    ensures { result ≡ option_map (λ span. span.max) (limit_of Ranged cel_type.now) }
+{
+    match without_null(cel_type) {
+        CelType::List { max, .. } | CelType::Map { max, .. } => Some(*max),
+        _ => None,
+    }
+}
+
+/// What a type says of its ranges: of the items of lists, or of the keys of maps, which are texts.
+pub fn span_of(alloc: Global, cel_type: &CelType) -> Result<Option<Span>, AllocError>
+    ensures { IfOk result (λ span. span ≡ limit_of Ranged cel_type.now) }
+{
+    match without_null(cel_type) {
+        CelType::List { max, item, .. } => Ok(Some(Span {
+            max: *max,
+            item: item.share()?,
+        })),
+        CelType::Map { max, key_max, .. } => Ok(Some(Span {
+            max: *max,
+            item: Shared::new(alloc, CelType::Text { max: *key_max })?,
+        })),
+        _ => Ok(None),
+    }
 }
 
 /// The type of what stands under a name in objects or maps.

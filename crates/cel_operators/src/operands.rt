@@ -31,6 +31,8 @@ pub enum Want {
     Texts,
     /// An object or a map, of which a field or what stands under a key is taken: no value of type Never will do.
     Members,
+    /// A list or a map, whose items or keys are gone over one after another, likewise.
+    Ranged,
 }
 
 /// The operands of an operator: how many, and what each must be.

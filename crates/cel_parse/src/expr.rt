@@ -21,7 +21,7 @@ pub enum BinaryOperator {
 }
 
 /// What a loop does with what its body gives for each item.
-#[derive(Clone, Copy, PartialEq, Eq)]
+#[derive(Clone, Copy, Debug, PartialEq, Eq)]
 pub enum Loop {
     /// Whether the predicate holds for all.
     All,

@@ -1,29 +1,34 @@
 -- No instruction of a sound image has more operands than a stack may have.
-use Rattle.std.proofs.Common.{◌≡◌, ℕ, zero, suc, ◌+◌, ◌<◌, ◌≤◌, Bool, true, not}
-use Rattle.std.proofs.Common.{◌&&◌, ◌||◌, nat_eq, List, [], ◌∷◌, length, Option, Some, None}
-use Rattle.std.proofs.Common.{refl, sym, ap, ◌∙◌, inl, inr, ⊎_elim, arith, add-one, true≢false}
-use Rattle.std.specs.Prelude.{Ok, Err, slice_get, nat_le}
+use Rattle.std.proofs.Common.{◌≡◌, ℕ, zero, suc, ◌+◌, ◌<◌, ◌≤◌, Bool, true, false, cond, not}
+use Rattle.std.proofs.Common.{◌&&◌, ◌||◌, nat_eq, List, [], ◌∷◌, length, length-append, Option, Some, None}
+use Rattle.std.proofs.Common.{refl, sym, ap, ◌∙◌, subst, inl, inr, ⊎_elim, arith, add-one, true≢false}
+use Rattle.std.specs.Prelude.{Ok, Err, slice_get, nat_le, nat_lt}
 use Rattle.std.proofs.lemmas.Bool.{and_parts, or_cases, eqb-true, leb-true}
-use Rattle.std.proofs.lemmas.Option.{slice_get_within}
+use Rattle.std.proofs.lemmas.Option.{slice_get_within, same_Some}
 use Rattle.cel_value.specs.declared.cel_type.CelType.{CelType}
 use Rattle.cel_value.specs.declared.cel_type.CelType as type
 use Rattle.cel_value.specs.CelType.{assignable}
+use Rattle.cel_parse.specs.declared.expr.Loop.{Loop}
 use Rattle.cel_code.specs.declared.instr.Instr.{Instr}
-use Rattle.cel_code.specs.declared.instr.Instr.TheVariants.{Const, Op, WithText, AndTest, OrTest, And, Or, Cond, Jump, End, Slot}
+use Rattle.cel_code.specs.declared.instr.Instr.TheVariants.{Const, Op, WithText, AndTest, OrTest, And, Or, Cond}
+use Rattle.cel_code.specs.declared.instr.Instr.TheVariants.{Jump, End, Slot, Local, Item, When, Next}
 use Rattle.cel_code.specs.declared.instr.Instr.TheVariants as instr
 use Rattle.cel_code.specs.declared.image.Image.{Image}
 use Rattle.cel_operators.specs.Wants.{is_there, is_truth}
 use Rattle.cel_verify.specs.declared.fault.VerifyRule.TheVariants.{TooDeep, WrongKind}
+use Rattle.cel_verify.specs.Bodies.{same_body}
 use Rattle.cel_verify.specs.StackTypes.{StackTypes, all_assignable}
-use Rattle.cel_verify.specs.Sound.{Falls, Open, some_of, jumps_of, is_jumped, is_target, enters, shallow}
-use Rattle.cel_verify.specs.Sound.{entered, typed_rule, entry_in, entry_or, fallen, label_at, IsSound, max_depth}
+use Rattle.cel_verify.specs.Sound.{Falls, Open, some_of, every, jumps_of, is_jumped, is_target, is_placed, enters, loop_rule, shallow}
+use Rattle.cel_verify.specs.Sound.{entered, typed_rule, entry_in, entry_or, fallen, opening, still_open, below_all}
+use Rattle.cel_verify.specs.Sound.{IsSound, max_depth, max_loops}
 use Rattle.cel_verify.specs.Paths.{IsIn}
-use Rattle.cel_verify.specs.Typed.{below_all, types_at, opens_at}
-use Rattle.cel_verify.specs.Depths.{operands_of, depth_at, deepest, greatest_depth}
+use Rattle.cel_verify.specs.Typed.{types_at, opens_at}
+use Rattle.cel_verify.specs.Depths.{operands_of, depth_at, deepest, greatest_depth, most_open, greatest_nesting}
+use Rattle.cel_verify.proofs.Falling.{entered_ok, enters_is, two_needs, one_needs, get_some}
 use Rattle.cel_verify.proofs.RuleParts.{needs_is, Parts, parts_at}
 use Rattle.cel_verify.proofs.PathSums.{every_in, is_ahead}
-use Rattle.cel_verify.proofs.Routes.{get_some}
-use Rattle.cel_verify.proofs.Steps.{entered_ok, enters_is, two_needs, one_needs, opens_is}
+use Rattle.cel_verify.proofs.Nests.{loop_ruled, same_opens}
+pub use Rattle.cel_verify.proofs.StepBound.{steps_bound}
 
 same_long : (ss ts : StackTypes) → all_assignable ss ts ≡ true → length ss ≡ length ts
 same_long [] [] h = refl
@@ -61,6 +66,15 @@ enters_long o ts es h e =
     let long = same_long ts r.0 r.2 in
     omega (arith, ap (length {A = CelType}) same)
 
+-- a loop leaves as much as it takes
+loop_long : (l : Loop) (o : Option StackTypes) (ts es : StackTypes) (m : Option StackTypes) → loop_rule l o ts ≡ Ok m
+    → o ≡ Some es → length es ≤ length ts
+loop_long l o ts es m h e =
+    let r = loop_ruled l o ts m h in
+    let same : r.after ≡ es = same_Some r.after es (sym r.after_is ∙ e) in
+    let long = same_long (r.empty ∷ r.rest) r.after r.goes in
+    omega (arith, ap (length {A = CelType}) same, ap (length {A = CelType}) r.is)
+
 jump_long : (image : Image) (i : Instr) (opens : List Open) (ts es : StackTypes) (m : Option StackTypes) (to : ℕ)
     → typed_rule image i opens ts ≡ Ok m → IsIn to (jumps_of i) → entry_in image.targets to ≡ Some es → length es ≤ length ts
 jump_long image (AndTest u) opens [] es m to h j e = cc
@@ -95,15 +109,43 @@ jump_long image (instr.Map n) opens ts es m to h j e = absurd j
 jump_long image And opens ts es m to h j e = absurd j
 jump_long image Or opens ts es m to h j e = absurd j
 jump_long image End opens ts es m to h j e = absurd j
+jump_long image (instr.Loop l exit) opens ts es m to h j e =
+    let o = entry_in image.targets exit in
+    ⊎_elim (λ q. loop_long l o ts es m h (ap (entry_in image.targets) (sym q) ∙ e)) (λ x. absurd x) j
+jump_long image (Local d) opens ts es m to h j e = absurd j
+jump_long image Item opens ts es m to h j e = absurd j
+jump_long image When opens ts es m to h j e = absurd j
+jump_long image Next opens ts es m to h j e = absurd j
 
-shallow_long : (r : Falls) (ns : StackTypes) → shallow r ≡ Ok (Some ns) → length ns ≤ max_depth
-shallow_long (Ok None) ns e = cc
-shallow_long (Ok (Some ts)) ns e =
-    let p = needs_is (nat_le (length ts) max_depth) TooDeep (Ok (Some ts)) (Some ns) e in
+-- what goes on is no deeper than a stack may be, with no more loops open than may be
+abbrev Shallow : List Open → StackTypes → Type 0
+Shallow opens ns = (length ns + length (below_all opens) ≤ max_depth) × (length opens ≤ max_loops)
+
+shallow_long : (opens : List Open) (r : Falls) (ns : StackTypes) → shallow opens r ≡ Ok (Some ns) → Shallow opens ns
+shallow_long opens (Ok None) ns e = cc
+shallow_long opens (Ok (Some ts)) ns e =
+    let deep = nat_le (length ts + length (below_all opens)) max_depth in
+    let p = needs_is (deep && nat_le (length opens) max_loops) TooDeep (Ok (Some ts)) (Some ns) e in
     let same : ts ≡ ns = cc p.1 in
-    let le = leb-true (length ts) max_depth p.0 in
-    omega (arith, ap (length {A = CelType}) same)
-shallow_long (Err k) ns e = cc
+    let both = and_parts deep (nat_le (length opens) max_loops) p.0 in
+    subst (Shallow opens) same (
+      leb-true (length ts + length (below_all opens)) max_depth both.0,
+      leb-true (length opens) max_loops both.1,
+    )
+shallow_long opens (Err k) ns e = cc
+
+-- the loops that stay open are no more, and have no more below them
+still_fewer : (at : ℕ) (os : List Open)
+    → (length (below_all (still_open at os)) ≤ length (below_all os)) × (length (still_open at os) ≤ length os)
+still_fewer at [] = (omega arith, omega arith)
+still_fewer at (o ∷ os) = by (nat_lt at o.exit) (still_fewer at os)
+  where
+    by : (b : Bool)
+        → ((length (below_all (still_open at os)) ≤ length (below_all os)) × (length (still_open at os) ≤ length os))
+        → (length (below_all (cond b (o ∷ os) (still_open at os))) ≤ length (below_all (o ∷ os)))
+        × (length (cond b (o ∷ os) (still_open at os)) ≤ length (o ∷ os))
+    by true r = (omega arith, omega arith)
+    by false r = let parts = length-append o.below (below_all os) in (omega (arith, r.0), omega (arith, r.1))
 
 -- what falls on to an entry is as long as it
 entry_long : (o : Option StackTypes) (r : Falls) (ns ts : StackTypes) → entered o r ≡ Ok (Some ns) → entry_or o (Some ns) ≡ Some ts
@@ -127,66 +169,101 @@ entry_is None ts e = e
 entry_is (Some es) ts e = e
 
 module _ (image : Image) (sound : IsSound image) where
-  label_long : (n at : ℕ) → at < n → at < length image.code → (ts : StackTypes) → types_at image at ≡ Some ts
-      → length ts ≤ max_depth
-  label_long zero at lt inside ts e = absurd (omega arith)
-  label_long (suc n) zero lt inside ts e = let none : [] ≡ ts = cc e in omega (arith, ap (length {A = CelType}) none)
-  label_long (suc n) (suc k) lt inside ts e =
-      let i = get_some image.code k (omega arith) in
-      let p = parts_at image sound k i.0 (omega arith) i.1 in
-      let holds = sound.each k (omega arith) in
-      by (λ j l m us q. label_long n j l m us q) i.0 i.1 holds.next p
-      (ap (entry_or (entry_in image.targets (suc k))) (ap fallen (sym holds.is)) ∙ e)
-    where
-      by :
-          ((j : ℕ) → j < n → j < length image.code → (us : StackTypes) → types_at image j ≡ Some us → length us ≤ max_depth)
-          → (i : Instr) → slice_get image.code k ≡ Some i → (next : Option StackTypes)
-          → Parts image k i (label_at image k).types (label_at image k).opens next
-          → entry_or (entry_in image.targets (suc k)) next ≡ Some ts → length ts ≤ max_depth
-      by before_it i hi (Some ns) p q =
-          let sucs : k + 1 ≡ suc k = add-one k in
-          let o = entry_in image.targets (k + 1) in
-          let r = typed_rule image i (label_at image k).opens p.here in
-          let fell = entry_long o r ns ts p.typed (ap (λ m. entry_or (entry_in image.targets m) (Some ns)) sucs ∙ q) in
-          let deep = shallow_long (entered o r) ns p.deep in
-          omega arith
-      by before_it i hi None p q =
-          let o = entry_in image.targets (suc k) in
-          let there = entry_is o ts q in
-          let j = get_some image.code (suc k) inside in
-          let w = (parts_at image sound (suc k) j.0 inside j.1).wanted in
-          let from = jumper image.code (suc k) (is_jumped_where o (is_jumped image.code (suc k)) ts there w) in
-          let inner : from.at < length image.code = slice_get_within image.code from.at from.instr from.is in
-          let r = parts_at image sound from.at from.instr inner from.is in
-          let target = every_in (is_target image from.at) (jumps_of from.instr) (suc k) r.targets from.jumps in
-          let before = (is_ahead image from.at (suc k) target).0 in
-          let opens = (label_at image from.at).opens in
-          let falls = typed_rule image from.instr opens r.here in
-          let m = entered_ok (entry_in image.targets (from.at + 1)) falls (sound.each from.at inner).next r.typed in
-          let less = jump_long image from.instr opens r.here ts m.0 (suc k) m.1 from.jumps there in
-          let known = before_it from.at (omega arith) inner r.here r.is in
-          omega arith
+  -- an instruction has no more operands and open loops than there may be
+  abbrev Within : ℕ → Type 0
+  Within at = (depth_at image at ≤ max_depth) × (length (opens_at image at) ≤ max_loops)
 
-  depth_long : (at : ℕ) → at < length image.code → depth_at image at ≤ max_depth
-  depth_long at h =
-      let none : length (below_all (opens_at image at)) ≡ 0 = ap (λ os. length (below_all os)) (opens_is image at) in
-      by (types_at image at) refl none
-    where
-      by : (o : Option StackTypes) → types_at image at ≡ o → length (below_all (opens_at image at)) ≡ 0
-          → depth_at image at ≤ max_depth
-      by None e z = let own : operands_of (types_at image at) ≡ 0 = ap operands_of e in omega arith
-      by (Some ts) e z =
-          let own : operands_of (types_at image at) ≡ length ts = ap operands_of e in
-          let le = label_long (suc at) at (omega arith) h ts e in
-          omega arith
+  abbrev Before : ℕ → Type 0
+  Before n = (at : ℕ) → at < n → at < length image.code → Within at
+
+  -- behind an instruction that goes on
+  within_next : (k : ℕ) (i : Instr) (ns ts : StackTypes) → slice_get image.code k ≡ Some i
+      → Parts image k i (types_at image k) (opens_at image k) (Some ns) → entry_or (entry_in image.targets (suc k)) (Some ns) ≡ Some ts
+      → types_at image (suc k) ≡ Some ts → Within (suc k)
+  within_next k i ns ts hi p q e =
+      let sucs : k + 1 ≡ suc k = add-one k in
+      let entry = entry_in image.targets (k + 1) in
+      let falls = typed_rule image i (opens_at image k) p.here in
+      let fell = entry_long entry falls ns ts p.typed (ap (λ m. entry_or (entry_in image.targets m) (Some ns)) sucs ∙ q) in
+      let opens = opening image k (Some i) (types_at image k) (opens_at image k) in
+      let deep = shallow_long opens (entered entry falls) ns p.deep in
+      let still = still_fewer (suc k) opens in
+      let same : opens_at image (suc k) ≡ still_open (suc k) opens =
+      ap (λ o. still_open (suc k) (opening image k o (types_at image k) (opens_at image k))) hi in
+      let below : length (below_all (opens_at image (suc k))) ≡ length (below_all (still_open (suc k) opens)) =
+      ap (λ os. length (below_all os)) same in
+      let loops : length (opens_at image (suc k)) ≡ length (still_open (suc k) opens) = ap (length {A = Open}) same in
+      let own : operands_of (types_at image (suc k)) ≡ length ts = ap operands_of e in
+      (omega (arith, deep.0, still.0), omega (arith, deep.1, still.1))
+
+  -- where jumps arrive alone
+  within_jump : (to : ℕ) (ts : StackTypes) → to < length image.code → Before to → entry_in image.targets to ≡ Some ts
+      → types_at image to ≡ Some ts → Within to
+  within_jump to ts inside before there e =
+      let i = get_some image.code to inside in
+      let wanted = (parts_at image sound to i.0 inside i.1).wanted in
+      let from = jumper image.code to (is_jumped_where (entry_in image.targets to) (is_jumped image.code to) ts there wanted) in
+      let inner : from.at < length image.code = slice_get_within image.code from.at from.instr from.is in
+      let r = parts_at image sound from.at from.instr inner from.is in
+      let target = every_in (is_target image from.at) (jumps_of from.instr) to r.targets from.jumps in
+      let ahead = (is_ahead image from.at to target).0 in
+      let opens = opens_at image from.at in
+      let falls = typed_rule image from.instr opens r.here in
+      let m = entered_ok (entry_in image.targets (from.at + 1)) falls (sound.each from.at inner).next r.typed in
+      let less = jump_long image from.instr opens r.here ts m.0 to m.1 from.jumps there in
+      let placed = is_placed image from.at from.instr opens in
+      let nest = and_parts placed (every (same_body image.code from.at) (jumps_of from.instr)) r.nested in
+      let body = every_in (same_body image.code from.at) (jumps_of from.instr) to nest.1 from.jumps in
+      let same = same_opens image sound from.at to (omega (arith, inner)) (omega (arith, inside)) body in
+      let known = before from.at (omega (arith, ahead)) inner in
+      let below : length (below_all (opens_at image to)) ≡ length (below_all opens) = ap (λ os. length (below_all os)) same in
+      let loops : length (opens_at image to) ≡ length opens = ap (length {A = Open}) same in
+      let own : operands_of (types_at image to) ≡ length ts = ap operands_of e in
+      let here : operands_of (types_at image from.at) ≡ length r.here = ap operands_of r.is in
+      (omega (arith, known.0), omega (arith, known.1))
+
+  within_by : (k : ℕ) (i : Instr) (ts : StackTypes) (next : Option StackTypes) → slice_get image.code k ≡ Some i
+      → suc k < length image.code → Before (suc k) → Parts image k i (types_at image k) (opens_at image k) next
+      → entry_or (entry_in image.targets (suc k)) next ≡ Some ts → types_at image (suc k) ≡ Some ts → Within (suc k)
+  within_by k i ts (Some ns) hi inside before p q e = within_next k i ns ts hi p q e
+  within_by k i ts None hi inside before p q e =
+      within_jump (suc k) ts inside before (entry_is (entry_in image.targets (suc k)) ts q) e
+
+  within_at : (at : ℕ) → at < length image.code → Before at → Within at
+  within_at zero inside before = (omega arith, omega arith)
+  within_at (suc k) inside before =
+      let lt : k < length image.code = omega arith in
+      let i = get_some image.code k lt in
+      let p = parts_at image sound k i.0 lt i.1 in
+      let holds = sound.each k lt in
+      let j = get_some image.code (suc k) inside in
+      let here = parts_at image sound (suc k) j.0 inside j.1 in
+      let entry = ap (entry_or (entry_in image.targets (suc k))) (ap fallen (sym holds.is)) ∙ here.is in
+      within_by k i.0 here.here holds.next i.1 inside before p entry here.is
+
+  all_before : (n : ℕ) → Before n
+  all_before zero = λ at lt inside. absurd (omega arith)
+  all_before (suc n) =
+      let before : Before n = all_before n in
+      λ at lt inside. within_at at inside (λ k less more. before k (omega arith) more)
 
   deepest_long : (n : ℕ) → n ≤ length image.code → deepest image n ≤ max_depth
   deepest_long zero h = omega arith
   deepest_long (suc n) h =
       let a = deepest_long n (omega arith) in
-      let b = depth_long n (omega arith) in
+      let b = (all_before (suc n) n (omega arith) (omega arith)).0 in
+      omega arith
+
+  most_long : (n : ℕ) → n ≤ length image.code → most_open image n ≤ max_loops
+  most_long zero h = omega arith
+  most_long (suc n) h =
+      let a = most_long n (omega arith) in
+      let b = (all_before (suc n) n (omega arith) (omega arith)).1 in
       omega arith
 
   -- at every instruction
   pub greatest_within : greatest_depth image ≤ max_depth
   greatest_within = deepest_long (length image.code) (omega arith)
+
+  pub greatest_nested : greatest_nesting image ≤ max_loops
+  greatest_nested = most_long (length image.code) (omega arith)

@@ -1,27 +1,16 @@
--- The most operands, one instruction after another.
-use Rattle.std.proofs.Common.{◌≡◌, ℕ, zero, suc, ◌+◌, ◌<◌, ◌≤◌, max, List, [], ◌∷◌, ◌++◌}
-use Rattle.std.proofs.Common.{length, length-append, Option, None, true, refl, sym, ap, ◌∙◌, subst, ⊎_elim, arith, add-one}
+-- The most operands and the most open loops, one instruction after another.
+use Rattle.std.proofs.Common.{◌≡◌, ℕ, zero, suc, ◌<◌, ◌≤◌, List, [], ◌∷◌, ◌++◌}
+use Rattle.std.proofs.Common.{length, length-append, true, refl, sym, ap, subst, ⊎_elim, arith}
 use Rattle.std.proofs.lemmas.Bool.{cases_lt}
-use Rattle.std.specs.Prelude.{slice_get}
-use Rattle.std.proofs.lemmas.Option.{slice_get_cases}
 use Rattle.cel_code.specs.declared.image.Image.{Image}
 use Rattle.cel_operators.specs.Outcomes.{Outcome, slots_fit}
-use Rattle.cel_code.specs.Machine.{State, on}
+use Rattle.cel_code.specs.Machine.{Frame, State, on}
 use Rattle.cel_verify.specs.StackTypes.{StackTypes, AllFit}
-use Rattle.cel_verify.specs.Sound.{label_at, IsSound}
-use Rattle.cel_verify.specs.Typed.{below_all, types_at, opens_at, Typed}
+use Rattle.cel_verify.specs.Sound.{Open, below_all, IsSound}
+use Rattle.cel_verify.specs.Typed.{types_at, opens_at, waits_at, FramesFit, Typed}
 use Rattle.cel_verify.specs.Depths.{operands_of, depth_at, deepest, greatest_depth, NeverMore}
+use Rattle.cel_verify.specs.Depths.{most_open, greatest_nesting, NeverMoreLoops}
 use Rattle.cel_verify.proofs.Steps.{begins, gets_typed}
-use Rattle.cel_verify.specs.Walked.{labelled}
-
--- one more instruction
-pub deepest_next : (image : Image) (at : ℕ) (here : Option StackTypes) (depth n : ℕ) → label_at image at ≡ labelled here
-    → n ≡ operands_of here → depth ≡ deepest image at → max depth n ≡ deepest image (at + 1)
-deepest_next image at here depth n l e d =
-    let label : depth_at image at ≡ operands_of here + 0 = ap (λ l. operands_of l.types + length (below_all l.opens)) l in
-    let own : n ≡ depth_at image at = omega (arith) in
-    let is : max depth n ≡ deepest image (suc at) = ap (λ k. max k n) d ∙ ap (max (deepest image at)) own in
-    is ∙ ap (deepest image) (sym (add-one at))
 
 -- no instruction has more
 pub within_deepest : (image : Image) (n at : ℕ) → at < n → depth_at image at ≤ deepest image n
@@ -31,14 +20,14 @@ within_deepest image (suc n) at h =
     (λ le. let e : at ≡ n = omega arith in subst (λ k. depth_at image k ≤ deepest image (suc n)) (sym e) (omega arith))
     (cases_lt at n)
 
--- all instructions
-pub deepest_all : (image : Image) (at depth : ℕ) → slice_get image.code at ≡ None → at ≤ length image.code
-    → depth ≡ deepest image at → depth ≡ greatest_depth image
-deepest_all image at depth h le d =
-    let past : length image.code ≤ at =
-    ⊎_elim (λ w. let z : ⊥ = cc (h, w.2) in absurd z) (λ w. w.0) (slice_get_cases image.code at).1 in
-    let e : at ≡ length image.code = omega arith in
-    d ∙ ap (deepest image) e
+pub within_most_open : (image : Image) (n at : ℕ) → at < n → length (opens_at image at) ≤ most_open image n
+within_most_open image zero at h = absurd (omega arith)
+within_most_open image (suc n) at h =
+    ⊎_elim (λ less. let r = within_most_open image n at less in omega arith)
+    (λ le.
+    let e : at ≡ n = omega arith in
+    subst (λ k. length (opens_at image k) ≤ most_open image (suc n)) (sym e) (omega arith))
+    (cases_lt at n)
 
 -- as many operands as types
 fit_long : (stack : List Outcome) (ts : StackTypes) → AllFit stack ts → length stack ≡ length ts
@@ -46,6 +35,14 @@ fit_long [] [] h = refl
 fit_long [] (t ∷ ts) h = absurd h
 fit_long (x ∷ stack) [] h = absurd h
 fit_long (x ∷ stack) (t ∷ ts) h = let r = fit_long stack ts h.1 in omega arith
+
+-- as many frames as open loops
+frames_long : (image : Image) (waiting : ℕ) (fs : List Frame) (os : List Open) → FramesFit image waiting fs os
+    → length fs ≡ length os
+frames_long image waiting [] [] h = refl
+frames_long image waiting [] (o ∷ os) h = absurd h
+frames_long image waiting (f ∷ fs) [] h = absurd h
+frames_long image waiting (f ∷ fs) (o ∷ os) h = ap suc (frames_long image 1 fs os h.1)
 
 -- a state that fits its label
 typed_deep : (image : Image) (s : State) → Typed image s → length s.stack ≤ greatest_depth image
@@ -56,8 +53,21 @@ typed_deep image s t =
     let most = within_deepest image (length image.code) s.at t.inside in
     omega arith
 
+typed_nested : (image : Image) (s : State) → Typed image s → length s.frames ≤ greatest_nesting image
+typed_nested image s t =
+    let long = frames_long image (waits_at image s.at) s.frames (opens_at image s.at) t.frames in
+    let most = within_most_open image (length image.code) s.at t.inside in
+    omega arith
+
 -- a state that the machine reaches
 pub never_more : (image : Image) (slots : List Outcome) → IsSound image → slots_fit image.slots slots ≡ true
     → NeverMore image slots (greatest_depth image)
-never_more image slots sound filled =
-    λ s charge steps g. typed_deep image s (gets_typed image slots sound filled (on 0 [] []) s charge steps g (begins image slots sound filled)).0
+never_more image slots sound filled = λ s charge steps g.
+    let first = begins image slots sound filled in
+    typed_deep image s (gets_typed image slots sound filled (on 0 [] []) s charge steps g first).0
+
+pub never_more_loops : (image : Image) (slots : List Outcome) → IsSound image → slots_fit image.slots slots ≡ true
+    → NeverMoreLoops image slots (greatest_nesting image)
+never_more_loops image slots sound filled = λ s charge steps g.
+    let first = begins image slots sound filled in
+    typed_nested image s (gets_typed image slots sound filled (on 0 [] []) s charge steps g first).0

@@ -5,6 +5,14 @@ pub mod Mapping
 pub mod Operations
 pub mod Pairwise
 pub mod PathSums
+pub mod Falling
+pub mod Gathering
+pub mod Going
+pub mod Growing
+pub mod LoopSteps
+pub mod Nests
+pub mod StepBound
+pub mod StepsFit
 pub mod Routes
 pub mod RuleParts
 pub mod Sides
@@ -14,3 +22,8 @@ pub mod Walking
 mod WorkedRows
 pub mod Depths
 pub mod Bounded
+pub mod Enclosing
+pub mod Exact
+pub mod Measuring
+pub mod Openings
+pub mod Summing

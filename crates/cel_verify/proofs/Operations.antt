@@ -1,14 +1,16 @@
 -- An operator by the number of its operands: its rule and its charge.
-use Rattle.std.proofs.Common.{◌≡◌, ℕ, List, [], ◌∷◌, refl}
+use Rattle.std.proofs.Common.{◌≡◌, ℕ, List, [], ◌∷◌, Option, Some, None, refl}
+use Rattle.std.specs.Prelude.{unwrap_or, option_map}
 use Rattle.cel_operators.specs.declared.operands.Operands.TheVariants as operands
 use Rattle.cel_operators.specs.declared.operands.Want.{Want}
 use Rattle.cel_operators.specs.declared.text_operator.TextOperator.{TextOperator}
 use Rattle.cel_operators.specs.declared.text_operator.TextOperator.TheVariants.{Select, Has, Matches}
 use Rattle.cel_operators.specs.Operators.{Row, One, Two, operands_of}
+use Rattle.cel_operators.specs.declared.limit.Span.{Span}
 use Rattle.cel_operators.specs.TextOperators.{row_with}
 use Rattle.cel_verify.specs.StackTypes.{StackTypes}
 use Rattle.cel_verify.specs.Sound.{row_rule}
-use Rattle.cel_verify.specs.Paths.{row_charge}
+use Rattle.cel_verify.specs.Paths.{row_charge, most_items}
 use Rattle.cel_verify.specs.Walked.{rule_of_one, rule_of_two, charge_on_one, charge_on_two}
 
 -- the rule of an operator with one operand, and of one with two
@@ -54,3 +56,8 @@ charge_with Has text [] = refl
 charge_with Has text (s ∷ ts) = refl
 charge_with Matches text [] = refl
 charge_with Matches text (s ∷ ts) = refl
+
+-- the most items of a range, or none where there is none
+pub most_is : (span : Option Span) → unwrap_or (option_map (λ s. s.max) span) 0 ≡ most_items span
+most_is None = refl
+most_is (Some s) = refl

@@ -1,15 +1,16 @@
 -- The definitions at small images.
-use Rattle.std.proofs.Common.{◌≡◌, true, List, [], ◌∷◌, Some, None, refl}
+use Rattle.std.proofs.Common.{◌≡◌, true, false, List, [], ◌∷◌, Some, None, refl}
 use Rattle.std.specs.Prelude.{Ok, Err, pos}
 use Rattle.cel_value.specs.declared.value.Value as value
 use Rattle.cel_value.specs.declared.cel_type.CelType as type
+use Rattle.cel_parse.specs.declared.expr.Loop.TheVariants as loop
 use Rattle.cel_code.specs.declared.instr.Instr.{Instr}
 use Rattle.cel_code.specs.declared.instr.Instr.TheVariants.{Const, Op, WithText, AndTest, And, Jump, End}
 use Rattle.cel_code.specs.declared.instr.Instr.TheVariants as instr
 use Rattle.cel_code.specs.declared.image.Image.{Image}
 use Rattle.cel_operators.specs.declared.text_operator.TextOperator.TheVariants.{Matches}
 use Rattle.cel_verify.specs.declared.fault.VerifyRule.TheVariants.{Underflow, WrongKind, BadTarget, BadConstant}
-use Rattle.cel_verify.specs.Sound.{rule_at, label_at}
+use Rattle.cel_verify.specs.Sound.{rule_at, label_at, is_nested}
 use Rattle.cel_verify.specs.Paths.{path_cost, path_steps}
 use Rattle.cel_verify.specs.Accepted.{misplaced_entry}
 use Rattle.cel_value.proofs.Reflexive.{assignable-refl}
@@ -87,3 +88,34 @@ both_targets = refl
 back : rule_at (whole (Const 0 ∷ Jump 0 ∷ End ∷ [])) 1 (Some (Jump 0))
     (label_at (whole (Const 0 ∷ Jump 0 ∷ End ∷ [])) 1) ≡ Err BadTarget
 back = refl
+
+-- `list.all(x, true)` over three items at most: its body counts three times
+abbrev over_three : Image
+over_three =
+    record {
+      slots = type.List 3 true type.Int ∷ [];
+      constants = value.Bool true ∷ [];
+      targets = record { at = 5; types = type.Bool ∷ [] } ∷ [];
+      result = type.Bool;
+      code = instr.Slot 0 ∷ instr.Loop loop.All 5 ∷ instr.Item ∷ Const 0 ∷ instr.Next ∷ End ∷ [];
+    }
+
+loop_steps : path_steps over_three ≡ 12
+unfolding denote.Hole.Carrier.out type.out-CelType
+loop_steps = refl
+
+loop_cost : path_cost over_three ≡ 5
+unfolding value.out-Value denote.Hole.Carrier.out type.out-CelType
+loop_cost = rw (assignable-refl type.Bool) refl
+
+-- a jump into a loop's body
+into_body : is_nested (whole (Jump 3 ∷ instr.Loop loop.All 5 ∷ instr.Item ∷ Const 1 ∷ instr.Next ∷ End ∷ [])) 0 (Jump 3) [] ≡ false
+into_body = refl
+
+-- an inner loop that ends behind the outer one
+abbrev across : List Instr
+across =
+    Const 0 ∷ instr.Loop loop.Map 6 ∷ instr.Item ∷ instr.Loop loop.Map 7 ∷ instr.Item ∷ instr.Next ∷ instr.Next ∷ End ∷ []
+
+across_bodies : is_nested (whole across) 3 (instr.Loop loop.Map 7) [] ≡ false
+across_bodies = refl

@@ -1,5 +1,5 @@
 -- Which images are accepted, and why one is not.
-use Rattle.std.specs.Prelude.{◌≡◌, ◌≢◌, ℕ, ◌+◌, ◌-◌, ◌<◌, ◌≤◌, ◌⊎◌, ◌&&◌, nat_le}
+use Rattle.std.specs.Prelude.{◌≡◌, ◌≢◌, ℕ, ◌+◌, ◌-◌, ◌<◌, ◌≤◌, ◌⊎◌, ◌&&◌, min, nat_le}
 use Rattle.std.specs.Prelude.{nat_lt, List, [], ◌∷◌, length, slice_get, if◌then◌else◌, Option, Some, None}
 use Rattle.cel_code.specs.declared.instr.Instr.{Instr}
 use Rattle.cel_code.specs.declared.instr.Instr.TheVariants.{End}
@@ -11,7 +11,10 @@ use Rattle.cel_verify.specs.declared.fault.VerifyFault.{VerifyFault}
 use Rattle.cel_verify.specs.declared.fault.VerifyError.{VerifyError}
 use Rattle.cel_verify.specs.declared.fault.VerifyError.TheVariants.{OutOfMemory, Fault}
 use Rattle.cel_verify.specs.Sound.{EndsOnce, IsSound, IsFirstFault}
-use Rattle.cel_verify.specs.Paths.{path_cost}
+use Rattle.cel_verify.specs.Paths.{path_cost, path_steps}
+use Rattle.cel_verify.specs.Depths.{greatest_depth, greatest_nesting}
+use Rattle.cel_verify.specs.Walked.{ceiling}
+use Rattle.cel_verify.specs.declared.bounds.Bounds.{Bounds}
 
 -- the most instructions, constants, slots and targets
 abbrev pub max_count : ℕ
@@ -59,6 +62,20 @@ pub record IsAccepted (image : Image) : Type 0 where
   pub sound : IsSound image
   pub placed : misplaced_entry image ≡ None
   pub cheap : path_cost image ≤ budget
+
+-- the bounds of an image
+pub record AreBounds (image : Image) (bounds : Bounds) : Type 0 where
+  pub cost : bounds.cost ≡ path_cost image
+  pub steps : bounds.steps ≡ path_steps image
+  pub depth : bounds.depth ≡ greatest_depth image
+  pub nesting : bounds.nesting ≡ greatest_nesting image
+
+-- the bounds of an image, each up to the greatest number of 64 bits
+pub record AreCapped (image : Image) (bounds : Bounds) : Type 0 where
+  pub cost : bounds.cost ≡ min (path_cost image) ceiling
+  pub steps : bounds.steps ≡ min (path_steps image) ceiling
+  pub depth : bounds.depth ≡ min (greatest_depth image) ceiling
+  pub nesting : bounds.nesting ≡ greatest_nesting image
 
 -- a fault by its rule and its instruction
 abbrev pub fault : VerifyRule → ℕ → VerifyFault

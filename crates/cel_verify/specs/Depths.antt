@@ -4,8 +4,7 @@ use Rattle.cel_code.specs.declared.image.Image.{Image}
 use Rattle.cel_operators.specs.Outcomes.{Outcome}
 use Rattle.cel_code.specs.Machine.{State, on, Gets}
 use Rattle.cel_verify.specs.StackTypes.{StackTypes}
-use Rattle.cel_verify.specs.Sound.{label_at}
-use Rattle.cel_verify.specs.Typed.{below_all}
+use Rattle.cel_verify.specs.Sound.{label_at, below_all}
 
 -- the operands of a label's types
 abbrev pub operands_of : Option StackTypes → ℕ
@@ -28,3 +27,17 @@ greatest_depth image = deepest image (length image.code)
 -- no state that the machine reaches has more operands than this
 abbrev pub NeverMore : Image → List Outcome → ℕ → Type 0
 NeverMore image slots most = (s : State) (charge steps : ℕ) → Gets image slots (on 0 [] []) s charge steps → length s.stack ≤ most
+
+-- the most loops open at any of the first instructions
+abbrev pub most_open : Image → ℕ → ℕ
+most_open image zero = 0
+most_open image (suc n) = max (most_open image n) (length (label_at image n).opens)
+
+-- the most loops open at any instruction
+abbrev pub greatest_nesting : Image → ℕ
+greatest_nesting image = most_open image (length image.code)
+
+-- no state that the machine reaches has more loops open than this
+abbrev pub NeverMoreLoops : Image → List Outcome → ℕ → Type 0
+NeverMoreLoops image slots most =
+    (s : State) (charge steps : ℕ) → Gets image slots (on 0 [] []) s charge steps → length s.frames ≤ most

@@ -7,3 +7,4 @@ pub mod Walked
 pub mod Typed
 pub mod Labelled
 pub mod Depths
+pub mod Bodies

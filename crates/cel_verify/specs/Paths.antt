@@ -1,5 +1,5 @@
 -- The greatest sums over the forward routes.
-use Rattle.std.specs.Prelude.{◌≡◌, ℕ, ◌+◌, ◌-◌, ◌*◌, ◌<◌, ◌≤◌, max, ◌⊎◌}
+use Rattle.std.specs.Prelude.{◌≡◌, ℕ, Bool, true, false, ◌+◌, ◌-◌, ◌*◌, ◌<◌, ◌≤◌, max, ◌⊎◌}
 use Rattle.std.specs.Prelude.{List, [], ◌∷◌, slice_get, slice_index, Option, Some, None}
 use Rattle.cel_value.specs.declared.value.Value.{Value}
 use Rattle.cel_operators.specs.declared.operator.Operator.{Operator}
@@ -7,8 +7,12 @@ use Rattle.cel_operators.specs.declared.text_operator.TextOperator.{TextOperator
 use Rattle.cel_operators.specs.Maps.{entries_greatest}
 use Rattle.cel_operators.specs.TextOperators.{row_with}
 use Rattle.cel_code.specs.Machine.{taken_off, constant_text}
+use Rattle.cel_operators.specs.Wants.{limit_of}
+use Rattle.cel_operators.specs.declared.limit.Span.{Span}
+use Rattle.cel_operators.specs.declared.operands.Want.TheVariants.{Ranged}
+use Rattle.cel_parse.specs.declared.expr.Loop.{Loop}
 use Rattle.cel_code.specs.declared.instr.Instr.{Instr}
-use Rattle.cel_code.specs.declared.instr.Instr.TheVariants.{Op, WithText, AndTest, OrTest, Cond, Jump, End, Slot}
+use Rattle.cel_code.specs.declared.instr.Instr.TheVariants.{Op, WithText, AndTest, OrTest, Cond, Jump, End, Slot, Local, Item, Next}
 use Rattle.cel_code.specs.declared.instr.Instr.TheVariants as instr
 use Rattle.cel_code.specs.declared.image.Image.{Image}
 use Rattle.cel_operators.specs.Operators.{Row, One, Two, row, operator_of, greatest_of_one, greatest_of_two}
@@ -39,6 +43,7 @@ text_charge op (Some text) ts = row_charge (row_with op text) ts
 -- the greatest charge of an instruction at these types, where these are the constants
 abbrev pub charge_of : List Value → Instr → StackTypes → ℕ
 charge_of constants (Slot n) ts = 1
+charge_of constants (Local d) ts = 1
 charge_of constants (Op o) ts = op_charge (operator_of o) ts
 charge_of constants (WithText op k) ts = text_charge op (constant_text (slice_get constants k)) ts
 charge_of constants (instr.List n) ts = 1 + n
@@ -46,6 +51,8 @@ charge_of constants (instr.Map n) ts = mapped_charge (taken_off (n + n) [] ts)
 charge_of constants (AndTest to) ts = 1
 charge_of constants (OrTest to) ts = 1
 charge_of constants (Cond if_false if_error) ts = 1
+charge_of constants (instr.Loop l exit) ts = 1
+charge_of constants Item ts = 1
 charge_of constants _ ts = 0
 
 -- the greatest charge of an instruction at its types; nothing where it is not reached
@@ -53,12 +60,14 @@ abbrev pub charge_in : List Value → Option Instr → Option StackTypes → ℕ
 charge_in constants (Some i) (Some ts) = charge_of constants i ts
 charge_in constants _ _ = 0
 
--- where an instruction may go on in the body in which it stands
+-- where an instruction may go on in the body in which it stands; a loop goes on where it leads
 abbrev pub goes_to : Instr → ℕ → List ℕ
 goes_to (AndTest to) at = to ∷ (at + 1) ∷ []
 goes_to (OrTest to) at = to ∷ (at + 1) ∷ []
 goes_to (Cond if_false if_error) at = (at + 1) ∷ if_false ∷ if_error ∷ []
 goes_to (Jump to) at = to ∷ []
+goes_to (instr.Loop l exit) at = exit ∷ []
+goes_to Next at = []
 goes_to End at = []
 goes_to _ at = (at + 1) ∷ []
 
@@ -67,9 +76,10 @@ abbrev pub greatest : (ℕ → ℕ) → List ℕ → ℕ
 greatest f [] = 0
 greatest f (t ∷ ts) = max (f t) (greatest f ts)
 
--- how often the instructions behind an instruction count as its loop's body; none begins a loop
+-- how often the instructions behind an instruction count, as the body of a loop that begins there
 abbrev pub rounds_of : Instr → ℕ → ℕ
-rounds_of i times = 0
+rounds_of (instr.Loop l exit) times = times
+rounds_of _ times = 0
 
 -- from one instruction, where f tells those behind it
 abbrev pub from_one : (ℕ → ℕ) → (ℕ → ℕ) → Instr → ℕ → (ℕ → ℕ) → ℕ
@@ -81,9 +91,19 @@ to_go weigh times [] at = []
 to_go weigh times (i ∷ is) at =
     from_one weigh times i at (λ t. slice_index (to_go weigh times is (at + 1)) (t - (at + 1))) ∷ to_go weigh times is (at + 1)
 
--- how often the body of the loop that begins here counts; none begins
+-- the most items of a range
+abbrev pub most_items : Option Span → ℕ
+most_items None = 0
+most_items (Some span) = span.max
+
+-- the most items of the range on top
+abbrev pub items_on_top : Option StackTypes → ℕ
+items_on_top (Some (t ∷ ts)) = most_items (limit_of Ranged t)
+items_on_top _ = 0
+
+-- how often the body of the loop that begins here counts
 abbrev pub times_at : Image → ℕ → ℕ
-times_at image at = 0
+times_at image at = items_on_top (label_at image at).types
 
 -- the greatest charge of an instruction at its label
 abbrev pub charge_at : Image → ℕ → ℕ
@@ -106,12 +126,19 @@ abbrev pub IsIn : ℕ → List ℕ → Type 0
 IsIn t [] = ⊥
 IsIn t (u ∷ us) = (t ≡ u) ⊎ IsIn t us
 
--- a forward route from an instruction to the end, and the sum of its weights
-pub data Route (weigh : ℕ → ℕ) (code : List Instr) : ℕ → ℕ → Type 0 where
-  Stops : {at sum : ℕ} (i : Instr) → slice_get code at ≡ Some i → goes_to i at ≡ [] → sum ≡ weigh at → Route weigh code at sum
-  Via : {at sum : ℕ} (i : Instr) (to rest : ℕ) → slice_get code at ≡ Some i → IsIn to (goes_to i at) → at < to → Route weigh code to rest → sum ≡ weigh at + rest → Route weigh code at sum
+-- an instruction that begins a loop
+abbrev pub is_loop : Instr → Bool
+is_loop (instr.Loop l exit) = true
+is_loop _ = false
+
+-- a forward route from an instruction to the end of its body, and the sum of its weights; a loop counts a route through its
+-- body so often
+pub data Route (weigh times : ℕ → ℕ) (code : List Instr) : ℕ → ℕ → Type 0 where
+  Stops : {at sum : ℕ} (i : Instr) → slice_get code at ≡ Some i → goes_to i at ≡ [] → sum ≡ weigh at → Route weigh times code at sum
+  Via : {at sum : ℕ} (i : Instr) (to rest : ℕ) → slice_get code at ≡ Some i → is_loop i ≡ false → IsIn to (goes_to i at) → at < to → Route weigh times code to rest → sum ≡ weigh at + rest → Route weigh times code at sum
+  Rounds : {at sum : ℕ} (l : Loop) (exit body rest : ℕ) → slice_get code at ≡ Some (instr.Loop l exit) → at < exit → Route weigh times code (at + 1) body → Route weigh times code exit rest → sum ≡ weigh at + (times at * body + rest) → Route weigh times code at sum
 
 -- the greatest sum of the routes from an instruction
-pub record IsGreatest (weigh : ℕ → ℕ) (code : List Instr) (at greatest : ℕ) : Type 0 where
-  pub bound : (sum : ℕ) → Route weigh code at sum → sum ≤ greatest
-  pub attained : Route weigh code at greatest
+pub record IsGreatest (weigh times : ℕ → ℕ) (code : List Instr) (at greatest : ℕ) : Type 0 where
+  pub bound : (sum : ℕ) → Route weigh times code at sum → sum ≤ greatest
+  pub attained : Route weigh times code at greatest

@@ -1,15 +1,23 @@
 -- Sound images: each instruction keeps its rule at the types of the stack there.
-use Rattle.std.specs.Prelude.{◌≡◌, ℕ, zero, suc, ◌+◌, ◌<◌, Bool, true, false, not}
+use Rattle.std.specs.Prelude.{◌≡◌, ℕ, zero, suc, ◌+◌, ◌-◌, ◌<◌, Bool, true, false, not, ◌++◌}
 use Rattle.std.specs.Prelude.{◌&&◌, ◌||◌, nat_eq, nat_lt, nat_le, List, [], ◌∷◌, reverse, length}
 use Rattle.std.specs.Prelude.{slice_get, if◌then◌else◌, Option, Some, None, Result, Ok, Err}
 use Rattle.cel_value.specs.declared.cel_type.CelType.{CelType}
 use Rattle.cel_value.specs.declared.cel_type.CelType as type
 use Rattle.cel_value.specs.CelType.{assignable}
+use Rattle.cel_parse.specs.declared.expr.Loop.{Loop}
+use Rattle.cel_parse.specs.declared.expr.Loop.TheVariants as loop
+use Rattle.cel_operators.specs.Wants.{limit_of, is_there, is_truth}
+use Rattle.cel_operators.specs.declared.limit.Span.{Span}
+use Rattle.cel_operators.specs.declared.operands.Want.TheVariants.{Ranged}
+use Rattle.cel_check.specs.Loops.{loop_type}
+pub use Rattle.cel_verify.specs.declared.open_loop.Open.{Open}
+use Rattle.cel_verify.specs.Bodies.{same_body, is_item, is_next}
 use Rattle.cel_operators.specs.declared.type_rule.TypeRule.{TypeRule}
 use Rattle.cel_operators.specs.declared.type_rule.TypeRule.TheVariants.{TooLarge}
 use Rattle.cel_operators.specs.declared.operator.Operator.{Operator}
 use Rattle.cel_code.specs.declared.instr.Instr.{Instr}
-use Rattle.cel_code.specs.declared.instr.Instr.TheVariants.{Const, Op, WithText, AndTest, OrTest, And, Or, Cond, Jump, End, Slot}
+use Rattle.cel_code.specs.declared.instr.Instr.TheVariants.{Const, Op, WithText, AndTest, OrTest, And, Or, Cond, Jump, End, Slot, Local, Item, When, Next}
 use Rattle.cel_code.specs.Machine.{taken_off, constant_text}
 use Rattle.cel_operators.specs.Maps.{entries_type}
 use Rattle.cel_operators.specs.TextOperators.{row_with}
@@ -18,21 +26,15 @@ use Rattle.cel_operators.specs.Lists.{items_type}
 use Rattle.cel_code.specs.declared.instr.Instr.TheVariants as instr
 use Rattle.cel_code.specs.declared.image.Image.{Image}
 use Rattle.cel_code.specs.declared.image.Target.{Target}
-use Rattle.cel_operators.specs.Wants.{is_there, is_truth}
 use Rattle.cel_operators.specs.Operators.{Row, One, Two, row, operator_of, type_of_one, type_of_two}
 use Rattle.cel_verify.specs.declared.fault.VerifyRule.{VerifyRule}
 use Rattle.cel_verify.specs.declared.fault.VerifyRule.TheVariants.{Underflow, WrongKind, BadTarget, BadNesting, BadConstant, TooDeep, OverBudget}
 use Rattle.cel_verify.specs.StackTypes.{StackTypes, all_assignable, constant_type}
 
--- an open loop: where it begins and where it leads, the type and the most of its items, the types below its frame and
--- those where it leads
-pub record Open : Type 0 where
-  pub start : ℕ
-  pub exit : ℕ
-  pub item : CelType
-  pub max : ℕ
-  pub below : StackTypes
-  pub after : StackTypes
+-- the types below all open loops
+abbrev pub below_all : List Open → StackTypes
+below_all [] = []
+below_all (o ∷ os) = o.below ++ below_all os
 
 -- the types above the innermost frame, where the instruction is reached, and the open loops, the innermost first
 pub record Label : Type 0 where
@@ -59,6 +61,7 @@ jumps_of (AndTest to) = to ∷ []
 jumps_of (OrTest to) = to ∷ []
 jumps_of (Cond if_false if_error) = if_false ∷ if_error ∷ []
 jumps_of (Jump to) = to ∷ []
+jumps_of (instr.Loop l exit) = exit ∷ []
 jumps_of _ = []
 
 -- each of these passes
@@ -92,9 +95,29 @@ is_jumped (i ∷ is) to = some_of (λ t. nat_eq t to) (jumps_of i) || is_jumped 
 abbrev pub is_wanted : Image → ℕ → Bool
 is_wanted image at = not (is_there (entry_in image.targets at)) || is_jumped image.code at
 
--- jumps stay in the body of their innermost loop; no instruction begins a loop
+-- whether something holds of the innermost loop, where there is one
+abbrev pub in_innermost : (Open → Bool) → List Open → Bool
+in_innermost p [] = false
+in_innermost p (o ∷ os) = p o
+
+-- a loop that is `map`
+abbrev pub is_map : Loop → Bool
+is_map loop.Map = true
+is_map _ = false
+
+-- where an instruction of loops may stand: LOOP in front of ITEM, and it leads behind NEXT, with something between; ITEM and
+-- NEXT in the body that they begin and end; WHEN in a `map`
+abbrev pub is_placed : Image → ℕ → Instr → List Open → Bool
+is_placed image at (instr.Loop l exit) opens =
+    is_item (slice_get image.code (at + 1)) && (is_next (slice_get image.code (exit - 1)) && nat_lt (at + 2) exit)
+is_placed image at Item opens = in_innermost (λ o. nat_eq at (o.start + 1)) opens
+is_placed image at When opens = in_innermost (λ o. is_map o.mode) opens
+is_placed image at Next opens = in_innermost (λ o. nat_eq o.exit (at + 1)) opens
+is_placed image at _ opens = true
+
+-- an instruction stands where it may, and its jumps stay in the body in which it stands
 abbrev pub is_nested : Image → ℕ → Instr → List Open → Bool
-is_nested image at i opens = true
+is_nested image at i opens = is_placed image at i opens && every (same_body image.code at) (jumps_of i)
 
 -- the type that an operator gives, on top of those below its operands; a limit of it that is too large is told by itself
 abbrev pub given : Result CelType TypeRule → StackTypes → Falls
@@ -163,10 +186,61 @@ end_rule result [] = Err Underflow
 end_rule result (t ∷ []) = needs (assignable t result) WrongKind (Ok None)
 end_rule result _ = Err WrongKind
 
+-- the item of an open loop, on top
+abbrev pub local_rule : Option Open → StackTypes → Falls
+local_rule None ts = Err Underflow
+local_rule (Some o) ts = Ok (Some (o.item ∷ ts))
+
+-- the result of no items may stand where a loop leads; a body begins with nothing above its frame
+abbrev pub empty_rule : Option StackTypes → StackTypes → Result CelType TypeRule → Falls
+empty_rule es ts (Err broken) = Err WrongKind
+empty_rule es ts (Ok s) = needs (enters es (s ∷ ts)) WrongKind (Ok (Some []))
+
+-- a range of no items
+abbrev pub no_items : Span
+no_items = record { max = 0; item = type.Never }
+
+-- a loop over a range of a type
+abbrev pub range_rule : Loop → Option Span → Option StackTypes → StackTypes → Falls
+range_rule l None es ts = Err WrongKind
+range_rule l (Some span) es ts = empty_rule es ts (loop_type l no_items type.Never)
+
+-- a loop over what is on top
+abbrev pub loop_rule : Loop → Option StackTypes → StackTypes → Falls
+loop_rule l es [] = Err Underflow
+loop_rule l es (t ∷ ts) = range_rule l (limit_of Ranged t) es ts
+
+-- the next item, with nothing above the frame
+abbrev pub item_rule : StackTypes → Falls
+item_rule [] = Ok (Some [])
+item_rule _ = Err WrongKind
+
+-- the predicate of `map`, alone above the frame
+abbrev pub when_rule : StackTypes → Falls
+when_rule [] = Err Underflow
+when_rule (t ∷ []) = needs (is_truth t) WrongKind (Ok (Some []))
+when_rule _ = Err WrongKind
+
+-- the most items of an open loop, and their type
+abbrev pub span_of : Open → Span
+span_of o = record { max = o.max; item = o.item }
+
+-- a loop's result may stand where it leads
+abbrev pub closing_rule : Open → Result CelType TypeRule → Falls
+closing_rule o (Err broken) = Err WrongKind
+closing_rule o (Ok s) = needs (all_assignable (s ∷ o.below) o.after) WrongKind (Ok None)
+
+-- what a body gives, alone above the frame
+abbrev pub next_rule : List Open → StackTypes → Falls
+next_rule opens [] = Err Underflow
+next_rule (o ∷ os) (t ∷ []) = closing_rule o (loop_type o.mode (span_of o) t)
+next_rule opens _ = Err WrongKind
+
 -- one instruction at the types above the innermost frame
 abbrev pub typed_rule : Image → Instr → List Open → StackTypes → Falls
 typed_rule image (Const k) opens ts = constant_rule (constant_type (slice_get image.constants k)) ts
 typed_rule image (Slot n) opens ts = constant_rule (slice_get image.slots n) ts
+typed_rule image (Local d) opens ts = local_rule (slice_get opens d) ts
 typed_rule image (Op o) opens ts = op_rule (operator_of o) ts
 typed_rule image (instr.List n) opens ts = listed_rule (taken_off n [] ts)
 typed_rule image (instr.Map n) opens ts = mapped_rule (taken_off (n + n) [] ts)
@@ -177,6 +251,10 @@ typed_rule image And opens ts = join_rule ts
 typed_rule image Or opens ts = join_rule ts
 typed_rule image (Cond if_false if_error) opens ts = cond_rule (entry_in image.targets if_false) (entry_in image.targets if_error) ts
 typed_rule image (Jump to) opens ts = jump_rule (entry_in image.targets to) ts
+typed_rule image (instr.Loop l exit) opens ts = loop_rule l (entry_in image.targets exit) ts
+typed_rule image Item opens ts = item_rule ts
+typed_rule image When opens ts = when_rule ts
+typed_rule image Next opens ts = next_rule opens ts
 typed_rule image End opens ts = end_rule image.result ts
 
 -- what goes on may stand at the next instruction's entry
@@ -184,14 +262,36 @@ abbrev pub entered : Option StackTypes → Falls → Falls
 entered (Some es) (Ok (Some ts)) = needs (all_assignable ts es) WrongKind (Ok (Some ts))
 entered _ r = r
 
--- the most operands
+-- the most operands, over all open loops together
 abbrev pub max_depth : ℕ
 max_depth = 16384
 
--- what goes on is no deeper than the stack may be
-abbrev pub shallow : Falls → Falls
-shallow (Ok (Some ts)) = needs (nat_le (length ts) max_depth) TooDeep (Ok (Some ts))
-shallow r = r
+-- the most open loops
+abbrev pub max_loops : ℕ
+max_loops = 100
+
+-- what goes on is no deeper than the stack may be, with no more loops open than may be
+abbrev pub shallow : List Open → Falls → Falls
+shallow opens (Ok (Some ts)) =
+    needs (nat_le (length ts + length (below_all opens)) max_depth && nat_le (length opens) max_loops) TooDeep (Ok (Some ts))
+shallow opens r = r
+
+-- one loop more is open, whose range is of a type and which leads to an entry
+abbrev pub with_loop : ℕ → ℕ → Loop → StackTypes → Option Span → Option StackTypes → List Open → List Open
+with_loop start exit l below (Some span) (Some after) opens =
+    record { start = start; exit = exit; mode = l; item = span.item; max = span.max; below = below; after = after } ∷ opens
+with_loop start exit l below _ _ opens = opens
+
+-- the open loops behind an instruction, before any of them ends
+abbrev pub opening : Image → ℕ → Option Instr → Option StackTypes → List Open → List Open
+opening image at (Some (instr.Loop l exit)) (Some (t ∷ ts)) opens =
+    with_loop at exit l ts (limit_of Ranged t) (entry_in image.targets exit) opens
+opening image at _ types opens = opens
+
+-- those that lead further on than an instruction: the innermost that does, and all outside it
+abbrev pub still_open : ℕ → List Open → List Open
+still_open at [] = []
+still_open at (o ∷ os) = if nat_lt at o.exit then o ∷ os else still_open at os
 
 -- what a rule says of the types at an instruction, where it is reached
 abbrev pub reached : Option StackTypes → (StackTypes → Falls) → Falls
@@ -201,7 +301,7 @@ reached (Some ts) f = f ts
 -- an instruction's rule; its first part that is broken is the fault
 abbrev pub rule : Image → ℕ → Instr → Label → Falls
 rule image at i l =
-    needs (is_named image i) BadConstant (needs (is_wanted image at && every (is_target image at) (jumps_of i)) BadTarget (reached l.types (λ ts. needs (is_nested image at i l.opens) BadNesting (shallow (entered (entry_in image.targets (at + 1)) (typed_rule image i l.opens ts))))))
+    needs (is_named image i) BadConstant (needs (is_wanted image at && every (is_target image at) (jumps_of i)) BadTarget (reached l.types (λ ts. needs (is_nested image at i l.opens) BadNesting (shallow (opening image at (Some i) l.types l.opens) (entered (entry_in image.targets (at + 1)) (typed_rule image i l.opens ts))))))
 
 -- the rule of the instruction at a place, if there is one
 abbrev pub rule_at : Image → ℕ → Option Instr → Label → Falls
@@ -218,13 +318,14 @@ abbrev pub entry_or : Option StackTypes → Option StackTypes → Option StackTy
 entry_or (Some es) o = Some es
 entry_or None o = o
 
--- the open loops behind an instruction; none begins or ends one
-abbrev pub opens_after : ℕ → Option Instr → Label → List Open
-opens_after at o l = l.opens
+-- the open loops of the next instruction
+abbrev pub opens_after : Image → ℕ → Option Instr → Label → List Open
+opens_after image at o l = still_open (suc at) (opening image at o l.types l.opens)
 
 -- the label of the next instruction: the types where jumps arrive there, or else what goes on to it
 abbrev pub next_label : Image → ℕ → Option Instr → Label → Label
-next_label image at o l = record { types = entry_or (entry_in image.targets (suc at)) (fallen (rule_at image at o l)); opens = opens_after at o l }
+next_label image at o l =
+    record { types = entry_or (entry_in image.targets (suc at)) (fallen (rule_at image at o l)); opens = opens_after image at o l }
 
 -- the label of each instruction, one after another; at the first the stack is empty
 abbrev pub label_at : Image → ℕ → Label

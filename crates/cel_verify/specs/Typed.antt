@@ -1,16 +1,20 @@
 -- States that fit their labels, and what is still to pay from them.
-use Rattle.std.specs.Prelude.{◌≡◌, ◌≢◌, ℕ, ◌+◌, ◌<◌, ◌≤◌, List, [], ◌∷◌, ◌++◌, length, Option, Some}
+use Rattle.std.specs.Prelude.{◌≡◌, ◌≢◌, ℕ, zero, suc, true, ◌+◌, ◌<◌, ◌≤◌, List, [], ◌∷◌, ◌++◌, length, Option, Some, Ok, slice_get}
+use Rattle.std.specs.List.{list_all}
+use Rattle.cel_value.specs.declared.value.Value.{Value}
+use Rattle.cel_value.specs.declared.cel_type.CelType.{CelType}
+use Rattle.cel_value.specs.declared.cel_type.CelType as type
+use Rattle.cel_value.specs.CelType.{fits, assignable}
+use Rattle.cel_check.specs.Loops.{loop_type, result_of}
+use Rattle.cel_code.specs.declared.instr.Instr.{Instr}
+use Rattle.cel_code.specs.declared.instr.Instr.TheVariants.{Item}
 use Rattle.cel_code.specs.declared.image.Image.{Image}
 use Rattle.cel_operators.specs.Outcomes.{Outcome}
 use Rattle.cel_code.specs.Machine.{Frame, State, on, Next, Goes, Ends, Stuck, step, Gets, Run}
-use Rattle.cel_verify.specs.StackTypes.{StackTypes, Fits, AllFit}
-use Rattle.cel_verify.specs.Sound.{Open, label_at}
-use Rattle.cel_verify.specs.Paths.{path_from, charge_at, path_cost}
-
--- the types below all frames
-abbrev pub below_all : List Open → StackTypes
-below_all [] = []
-below_all (o ∷ os) = o.below ++ below_all os
+use Rattle.cel_verify.specs.StackTypes.{StackTypes, Fits, AllFit, all_assignable}
+use Rattle.cel_verify.specs.declared.open_loop.Open.{Open}
+use Rattle.cel_verify.specs.Sound.{label_at, below_all, no_items}
+use Rattle.cel_verify.specs.Paths.{path_from, charge_at, path_cost, path_steps}
 
 -- the types of an instruction's label
 abbrev pub types_at : Image → ℕ → Option StackTypes
@@ -20,10 +24,50 @@ types_at image at = (label_at image at).types
 abbrev pub opens_at : Image → ℕ → List Open
 opens_at image at = (label_at image at).opens
 
--- one frame for each open loop; no instruction opens one
-abbrev pub FramesFit : List Frame → List Open → Type 0
-FramesFit [] [] = Unit {0}
-FramesFit _ _ = ⊥
+-- 0 where the present item is still to be taken, and else 1
+abbrev pub waits : Option Instr → ℕ
+waits (Some Item) = 0
+waits _ = 1
+
+-- the same, of an instruction by its number
+abbrev pub waits_at : Image → ℕ → ℕ
+waits_at image at = waits (slice_get image.code at)
+
+-- an open loop in its image: its ITEM, where it leads, and the type of what is there on top, which takes the result of no
+-- items
+pub record LoopStands (image : Image) (o : Open) (os : List Open) : Type 0 where
+  pub item : slice_get image.code (o.start + 1) ≡ Some Item
+  pub item_inside : o.start + 1 < length image.code
+  pub item_types : types_at image (o.start + 1) ≡ Some []
+  pub item_opens : opens_at image (o.start + 1) ≡ o ∷ os
+  pub exit_inside : o.exit < length image.code
+  pub exit_types : types_at image o.exit ≡ Some o.after
+  pub exit_opens : opens_at image o.exit ≡ os
+  pub exit_waits : waits_at image o.exit ≡ 1
+  pub top : CelType
+  pub rest : StackTypes
+  pub after : o.after ≡ top ∷ rest
+  pub below : all_assignable o.below rest ≡ true
+  pub empty : (s : CelType) → loop_type o.mode no_items type.Never ≡ Ok s → assignable s top ≡ true
+
+-- a frame that fits an open loop: its items are of the loop's type, no more than it may have, and the result of what is
+-- gathered may stand where the loop leads
+pub record FrameFits (image : Image) (waiting : ℕ) (f : Frame) (o : Open) (os : List Open) : Type 0 where
+  pub start : f.start ≡ o.start
+  pub exit : f.exit ≡ o.exit
+  pub mode : f.mode ≡ o.mode
+  pub item : fits f.item o.item ≡ true
+  pub left : list_all (λ v. fits v o.item) f.left ≡ true
+  pub some : 1 ≤ length f.left + waiting
+  pub room : length f.gathered.items + (length f.left + waiting) ≤ o.max
+  pub stands : LoopStands image o os
+  pub result : Fits (result_of f.mode f.gathered) stands.top
+
+-- one frame for each open loop; those outside the innermost wait for the body's value
+abbrev pub FramesFit : Image → ℕ → List Frame → List Open → Type 0
+FramesFit image waiting [] [] = Unit {0}
+FramesFit image waiting (f ∷ fs) (o ∷ os) = FrameFits image waiting f o os × FramesFit image 1 fs os
+FramesFit image waiting _ _ = ⊥
 
 -- a state that fits the label of its instruction
 pub record Typed (image : Image) (s : State) : Type 0 where
@@ -31,11 +75,27 @@ pub record Typed (image : Image) (s : State) : Type 0 where
   pub inside : s.at < length image.code
   pub label : types_at image s.at ≡ Some types
   pub fits : AllFit s.stack (types ++ below_all (opens_at image s.at))
-  pub frames : FramesFit s.frames (opens_at image s.at)
+  pub frames : FramesFit image (waits_at image s.at) s.frames (opens_at image s.at)
+
+-- the items whose turns are still to begin
+abbrev pub to_come : ℕ → List Value → List Value
+to_come zero [] = []
+to_come zero (v ∷ vs) = vs
+to_come (suc n) vs = vs
+
+-- so much for each of these
+abbrev pub rounds : List Value → ℕ → ℕ
+rounds [] n = 0
+rounds (v ∷ vs) n = n + rounds vs n
+
+-- what the open loops have still to go, where g tells what there is to go from an instruction to the end of its body
+abbrev pub owed : (ℕ → ℕ) → ℕ → List Frame → ℕ
+owed g waiting [] = 0
+owed g waiting (f ∷ fs) = rounds (to_come waiting f.left) (g (f.start + 1)) + g f.exit + owed g 1 fs
 
 -- the greatest sum of weights that a state has still to go
 abbrev pub total : Image → (ℕ → ℕ) → State → ℕ
-total image weigh s = path_from image weigh s.at
+total image weigh s = path_from image weigh s.at + owed (path_from image weigh) (waits_at image s.at) s.frames
 
 -- a step goes on to such a state, pays for itself at every weighing, or ends with an outcome of the image's type
 abbrev pub GoesOn : Image → State → Next → Type 0
@@ -51,10 +111,10 @@ pub record HasRun (image : Image) (slots : List Outcome) : Type 0 where
   pub run : Run image slots outcome charged steps
 
 -- what every run of an image keeps to: no state that the machine reaches is stuck, and it ends, within as many steps as
--- there are instructions, for no more than the dearest route charges, with an outcome of the image's type
+-- the longest route has, for no more than the dearest route charges, with an outcome of the image's type
 pub record RunsWithin (image : Image) (slots : List Outcome) : Type 0 where
   pub never : (s : State) (charge steps : ℕ) → Gets image slots (on 0 [] []) s charge steps → step image slots s ≢ Stuck
   pub charge : (s : State) (charge steps : ℕ) → Gets image slots (on 0 [] []) s charge steps → charge ≤ path_cost image
-  pub steps : (s : State) (charge steps : ℕ) → Gets image slots (on 0 [] []) s charge steps → steps + 1 ≤ length image.code
+  pub steps : (s : State) (charge steps : ℕ) → Gets image slots (on 0 [] []) s charge steps → steps + 1 ≤ path_steps image
   pub outcome : (s : State) (charge steps : ℕ) (x : Outcome) → Gets image slots (on 0 [] []) s charge steps → step image slots s ≡ Ends x → Fits x image.result
   pub ends : HasRun image slots

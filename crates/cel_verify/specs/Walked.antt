@@ -1,9 +1,17 @@
 -- What the verifier's parts answer.
 use Rattle.std.specs.Borrow.{Bor}
-use Rattle.std.specs.Prelude.{◌≡◌, ℕ, ◌+◌, ◌<◌, ◌≤◌, min, ◌-◌, ◌^◌, List, [], length}
+use Rattle.std.specs.Prelude.{◌≡◌, ℕ, ◌+◌, ◌*◌, ◌<◌, ◌≤◌, min, max, ◌-◌, ◌^◌, List, [], ◌++◌, length}
 use Rattle.std.specs.Prelude.{slice_get, slice_index, reverse, ◌∷◌, Option, Some, None, Result, Ok, Err, MatchResult}
 use Rattle.cel_value.specs.declared.cel_type.CelType.{CelType}
+use Rattle.cel_value.specs.declared.cel_type.CelType as type
+use Rattle.cel_value.specs.declared.value.Value.{Value}
+use Rattle.cel_parse.specs.declared.expr.Loop.{Loop}
+use Rattle.cel_operators.specs.Wants.{limit_of}
+use Rattle.cel_operators.specs.declared.limit.Span.{Span}
+use Rattle.cel_operators.specs.declared.operands.Want.TheVariants.{Ranged}
+use Rattle.cel_check.specs.Loops.{loop_type}
 use Rattle.cel_code.specs.declared.instr.Instr.{Instr}
+use Rattle.cel_code.specs.declared.instr.Instr.TheVariants as instr
 use Rattle.cel_code.specs.declared.instr.Instr.TheVariants.{End}
 use Rattle.cel_code.specs.declared.image.Image.{Image}
 use Rattle.cel_operators.specs.Operators.{Row, type_of_one, type_of_two, greatest_of_one, greatest_of_two}
@@ -13,8 +21,12 @@ use Rattle.cel_verify.specs.declared.fault.VerifyError.TheVariants.{OutOfMemory,
 use Rattle.cel_verify.specs.declared.refusal.Refusal.{Refusal}
 use Rattle.cel_verify.specs.declared.refusal.Refusal.TheVariants.{Broken, NoMemory}
 use Rattle.cel_verify.specs.StackTypes.{StackTypes}
-use Rattle.cel_verify.specs.Sound.{Label, Falls, given, entered, shallow, rule_at, entry_in, entry_or, label_at, Holds, IsFirstFault}
-use Rattle.cel_verify.specs.Paths.{charge_at, path_from}
+use Rattle.cel_verify.specs.declared.open_loop.Open.{Open}
+use Rattle.cel_verify.specs.declared.measures.Measures.{Measures}
+use Rattle.cel_verify.specs.Sound.{Label, Falls, given, entered, shallow, typed_rule, rule_at, entry_in, entry_or, label_at}
+use Rattle.cel_verify.specs.Sound.{below_all, no_items, empty_rule, loop_rule, opening, still_open, Holds, IsFirstFault}
+use Rattle.cel_verify.specs.Paths.{charge_in, charge_at, items_on_top, times_at, rounds_of, goes_to, greatest, path_from}
+use Rattle.cel_verify.specs.Depths.{operands_of, deepest, most_open}
 
 -- a rule's refusal: the rule that is broken, or want of memory
 abbrev pub Refuses : Refusal → Falls → Type 0
@@ -50,41 +62,98 @@ abbrev pub IsEntry : Option (Bor (List CelType)) → Option StackTypes → Type 
 IsEntry None entry = entry ≡ None
 IsEntry (Some types) entry = entry ≡ Some (reverse types.now)
 
--- the label outside all loops
-abbrev pub labelled : Option StackTypes → Label
-labelled types = record { types = types; opens = [] }
+-- a label by its types and its open loops
+abbrev pub labelled : Option StackTypes → List Open → Label
+labelled types opens = record { types = types; opens = opens }
 
--- the rule of the instruction at a place, at these types outside all loops
-abbrev pub rule_here : Image → ℕ → Option StackTypes → Falls
-rule_here image at here = rule_at image at (slice_get image.code at) (labelled here)
+-- the rule of the instruction at a place, at a label
+abbrev pub rule_here : Image → ℕ → Label → Falls
+rule_here image at here = rule_at image at (slice_get image.code at) here
 
--- one instruction's rule holds, and these are the types at the next one
-pub record Advances (image : Image) (at : ℕ) (here there : Option StackTypes) : Type 0 where
+-- one instruction's rule holds, and this is the label of the next one
+pub record Advances (image : Image) (at : ℕ) (here there : Label) : Type 0 where
   pub next : Option StackTypes
   pub holds : rule_here image at here ≡ Ok next
+  pub entry : entry_or (entry_in image.targets (at + 1)) next ≡ there.types
+  pub opens : still_open (at + 1) (opening image at (slice_get image.code at) here.types here.opens) ≡ there.opens
+
+-- what goes on to an instruction among these open loops, where it may stand there and is no deeper than the stack may be
+abbrev pub arrived : Image → ℕ → List Open → Falls → Falls
+arrived image to opens falls = shallow opens (entered (entry_in image.targets to) falls)
+
+-- these types may go on to an instruction among these open loops, and those are its types then
+abbrev pub Arrives : Image → ℕ → List Open → Option StackTypes → Option StackTypes → Type 0
+Arrives image to opens falls there =
+    (arrived image to opens (Ok falls) ≡ Ok falls) × (entry_or (entry_in image.targets to) falls ≡ there)
+
+-- no types may stand at an entry, and are what is there then
+pub record TakesNone (entry : Option StackTypes) : Type 0 where
+  pub stand : entered entry (Ok (Some [])) ≡ Ok (Some [])
+  pub there : entry_or entry (Some []) ≡ Some []
+
+-- the part of an instruction's rule that asks the types
+abbrev pub typed_here : Image → ℕ → Instr → StackTypes → List Open → Falls
+typed_here image at i ts opens =
+    arrived image (at + 1) (opening image at (Some i) (Some ts) opens) (typed_rule image i opens ts)
+
+-- that part holds, and these are the types of the next instruction and the open loops before any of them ends
+pub record Passes (image : Image) (at : ℕ) (i : Instr) (ts : StackTypes) (opens : List Open) (there : Option StackTypes)
+    (behind : List Open) : Type 0 where
+  pub next : Option StackTypes
+  pub holds : typed_here image at i ts opens ≡ Ok next
   pub entry : entry_or (entry_in image.targets (at + 1)) next ≡ there
+  pub opened : opening image at (Some i) (Some ts) opens ≡ behind
 
--- what goes on to an instruction, where it may stand there and is no deeper than the stack may be
-abbrev pub arrived : Image → ℕ → Falls → Falls
-arrived image to falls = shallow (entered (entry_in image.targets to) falls)
+-- a range on top: what its type says, and the types below it
+pub record IsRange (ts : StackTypes) (span : Span) (below : StackTypes) : Type 0 where
+  pub top : CelType
+  pub is : ts ≡ top ∷ below
+  pub ranged : limit_of Ranged top ≡ Some span
 
--- these types may go on to an instruction, and those are its types then
-abbrev pub Arrives : Image → ℕ → Option StackTypes → Option StackTypes → Type 0
-Arrives image to falls there = (arrived image to (Ok falls) ≡ Ok falls) × (entry_or (entry_in image.targets to) falls ≡ there)
+-- the types where a loop leads, where its result of no items, on top of these types, may stand there
+pub record Awaits (image : Image) (l : Loop) (exit : ℕ) (below after : StackTypes) : Type 0 where
+  pub entry : entry_in image.targets exit ≡ Some after
+  pub holds : empty_rule (Some after) below (loop_type l no_items type.Never) ≡ Ok (Some [])
+
+-- the loop that begins at an instruction, where its rule holds at these types
+pub record Begins (image : Image) (at : ℕ) (l : Loop) (exit : ℕ) (ts : StackTypes) (o : Open) : Type 0 where
+  pub holds : loop_rule l (entry_in image.targets exit) ts ≡ Ok (Some [])
+  pub opens : (opens : List Open) → opening image at (Some (instr.Loop l exit)) (Some ts) opens ≡ o ∷ opens
 
 -- the greatest number of 64 bits
 abbrev pub ceiling : ℕ
 ceiling = 2 ^ 64 - 1
 
+-- the weight of each instruction before one, up to the ceiling
+abbrev pub AreWeights : (ℕ → ℕ) → ℕ → List ℕ → Type 0
+AreWeights weigh at weights = (length weights ≡ at) × ((i : ℕ) → i < at → slice_index weights i ≡ min (weigh i) ceiling)
+
 -- the greatest charge of each instruction before one, up to the ceiling
 abbrev pub AreCharges : Image → ℕ → List ℕ → Type 0
-AreCharges image at charges = (length charges ≡ at) × ((i : ℕ) → i < at → slice_index charges i ≡ min (charge_at image i) ceiling)
+AreCharges image at charges = AreWeights (charge_at image) at charges
+
+-- for each instruction before one, how often the body of a loop that begins there counts
+abbrev pub AreTimes : Image → ℕ → List ℕ → Type 0
+AreTimes image at times = (length times ≡ at) × ((i : ℕ) → i < at → slice_index times i ≡ times_at image i)
+
+-- what is measured of the instructions before one; the number of operands up to the ceiling
+pub record AreMeasures (image : Image) (at : ℕ) (measures : Measures) : Type 0 where
+  pub charges : AreCharges image at measures.charges.items
+  pub times : AreTimes image at measures.times.items
+  pub depth : measures.depth ≡ min (deepest image at) ceiling
+  pub nesting : measures.nesting ≡ most_open image at
+
+-- one instruction more is measured, at a label
+pub record Measured (constants : List Value) (i : Instr) (here : Label) (old new : Measures) : Type 0 where
+  pub charges : new.charges.items ≡ old.charges.items ++ min (charge_in constants (Some i) here.types) ceiling ∷ []
+  pub times : new.times.items ≡ old.times.items ++ items_on_top here.types ∷ []
+  pub depth : new.depth ≡ max old.depth (min (operands_of here.types + length (below_all here.opens)) ceiling)
+  pub nesting : new.nesting ≡ max old.nesting (length here.opens)
 
 -- the verifier is before an instruction
-pub record IsBefore (image : Image) (at : ℕ) (here : Option StackTypes) (charges : List ℕ) : Type 0 where
-  pub label : label_at image at ≡ labelled here
+pub record IsBefore (image : Image) (at : ℕ) (here : Label) : Type 0 where
+  pub label : label_at image at ≡ here
   pub holds : (i : ℕ) → i < at → Holds image i
-  pub charged : AreCharges image at charges
   pub inside : at ≤ length image.code
 
 -- the rule of each instruction holds
@@ -100,10 +169,13 @@ IsWalkFault image (Fault f) = IsFirstFault image f.at f.rule
 abbrev pub NoEndBefore : List Instr → ℕ → Type 0
 NoEndBefore code n = (i : ℕ) → i < n → slice_get code i ≡ Some End → ⊥
 
--- the greatest charge of each instruction before one, and from there on the charge of its dearest route, both up to the
--- ceiling
-pub record AreCosts (image : Image) (at : ℕ) (costs : List ℕ) : Type 0 where
+-- the greatest sum of what comes behind an instruction, by the sums from each: its body so many times, and where it goes
+abbrev pub behind : List ℕ → ℕ → Instr → ℕ → ℕ
+behind sums times i at = rounds_of i times * slice_index sums (at + 1) + greatest (λ t. slice_index sums t) (goes_to i at)
+
+-- the weight of each instruction before one, and from there on the greatest sum of its routes, both up to the ceiling
+pub record AreSums (image : Image) (weigh : ℕ → ℕ) (at : ℕ) (sums : List ℕ) : Type 0 where
   pub inside : at ≤ length image.code
-  pub long : length costs ≡ length image.code
-  pub charges : (i : ℕ) → i < at → slice_index costs i ≡ min (charge_at image i) ceiling
-  pub paths : (i : ℕ) → at ≤ i → slice_index costs i ≡ min (path_from image (charge_at image) i) ceiling
+  pub long : length sums ≡ length image.code
+  pub weights : (i : ℕ) → i < at → slice_index sums i ≡ min (weigh i) ceiling
+  pub paths : (i : ℕ) → at ≤ i → slice_index sums i ≡ min (path_from image weigh i) ceiling

@@ -2,10 +2,11 @@ ghost use Rattle.std.specs.Prelude.{◌∷◌, [], IfOk, length};
 ghost use Rattle.cel_verify.specs.Sound.{jumps_of};
 ghost use Rattle.cel_verify.specs.Arrivals.{AreFirsts, AreJumped, AreArrivals, Marks};
 
+use crate::bodies::bodies;
 use cel_code::{Image, Instr, Target};
 use std::alloc::{AllocError, Global};
 
-/// Where jumps arrive, found once for the whole code.
+/// Where jumps arrive, and in which loops' bodies instructions stand, found once for the whole code.
 #[derive(Drop)]
 pub struct Arrivals {
     /// For each instruction, and for one place behind them, which target is its first; where it has none, how many
@@ -13,17 +14,24 @@ pub struct Arrivals {
     pub firsts: Vec<usize>,
     /// For each instruction, whether another jumps to it.
     pub jumped: Vec<bool>,
+    /// For each instruction, the number of the loop in whose body it stands.
+    pub bodies: Vec<Option<usize>>,
 }
 
 impl Arrivals {
-    /// Where jumps arrive in an image.
+    /// Where jumps arrive in an image, and in which loops' bodies its instructions stand.
     pub fn new(alloc: Global, image: &Image) -> Result<Arrivals, AllocError>
         ensures { IfOk result (λ arrivals. AreArrivals image.now arrivals) }
     {
         let code = image.code.as_slice();
         let firsts = first_targets(alloc, image.targets.as_slice(), code.len() + 1)?;
         let jumped = jumped_to(alloc, code)?;
-        Ok(Arrivals { firsts, jumped })
+        let bodies = bodies(alloc, code)?;
+        Ok(Arrivals {
+            firsts,
+            jumped,
+            bodies,
+        })
     }
 }
 
@@ -61,7 +69,9 @@ fn mark_jumps(jumped: &mut Vec<bool>, instr: Instr)
     ensures { Marks (jumps_of instr) jumped.old.items jumped.new.items }
 {
     match instr {
-        Instr::AndTest(to) | Instr::OrTest(to) | Instr::Jump(to) => mark(jumped, to),
+        Instr::AndTest(to) | Instr::OrTest(to) | Instr::Jump(to) | Instr::Loop(_, to) => {
+            mark(jumped, to);
+        }
         Instr::Cond(if_false, if_error) => {
             mark(jumped, if_error);
             mark(jumped, if_false);

@@ -1,10 +1,11 @@
-ghost use Rattle.std.specs.Prelude.{◌≡◌, ◌+◌, ◌-◌, ◌<◌, ◌^◌, min, Some, length, reverse, slice_index, slice_get};
+//! The greatest charge of each instruction.
+
+ghost use Rattle.std.specs.Prelude.{◌≡◌, ◌-◌, ◌^◌, min, Some, reverse, slice_get};
 ghost use Rattle.cel_operators.specs.Operators.{row};
 ghost use Rattle.cel_operators.specs.TextOperators.{row_with};
 ghost use Rattle.cel_code.specs.Machine.{constant_text};
-ghost use Rattle.cel_verify.specs.Sound.{IsSound};
-ghost use Rattle.cel_verify.specs.Paths.{text_charge, row_charge, charge_in, goes_to, greatest, path_cost as cost_of_path};
-ghost use Rattle.cel_verify.specs.Walked.{AreCharges, charge_on_one, charge_on_two};
+ghost use Rattle.cel_verify.specs.Paths.{text_charge, row_charge, charge_in};
+ghost use Rattle.cel_verify.specs.Walked.{charge_on_one, charge_on_two};
 
 use crate::constants::constant_text;
 use crate::mapped::map_charge;
@@ -29,7 +30,7 @@ pub fn charge(image: &Image, instr: Instr, label: &Option<TypeStack>) -> u64
         Instr::List(count) => (count as u64).saturating_add(1),
         Instr::Map(count) => map_charge(count, types.as_slice()),
         Instr::AndTest(_) | Instr::OrTest(_) | Instr::Cond(_, _) => 1,
-        Instr::Slot(_) => 1,
+        Instr::Slot(_) | Instr::Local(_) | Instr::Loop(_, _) | Instr::Item => 1,
         _ => 0,
     }
 }
@@ -77,54 +78,4 @@ fn charge_on_two(op: Operator, types: &[CelType]) -> u64
         return 0;
     };
     greatest_of_two(op, s, t)
-}
-
-/// The charge of the dearest route through the code, or the greatest number where it charges more.
-pub fn path_cost(image: &Image, charges: Vec<u64>) -> u64
-    requires sound { IsSound image.now }
-    requires charged { AreCharges image.now (length image.now.code) charges.items }
-    ensures { result ≡ min (cost_of_path image.now) (2 ^ 64 - 1) }
-{
-    let mut costs = charges;
-    let mut at = image.code.len();
-    while at > 0 {
-        at -= 1;
-        let Some(instr) = image.code.get(at) else {
-            unreachable!();
-        };
-        costs[at] = costs[at].saturating_add(dearest(costs.as_slice(), *instr, at));
-    }
-    cost_at(costs.as_slice(), 0)
-}
-
-// The greatest cost of where an instruction may go.
-fn dearest(costs: &[u64], instr: Instr, at: usize) -> u64
-    requires { at + 1 < 2 ^ 64 }
-    ensures { result ≡ greatest (λ t. slice_index costs.now t) (goes_to instr at) }
-{
-    match instr {
-        Instr::AndTest(to) | Instr::OrTest(to) => cost_at(costs, to).max(cost_at(costs, at + 1)),
-        Instr::Cond(if_false, if_error) => cost_at(costs, at + 1)
-            .max(cost_at(costs, if_false))
-            .max(cost_at(costs, if_error)),
-        Instr::Jump(to) => cost_at(costs, to),
-        Instr::End => 0,
-        Instr::Const(_)
-        | Instr::Slot(_)
-        | Instr::Op(_)
-        | Instr::WithText(_, _)
-        | Instr::List(_)
-        | Instr::Map(_)
-        | Instr::And
-        | Instr::Or => cost_at(costs, at + 1),
-    }
-}
-
-fn cost_at(costs: &[u64], at: usize) -> u64
-    ensures { result ≡ slice_index costs.now at }
-{
-    match costs.get(at) {
-        Some(cost) => *cost,
-        None => 0,
-    }
 }

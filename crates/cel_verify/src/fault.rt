@@ -8,7 +8,7 @@ use thiserror::Error;
 /// Which rule of the verifier an image breaks.
 #[derive(Clone, Copy, Debug, PartialEq, Eq)]
 pub enum VerifyRule {
-    /// An operand is missing.
+    /// An operand or an open loop is missing.
     Underflow = 1,
     /// A type does not fit where it goes.
     WrongKind = 2,
@@ -18,7 +18,7 @@ pub enum VerifyRule {
     BadNesting = 4,
     /// There is no such constant, slot or operator.
     BadConstant = 5,
-    /// A list of the image is too long, or the operands are too many.
+    /// A list of the image is too long, or the operands or the open loops are too many.
     TooDeep = 6,
     /// A run may charge too much.
     OverBudget = 7,

@@ -4,14 +4,22 @@
 #![tactic(auto)]
 
 mod arrivals;
+mod bodies;
+mod bounds;
 mod charges;
 mod constants;
 mod fault;
 mod listed;
+mod loops;
 mod mapped;
+mod measures;
+mod open_loop;
+mod opens;
+mod placing;
 mod program;
 mod refusal;
 mod rules;
+mod sums;
 mod targets;
 mod type_stack;
 mod walk;

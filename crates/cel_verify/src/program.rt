@@ -1,18 +1,21 @@
-ghost use Rattle.std.specs.Prelude.{◌≡◌, ◌↔◌, ◌≤◌, true, List, IsTrue, Err, IfOk, IfErr, MatchOption, MatchResult};
+ghost use Rattle.std.specs.Prelude.{◌≡◌, ◌↔◌, ◌≤◌, true, List, IsTrue, Err, IfOk, IfErr, MatchOption, MatchResult, length};
 ghost use Rattle.cel_operators.specs.Outcomes.{Outcome, slots_fit};
-ghost use Rattle.cel_verify.specs.Sound.{EndsOnce, IsSound, max_depth as most_operands};
+ghost use Rattle.cel_verify.specs.Sound.{EndsOnce, IsSound, max_depth as most_operands, max_loops as most_loops};
 ghost use Rattle.cel_verify.specs.Labelled.{HasLabelling};
-ghost use Rattle.cel_verify.specs.Paths.{IsGreatest, charge_at, path_cost as cost_of_path};
+ghost use Rattle.cel_verify.specs.Paths.{IsGreatest, charge_at, times_at, path_cost as cost_of_path, path_steps as steps_of_path};
 ghost use Rattle.cel_verify.specs.Typed.{RunsWithin};
-ghost use Rattle.cel_verify.specs.Depths.{greatest_depth, NeverMore};
-ghost use Rattle.cel_verify.specs.Accepted.{IsCounted, IsWrongEnd, IsAccepted, IsRefused, fault};
+ghost use Rattle.cel_verify.specs.Depths.{greatest_depth, greatest_nesting, NeverMore, NeverMoreLoops};
+ghost use Rattle.cel_verify.specs.Walked.{AreMeasures};
+ghost use Rattle.cel_verify.specs.Accepted.{IsCounted, IsWrongEnd, IsAccepted, IsRefused, AreBounds, AreCapped, fault, budget};
 
-use crate::charges::path_cost;
+use crate::bounds::Bounds;
 use crate::fault::{VerifyError, VerifyFault, VerifyRule};
+use crate::measures::Measures;
+use crate::sums::path_sum;
 use crate::targets::first_misplaced;
-use crate::walk::{Measures, walk};
+use crate::walk::walk;
 use cel_code::{Image, Instr};
-use std::alloc::Global;
+use std::alloc::{AllocError, Global};
 use std::marker::Model;
 
 const MAX_COUNT: usize = 65_536;
@@ -23,7 +26,7 @@ const BUDGET: u64 = 10_000_000;
 #[derive(Drop)]
 pub struct Program {
     image: Image,
-    depth: usize,
+    bounds: Bounds,
 }
 
 impl Model for Program {
@@ -31,9 +34,7 @@ impl Model for Program {
     ghost use Rattle.cel_value.specs.contracts.cel_type.CelType as cel_type;
     ghost use Rattle.cel_value.specs.contracts.value.Value as cel_value;
     ghost use Rattle.cel_code.specs.declared.image.Image.{Image};
-    ghost use Rattle.cel_verify.specs.Accepted.{IsAccepted};
-    ghost use Rattle.cel_verify.specs.Depths.{greatest_depth};
-    ghost use Rattle.std.specs.Prelude.{◌≡◌};
+    ghost use Rattle.cel_verify.specs.Accepted.{IsAccepted, AreBounds};
 
     ghost Value = { Image };
 
@@ -41,7 +42,7 @@ impl Model for Program {
 
     ghost view = { λ p. p.image };
 
-    ghost invariant = { λ p. IsAccepted p.image × (p.depth ≡ greatest_depth p.image) };
+    ghost invariant = { λ p. IsAccepted p.image × AreBounds p.image p.bounds };
 }
 
 impl Program {
@@ -52,37 +53,62 @@ impl Program {
         &self.image
     }
 
+    /// The charge of the dearest route, 10,000,000 at most: no run charges more.
+    pub fn cost_bound(&self) -> u64
+        ensures cost { result ≡ cost_of_path self.now }
+        ensures within { result ≤ budget }
+    {
+        self.bounds.cost
+    }
+
+    /// The instructions of the longest route: no run takes more steps.
+    pub fn step_bound(&self) -> u64
+        ensures steps { result ≡ steps_of_path self.now }
+    {
+        self.bounds.steps
+    }
+
     /// The most operands on the stack at any instruction, 16,384 at most: no run has more at a time.
     pub fn max_depth(&self) -> usize
         ensures depth { result ≡ greatest_depth self.now }
         ensures within { result ≤ most_operands }
         ensures never_more { (slots : List Outcome) → slots_fit self.now.slots slots ≡ true → NeverMore self.now slots result }
     {
-        self.depth
+        self.bounds.depth
+    }
+
+    /// The most loops that are open at any instruction, 100 at most: no run has more open at a time.
+    pub fn loop_depth(&self) -> usize
+        ensures depth { result ≡ greatest_nesting self.now }
+        ensures within { result ≤ most_loops }
+        ensures never_more { (slots : List Outcome) → slots_fit self.now.slots slots ≡ true → NeverMoreLoops self.now slots result }
+    {
+        self.bounds.nesting
     }
 }
 
 /// The program of an image, exactly where the image is accepted; else the first fault, and the image.
 ///
-/// An accepted image is labelled by the types of its stack, its dearest route charges no more than the budget, and the
-/// machine is never stuck in it: each run ends within as many steps as there are instructions.
+/// An accepted image is labelled by the types of its stack and its open loops, its dearest route charges no more than the
+/// budget, and the machine is never stuck in it: each run ends within as many steps as the longest route has.
 pub fn verify(alloc: Global, image: Image) -> Result<Program, (VerifyError, Image)>
     ensures accepted { MatchResult result (λ p. (p ≡ image) × IsAccepted image) (λ e. IsRefused image e.0) }
     ensures back { IfErr result (λ e. e.1 ≡ image) }
     ensures labelled { IsSound image ↔ HasLabelling image }
-    ensures dearest { IfOk result (λ p. IsGreatest (charge_at image) image.code 0 (cost_of_path image)) }
+    ensures dearest { IfOk result (λ p. IsGreatest (charge_at image) (times_at image) image.code 0 (cost_of_path image)) }
+    ensures longest { IfOk result (λ p. IsGreatest (λ _. 1) (times_at image) image.code 0 (steps_of_path image)) }
     ensures runs { IfOk result (λ p. (slots : List Outcome) → slots_fit image.slots slots ≡ true → RunsWithin image slots) }
 {
     match check(alloc, &image) {
-        Ok(depth) => Ok(Program { image, depth }),
+        Ok(bounds) => Ok(Program { image, bounds }),
         Err(error) => Err((error, image)),
     }
 }
 
-// The most operands at any instruction, where the image is accepted.
-fn check(alloc: Global, image: &Image) -> Result<usize, VerifyError>
+// The bounds of an image that is accepted.
+fn check(alloc: Global, image: &Image) -> Result<Bounds, VerifyError>
     ensures accepted { MatchResult result (λ _. IsAccepted image.now) (λ e. IsRefused image.now e) }
-    ensures depth { IfOk result (λ depth. depth ≡ greatest_depth image.now) }
+    ensures bounds { IfOk result (λ bounds. AreBounds image.now bounds) }
 {
     if !is_counted(image) {
         return refuse(VerifyRule::TooDeep, 0);
@@ -90,17 +116,39 @@ fn check(alloc: Global, image: &Image) -> Result<usize, VerifyError>
     if let Some(at) = wrong_end(image.code.as_slice()) {
         return refuse(VerifyRule::BadTarget, at);
     }
-    let Measures { charges, depth } = walk(alloc, image)?;
+    let measures = walk(alloc, image)?;
     if let Some(at) = first_misplaced(image) {
         return refuse(VerifyRule::BadTarget, at);
     }
-    if path_cost(image, charges) > BUDGET {
+    let bounds = bounded(alloc, image, measures)?;
+    if bounds.cost > BUDGET {
         return refuse(VerifyRule::OverBudget, image.code.len() - 1);
     }
-    Ok(depth)
+    Ok(bounds)
 }
 
-fn refuse(rule: VerifyRule, at: usize) -> Result<usize, VerifyError>
+// The bounds of a sound image, each up to the greatest number.
+fn bounded(alloc: Global, image: &Image, measures: Measures) -> Result<Bounds, AllocError>
+    requires sound { IsSound image.now }
+    requires measured { AreMeasures image.now (length image.now.code) measures }
+    ensures { IfOk result (λ bounds. AreCapped image.now bounds) }
+{
+    let Measures {
+        charges,
+        times,
+        depth,
+        nesting,
+    } = measures;
+    let ones = vec![in alloc; 1; image.code.len()]?;
+    Ok(Bounds {
+        cost: path_sum(image, charges, times.as_slice()),
+        steps: path_sum(image, ones, times.as_slice()),
+        depth,
+        nesting,
+    })
+}
+
+fn refuse(rule: VerifyRule, at: usize) -> Result<Bounds, VerifyError>
     ensures { result ≡ Err (VerifyError.Fault (fault rule at)) }
 {
     Err(VerifyError::Fault(VerifyFault { rule, at }))

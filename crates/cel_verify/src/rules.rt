@@ -1,12 +1,13 @@
-ghost use Rattle.std.specs.Prelude.{◌≡◌, ◌<◌, List, length, slice_get};
+ghost use Rattle.std.specs.Prelude.{◌≡◌, ◌<◌, false, length, slice_get};
 ghost use Rattle.std.specs.List.{AllByRecursion};
 ghost use Rattle.cel_operators.specs.Operators.{row, type_of_two};
 ghost use Rattle.cel_operators.specs.TextOperators.{row_with};
 ghost use Rattle.cel_code.specs.Machine.{constant_text};
 ghost use Rattle.cel_verify.specs.StackTypes.{constant_type};
-ghost use Rattle.cel_verify.specs.Sound.{Open, enters as may_enter, entry_in, jumps_of, typed_rule};
+ghost use Rattle.cel_verify.specs.Sound.{enters as may_enter, entry_in, jumps_of, typed_rule};
 ghost use Rattle.cel_verify.specs.Sound.{text_rule, constant_rule, row_rule, given as given_rule};
-ghost use Rattle.cel_verify.specs.Sound.{test_rule, join_rule, cond_rule, end_rule};
+ghost use Rattle.cel_verify.specs.Sound.{test_rule, join_rule, cond_rule, jump_rule, end_rule};
+ghost use Rattle.cel_verify.specs.Paths.{is_loop};
 ghost use Rattle.cel_verify.specs.Arrivals.{AreArrivals};
 ghost use Rattle.cel_verify.specs.Walked.{Follows, rule_of_one, rule_of_two};
 
@@ -14,7 +15,9 @@ use crate::arrivals::Arrivals;
 use crate::constants::{constant_text, constant_type};
 use crate::fault::VerifyRule;
 use crate::listed::listed;
+use crate::loops::{item, local, next, when};
 use crate::mapped::mapped;
+use crate::opens::Opens;
 use crate::refusal::Refusal;
 use crate::targets::entry;
 use crate::type_stack::TypeStack;
@@ -23,21 +26,25 @@ use cel_code::{Image, Instr};
 use cel_value::{CelType, assignable};
 use std::alloc::Global;
 
-/// The rule of one instruction at the types of the stack: the types that go on to the next one, if any do.
+/// The rule of one instruction that begins no loop, at the types above the innermost frame: the types that go on to the
+/// next one, if any do.
 pub fn typed(
     alloc: Global,
     image: &Image,
     arrivals: &Arrivals,
     instr: Instr,
+    opens: &Opens,
     types: TypeStack,
 ) -> Result<Option<TypeStack>, Refusal>
     requires known { AreArrivals image.now arrivals.now }
     requires inside { AllByRecursion (λ to. to < length image.now.code) (jumps_of instr) }
-    ensures { (opens : List Open) → Follows result (typed_rule image.now instr opens types) }
+    requires plain { is_loop instr ≡ false }
+    ensures { Follows result (typed_rule image.now instr opens.now types) }
 {
     match instr {
         Instr::Const(number) => constant(image, number, types),
         Instr::Slot(number) => slot(image, number, types),
+        Instr::Local(within) => local(opens, within, types),
         Instr::Op(code) => match Operator::from_code(code) {
             Some(op) => operation(alloc, op, types),
             None => Err(Refusal::Broken(VerifyRule::BadConstant)),
@@ -48,13 +55,12 @@ pub fn typed(
         Instr::AndTest(to) | Instr::OrTest(to) => test(image, arrivals, to, types),
         Instr::And | Instr::Or => both_sides(types),
         Instr::Cond(if_false, if_error) => condition(image, arrivals, if_false, if_error, types),
-        Instr::Jump(to) => {
-            if !enters(image, arrivals, to, &types) {
-                return Err(Refusal::Broken(VerifyRule::WrongKind));
-            }
-            Ok(None)
-        }
+        Instr::Jump(to) => jump(image, arrivals, to, &types),
+        Instr::Item => item(types),
+        Instr::When => when(types),
+        Instr::Next => next(alloc, opens, types),
         Instr::End => end(&image.result, types),
+        Instr::Loop(_, _) => unreachable!(),
     }
 }
 
@@ -253,6 +259,22 @@ fn condition(
     }
     types.pop();
     Ok(Some(types))
+}
+
+fn jump(
+    image: &Image,
+    arrivals: &Arrivals,
+    to: usize,
+    types: &TypeStack,
+) -> Result<Option<TypeStack>, Refusal>
+    requires known { AreArrivals image.now arrivals.now }
+    requires inside { to < length image.now.code }
+    ensures { Follows result (jump_rule (entry_in image.now.targets to) types.now) }
+{
+    if !enters(image, arrivals, to, types) {
+        return Err(Refusal::Broken(VerifyRule::WrongKind));
+    }
+    Ok(None)
 }
 
 fn end(result_type: &CelType, mut types: TypeStack) -> Result<Option<TypeStack>, Refusal>

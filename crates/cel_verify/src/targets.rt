@@ -51,7 +51,7 @@ pub fn has_targets(image: &Image, arrivals: &Arrivals, at: usize, instr: Instr) 
     ensures inside { IsTrue result → AllByRecursion (λ to. to < length image.now.code) (jumps_of instr) }
 {
     match instr {
-        Instr::AndTest(to) | Instr::OrTest(to) | Instr::Jump(to) => {
+        Instr::AndTest(to) | Instr::OrTest(to) | Instr::Jump(to) | Instr::Loop(_, to) => {
             is_forward(image, arrivals, at, to)
         }
         Instr::Cond(if_false, if_error) => {

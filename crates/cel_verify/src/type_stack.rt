@@ -1,4 +1,4 @@
-ghost use Rattle.std.specs.Prelude.{◌≡◌, ◌∷◌, [], OnOk, IfOk, MatchOption, length, reverse};
+ghost use Rattle.std.specs.Prelude.{◌≡◌, ◌<◌, ◌∷◌, ◌++◌, [], OnOk, IfOk, MatchOption, length, reverse};
 ghost use Rattle.cel_verify.specs.StackTypes.{all_assignable};
 
 use cel_value::{CelType, assignable, copy_types};
@@ -73,6 +73,29 @@ impl TypeStack {
         ensures { result ≡ all_assignable self.now (reverse entry.now) }
     {
         each_assignable(self.items.as_slice(), entry)
+    }
+
+    /// The same with a type more on top of these.
+    pub fn fits_under(&self, top: &CelType, entry: &[CelType]) -> bool
+        ensures { result ≡ all_assignable (top.now ∷ self.now) (reverse entry.now) }
+    {
+        let Some((below, t)) = last_of(entry) else {
+            return false;
+        };
+        if !assignable(top, t) {
+            return false;
+        }
+        self.fits(below)
+    }
+}
+
+// The last of several types, and those before it.
+fn last_of(types: &[CelType]) -> Option<(&[CelType], &CelType)>
+    ensures { MatchOption result (length types.now < 1) (λ parts. types.now ≡ parts.0.now ++ parts.1.now ∷ []) }
+{
+    match types {
+        [below @ .., t] => Some((below, t)),
+        _ => None,
     }
 }
 

@@ -1,13 +1,18 @@
-ghost use Rattle.std.specs.Prelude.{◌≡◌, ◌+◌, ◌<◌, ◌≤◌, ◌^◌, Some, Ok, Err, false, IsTrue, IfOk, MatchResult};
-ghost use Rattle.std.specs.Prelude.{length, slice_get};
-ghost use Rattle.cel_verify.specs.Sound.{shallow};
+ghost use Rattle.std.specs.Prelude.{◌≡◌, ◌+◌, ◌<◌, ◌≤◌, ◌^◌, ◌||◌, ◌∷◌, [], Some, Ok, Err, false, IsTrue, IfOk, MatchResult};
+ghost use Rattle.std.specs.Prelude.{length, nat_lt, slice_get};
+ghost use Rattle.std.specs.List.{AllByRecursion};
+ghost use Rattle.cel_verify.specs.Sound.{entered, entry_in, jumps_of, shallow, max_depth as most_operands, max_loops as most_loops};
 ghost use Rattle.cel_verify.specs.Arrivals.{AreArrivals};
-ghost use Rattle.cel_verify.specs.Depths.{operands_of, greatest_depth};
-ghost use Rattle.cel_verify.specs.Walked.{Refuses, Advances, AllHold, AreCharges, IsWalkFault, Arrives, arrived, rule_here};
+ghost use Rattle.cel_verify.specs.Walked.{Refuses, Advances, AllHold, AreMeasures, IsWalkFault, Arrives, Passes, TakesNone};
+ghost use Rattle.cel_verify.specs.Walked.{arrived, labelled, rule_here, typed_here};
 
 use crate::arrivals::Arrivals;
-use crate::charges::charge;
 use crate::fault::{VerifyError, VerifyFault, VerifyRule};
+use crate::loops::opened;
+use crate::measures::Measures;
+use crate::open_loop::Open;
+use crate::opens::{Opens, close_ended};
+use crate::placing::is_nested;
 use crate::refusal::Refusal;
 use crate::rules::typed;
 use crate::targets::{entry, entry_is_wanted, has_name, has_targets};
@@ -17,52 +22,32 @@ use std::alloc::Global;
 
 const MAX_DEPTH: usize = 16_384;
 
-/// What is known of code where each instruction keeps its rule.
-#[derive(Drop)]
-pub struct Measures {
-    /// The greatest charge of each instruction.
-    pub charges: Vec<u64>,
-    /// The most operands at any instruction.
-    pub depth: usize,
-}
+const MAX_LOOPS: usize = 100;
 
 /// Each instruction in turn.
 pub fn walk(alloc: Global, image: &Image) -> Result<Measures, VerifyError>
-    ensures rules { MatchResult result
-        (λ measures. AllHold image.now × AreCharges image.now (length image.now.code) measures.charges.items)
-        (λ e. IsWalkFault image.now e) }
-    ensures depth { IfOk result (λ measures. measures.depth ≡ greatest_depth image.now) }
+    ensures rules { MatchResult result (λ _. AllHold image.now) (λ e. IsWalkFault image.now e) }
+    ensures measures { IfOk result (λ measures. AreMeasures image.now (length image.now.code) measures) }
 {
     let _len = image.code.len();
     let arrivals = Arrivals::new(alloc, image)?;
-    let mut charges = Vec::new(alloc);
+    let mut measures = Measures::new(alloc);
     let mut label = Some(TypeStack::new(alloc));
-    let mut depth = 0;
+    let mut opens = Opens::new(alloc);
     let mut at = 0;
     while let Some(instr) = image.code.get(at) {
-        charges.push(charge(image, *instr, &label))?;
-        depth = depth.max(operands(&label));
-        match advance(alloc, image, &arrivals, *instr, at, label) {
+        measures.add(image, *instr, &label, &opens)?;
+        match advance(alloc, image, &arrivals, *instr, at, label, &mut opens) {
             Ok(there) => label = there,
             Err(Refusal::Broken(rule)) => return Err(VerifyError::Fault(VerifyFault { rule, at })),
             Err(Refusal::NoMemory) => return Err(VerifyError::OutOfMemory),
         }
         at += 1;
     }
-    Ok(Measures { charges, depth })
+    Ok(measures)
 }
 
-// How many operands there are, where the instruction is reached.
-fn operands(label: &Option<TypeStack>) -> usize
-    ensures { result ≡ operands_of label.now }
-{
-    match label {
-        Some(types) => types.len(),
-        None => 0,
-    }
-}
-
-// The rule of one instruction: the types of the stack at the next one, if it is reached.
+// The rule of one instruction: the types above the innermost frame at the next one, if it is reached.
 fn advance(
     alloc: Global,
     image: &Image,
@@ -70,12 +55,15 @@ fn advance(
     instr: Instr,
     at: usize,
     label: Option<TypeStack>,
+    opens: &mut Opens,
 ) -> Result<Option<TypeStack>, Refusal>
     requires known { AreArrivals image.now arrivals.now }
     requires there { slice_get image.now.code at ≡ Some instr }
     requires inside { at < length image.now.code }
     requires room { at + 1 < 2 ^ 64 }
-    ensures { MatchResult result (λ there. Advances image.now at label there) (λ r. Refuses r (rule_here image.now at label)) }
+    ensures { MatchResult result
+        (λ there. Advances image.now at (labelled label opens.old) (labelled there opens.new))
+        (λ r. Refuses r (rule_here image.now at (labelled label opens.old))) }
 {
     if !has_name(image, instr) {
         return Err(Refusal::Broken(VerifyRule::BadConstant));
@@ -86,24 +74,100 @@ fn advance(
     let Some(types) = label else {
         return Err(Refusal::Broken(VerifyRule::BadTarget));
     };
-    let falls = typed(alloc, image, arrivals, instr, types)?;
-    go_on(alloc, image, arrivals, at + 1, falls)
+    if !is_nested(image, arrivals, at, instr, opens) {
+        return Err(Refusal::Broken(VerifyRule::BadNesting));
+    }
+    let there = pass(alloc, image, arrivals, instr, at, types, opens)?;
+    close_ended(opens, at + 1);
+    Ok(there)
 }
 
-// The types of the stack at an instruction, where these go on to it.
+// What an instruction's rule asks of the types: those at the next one, if it is reached. A loop that it begins is open then.
+fn pass(
+    alloc: Global,
+    image: &Image,
+    arrivals: &Arrivals,
+    instr: Instr,
+    at: usize,
+    types: TypeStack,
+    opens: &mut Opens,
+) -> Result<Option<TypeStack>, Refusal>
+    requires known { AreArrivals image.now arrivals.now }
+    requires inside { at < length image.now.code }
+    requires room { at + 1 < 2 ^ 64 }
+    requires jumps { AllByRecursion (λ to. to < length image.now.code) (jumps_of instr) }
+    ensures { MatchResult result
+        (λ there. Passes image.now at instr types opens.old there opens.new)
+        (λ r. Refuses r (typed_here image.now at instr types opens.old)) }
+{
+    match instr {
+        Instr::Loop(mode, exit) => {
+            let begun = opened(alloc, image, arrivals, at, mode, exit, types)?;
+            enter(alloc, image, arrivals, at + 1, begun, opens)
+        }
+        _ => {
+            let falls = typed(alloc, image, arrivals, instr, opens, types)?;
+            go_on(alloc, image, arrivals, at + 1, falls, opens)
+        }
+    }
+}
+
+// The types at the first instruction of a loop's body, of which there are none. The loop is open then.
+fn enter(
+    alloc: Global,
+    image: &Image,
+    arrivals: &Arrivals,
+    to: usize,
+    begun: Open,
+    opens: &mut Opens,
+) -> Result<Option<TypeStack>, Refusal>
+    requires known { AreArrivals image.now arrivals.now }
+    requires inside { to ≤ length image.now.code }
+    ensures { MatchResult result
+        (λ there. Arrives image.now to (begun ∷ opens.old) (Some []) there × (opens.new ≡ begun ∷ opens.old))
+        (λ r. Refuses r (arrived image.now to (begun ∷ opens.old) (Ok (Some [])))) }
+{
+    if !takes_none(image, arrivals, to) {
+        return Err(Refusal::Broken(VerifyRule::WrongKind));
+    }
+    let loops = opens.len().saturating_add(1);
+    if is_too_much(begun.below.len(), opens.below(), loops) {
+        return Err(Refusal::Broken(VerifyRule::TooDeep));
+    }
+    opens.push(begun)?;
+    Ok(Some(TypeStack::new(alloc)))
+}
+
+// Whether no types may stand at an instruction.
+fn takes_none(image: &Image, arrivals: &Arrivals, to: usize) -> bool
+    requires known { AreArrivals image.now arrivals.now }
+    requires inside { to ≤ length image.now.code }
+    ensures taken { IsTrue result → TakesNone (entry_in image.now.targets to) }
+    ensures refused { result ≡ false → entered (entry_in image.now.targets to) (Ok (Some [])) ≡ Err VerifyRule.WrongKind }
+{
+    match entry(image, arrivals, to) {
+        Some(types) => types.is_empty(),
+        None => true,
+    }
+}
+
+// The types at an instruction, where these go on to it.
 fn go_on(
     alloc: Global,
     image: &Image,
     arrivals: &Arrivals,
     to: usize,
     falls: Option<TypeStack>,
+    opens: &Opens,
 ) -> Result<Option<TypeStack>, Refusal>
     requires known { AreArrivals image.now arrivals.now }
     requires inside { to ≤ length image.now.code }
-    ensures { MatchResult result (λ there. Arrives image.now to falls there) (λ r. Refuses r (arrived image.now to (Ok falls))) }
+    ensures { MatchResult result
+        (λ there. Arrives image.now to opens.now falls there)
+        (λ r. Refuses r (arrived image.now to opens.now (Ok falls))) }
 {
     let Some(entry) = entry(image, arrivals, to) else {
-        if is_too_deep(&falls) {
+        if is_too_deep(&falls, opens) {
             return Err(Refusal::Broken(VerifyRule::TooDeep));
         }
         return Ok(falls);
@@ -113,18 +177,31 @@ fn go_on(
     {
         return Err(Refusal::Broken(VerifyRule::WrongKind));
     }
-    if is_too_deep(&falls) {
+    if is_too_deep(&falls, opens) {
         return Err(Refusal::Broken(VerifyRule::TooDeep));
     }
     Ok(Some(TypeStack::from_slice(alloc, entry)?))
 }
 
-fn is_too_deep(falls: &Option<TypeStack>) -> bool
-    ensures deep { IsTrue result → shallow (Ok falls.now) ≡ Err VerifyRule.TooDeep }
-    ensures shallow { result ≡ false → shallow (Ok falls.now) ≡ Ok falls.now }
+fn is_too_deep(falls: &Option<TypeStack>, opens: &Opens) -> bool
+    ensures deep { IsTrue result → shallow opens.now (Ok falls.now) ≡ Err VerifyRule.TooDeep }
+    ensures shallow { result ≡ false → shallow opens.now (Ok falls.now) ≡ Ok falls.now }
 {
     match falls {
-        Some(types) => types.len() > MAX_DEPTH,
+        Some(types) => is_too_much(types.len(), opens.below(), opens.len()),
         None => false,
     }
+}
+
+// Whether so many operands on so many others are more than the stack may have, or so many loops more than may be open.
+fn is_too_much(operands: usize, below: usize, loops: usize) -> bool
+    ensures { result ≡ (nat_lt most_operands (operands + below) || nat_lt most_loops loops) }
+{
+    is_more(operands, below) || loops > MAX_LOOPS
+}
+
+fn is_more(operands: usize, below: usize) -> bool
+    ensures { result ≡ nat_lt most_operands (operands + below) }
+{
+    operands.saturating_add(below) > MAX_DEPTH
 }

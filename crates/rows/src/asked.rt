@@ -1,6 +1,6 @@
 //! Tables of rows, each a question with its answer.
 
-use crate::{images, lent, operands, overloads, patterns, slots, trees};
+use crate::{images, lent, loops, operands, overloads, patterns, slots, trees};
 use cel_check::Operator;
 use std::alloc::{AllocError, Global};
 use std::process::Abort;
@@ -16,6 +16,7 @@ pub enum Asked {
     /// What the last of so many runs comes to, where slots hold so many texts.
     Read { texts: usize, runs: usize },
     Refused,
+    Bounds,
     /// The type of this operator's answer.
     Answered(Operator),
 }
@@ -30,6 +31,7 @@ fn answer(alloc: Global, asked: Asked, row: &str) -> Result<String, AllocError> 
         Asked::Named => slots::named(alloc, row),
         Asked::Read { texts, runs } => lent::read(alloc, row, texts, runs),
         Asked::Refused => patterns::refused(alloc, row),
+        Asked::Bounds => loops::bounds(alloc, row),
         Asked::Answered(operator) => overloads::answered(alloc, operator, row),
     }
 }

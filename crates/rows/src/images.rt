@@ -88,7 +88,7 @@ pub fn image(alloc: Global, text: &str) -> Result<String, AllocError> {
     }
 }
 
-static IMAGES: [(&str, &str); 5] = [
+static IMAGES: [(&str, &str); 8] = [
     (
         "true",
         "bool | slots | constants true | targets | code const 0; end;",
@@ -108,6 +108,18 @@ static IMAGES: [(&str, &str); 5] = [
     (
         "'b'.matches('a')",
         "bool | slots | constants 'b' 'a' | targets | code const 0; matches 1; end;",
+    ),
+    (
+        "[1].all(x, x > 0)",
+        "bool | slots | constants 1 0 | targets 8: bool; | code const 0; list 1; loop all 8; item; local 0; const 1; op 18; next; end;",
+    ),
+    (
+        "[1].map(x, true, x)",
+        "list<=1 int | slots | constants 1 true | targets 8: list<=1 int; | code const 0; list 1; loop map 8; item; const 1; when; local 0; next; end;",
+    ),
+    (
+        "[1].filter(x, x == 1 || false)",
+        "list<=1 int | slots | constants 1 false | targets 10: bool; 11: list<=1 int; | code const 0; list 1; loop filter 11; item; local 0; const 0; op 14; or_test 10; const 1; or; next; end;",
     ),
 ];
 

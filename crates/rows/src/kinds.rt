@@ -1,5 +1,6 @@
 //! Constants of the rows, which hold no memory, and how instructions are shown.
 
+use crate::trees::loop_of;
 use cel_check::TextOperator;
 use cel_code::Instr;
 use cel_value::Value;
@@ -27,6 +28,7 @@ pub fn put_instr(out: &mut String, instr: Instr) -> Result<(), AllocError> {
         Instr::Const(number) => write!(out, "const {number}"),
         Instr::Op(code) => write!(out, "op {code}"),
         Instr::Slot(number) => write!(out, "slot {number}"),
+        Instr::Local(number) => write!(out, "local {number}"),
         Instr::WithText(TextOperator::Select, text) => write!(out, "select {text}"),
         Instr::WithText(TextOperator::Has, text) => write!(out, "has {text}"),
         Instr::WithText(TextOperator::Matches, pattern) => write!(out, "matches {pattern}"),
@@ -38,6 +40,10 @@ pub fn put_instr(out: &mut String, instr: Instr) -> Result<(), AllocError> {
         Instr::Or => out.push_str("or"),
         Instr::Cond(if_false, if_error) => write!(out, "cond {if_false} {if_error}"),
         Instr::Jump(to) => write!(out, "jump {to}"),
+        Instr::Loop(kind, exit) => write!(out, "loop {}{exit}", loop_of(kind)),
+        Instr::Item => out.push_str("item"),
+        Instr::When => out.push_str("when"),
+        Instr::Next => out.push_str("next"),
         Instr::End => out.push_str("end"),
     }
 }

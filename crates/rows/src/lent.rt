@@ -49,14 +49,40 @@ static READINGS: [(&str, &str); 7] = [
     ),
 ];
 
+/// Loops over three texts: the two that are read, and the last one.
+static FEW_TURNS: [(&str, &str); 2] = [
+    (
+        "l[0].all(t, size(t) > 0)",
+        "true, charged 28, steps 23, constants 1",
+    ),
+    (
+        "l[0].exists_one(t, size(t) < 2)",
+        "true, charged 28, steps 23, constants 2",
+    ),
+];
+
+/// The same loops over 200 texts.
+static MANY_TURNS: [(&str, &str); 2] = [
+    (
+        "l[0].all(t, size(t) > 0)",
+        "true, charged 1998, steps 1205, constants 1",
+    ),
+    (
+        "l[0].exists_one(t, size(t) < 2)",
+        "true, charged 1998, steps 1205, constants 2",
+    ),
+];
+
 #[test]
 fn little_is_read_once(rt: HostRuntime) {
     hold(&rt, Asked::Read { texts: 2, runs: 1 }, &READINGS);
+    hold(&rt, Asked::Read { texts: 2, runs: 1 }, &FEW_TURNS);
 }
 
 #[test]
 fn little_is_read_often(rt: HostRuntime) {
     hold(&rt, Asked::Read { texts: 2, runs: 11 }, &READINGS);
+    hold(&rt, Asked::Read { texts: 2, runs: 11 }, &FEW_TURNS);
 }
 
 #[test]
@@ -69,6 +95,14 @@ fn much_is_read_once(rt: HostRuntime) {
         },
         &READINGS,
     );
+    hold(
+        &rt,
+        Asked::Read {
+            texts: 199,
+            runs: 1,
+        },
+        &MANY_TURNS,
+    );
 }
 
 #[test]
@@ -80,5 +114,13 @@ fn much_is_read_often(rt: HostRuntime) {
             runs: 11,
         },
         &READINGS,
+    );
+    hold(
+        &rt,
+        Asked::Read {
+            texts: 199,
+            runs: 11,
+        },
+        &MANY_TURNS,
     );
 }

@@ -16,6 +16,8 @@ mod kinds;
 #[cfg(test)]
 mod lent;
 #[cfg(test)]
+mod loops;
+#[cfg(test)]
 mod operands;
 #[cfg(test)]
 mod overloads;

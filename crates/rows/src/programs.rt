@@ -5,6 +5,7 @@ use crate::kinds::{Constant, value_of};
 use cel_check::TextOperator;
 use cel_code::{Image, Instr, Target};
 use cel_machine::{Matchers, Run, RunFault, Slots, run, slots_fit};
+use cel_parse::Loop;
 use cel_value::{CelError, CelType, Value};
 use cel_verify::{Program, VerifyRule, verify};
 use plain::Items;
@@ -722,6 +723,191 @@ static NULLS: [(Written<'static>, &str); 13] = [
 #[test]
 fn null_is_an_error_where_a_kind_is_asked(rt: HostRuntime) {
     come_to(&rt, rt.alloc(), &NULLS);
+}
+
+/// The constant `true`, over whose list a row's code loops.
+const LOOPING: Written<'static> = Written {
+    result: TRUTH,
+    slots: &[],
+    held: &[],
+    constants: &[Constant::Truth(true)],
+    targets: &[(7, &[TRUTH])],
+    code: &[],
+};
+
+static LOOPS: [(Written<'static>, &str); 11] = [
+    // `[true].all(x, true)`
+    (
+        Written {
+            targets: &[(6, &[TRUTH])],
+            code: &[
+                Instr::Const(0),
+                Instr::List(1),
+                Instr::Loop(Loop::All, 6),
+                Instr::Item,
+                Instr::Const(0),
+                Instr::Next,
+                Instr::End,
+            ],
+            ..LOOPING
+        },
+        "true, charged 4, steps 7, constants 1",
+    ),
+    // A jump into a loop's body.
+    (
+        Written {
+            targets: &[(4, &[]), (7, &[TRUTH])],
+            code: &[
+                Instr::Const(0),
+                Instr::List(1),
+                Instr::Jump(4),
+                Instr::Loop(Loop::All, 7),
+                Instr::Item,
+                Instr::Const(0),
+                Instr::Next,
+                Instr::End,
+            ],
+            ..LOOPING
+        },
+        "BadNesting at 2 of 8",
+    ),
+    // A second value in the body.
+    (
+        Written {
+            code: &[
+                Instr::Const(0),
+                Instr::List(1),
+                Instr::Loop(Loop::All, 7),
+                Instr::Item,
+                Instr::Const(0),
+                Instr::Const(0),
+                Instr::Next,
+                Instr::End,
+            ],
+            ..LOOPING
+        },
+        "WrongKind at 6 of 8",
+    ),
+    // A predicate apart from the body, in a loop that is no `map`.
+    (
+        Written {
+            targets: &[(8, &[TRUTH])],
+            code: &[
+                Instr::Const(0),
+                Instr::List(1),
+                Instr::Loop(Loop::All, 8),
+                Instr::Item,
+                Instr::Const(0),
+                Instr::When,
+                Instr::Const(0),
+                Instr::Next,
+                Instr::End,
+            ],
+            ..LOOPING
+        },
+        "BadNesting at 5 of 9",
+    ),
+    // A loop that takes no items, and one that gathers none.
+    (
+        Written {
+            code: &[
+                Instr::Const(0),
+                Instr::List(1),
+                Instr::Loop(Loop::All, 7),
+                Instr::Const(0),
+                Instr::Item,
+                Instr::Const(0),
+                Instr::Next,
+                Instr::End,
+            ],
+            ..LOOPING
+        },
+        "BadNesting at 2 of 8",
+    ),
+    (
+        Written {
+            code: &[
+                Instr::Const(0),
+                Instr::List(1),
+                Instr::Loop(Loop::All, 7),
+                Instr::Item,
+                Instr::Const(0),
+                Instr::Next,
+                Instr::Const(0),
+                Instr::End,
+            ],
+            ..LOOPING
+        },
+        "BadNesting at 2 of 8",
+    ),
+    // An inner loop that ends behind the outer one.
+    (
+        Written {
+            targets: &[(9, &[TRUTH]), (10, &[TRUTH])],
+            code: &[
+                Instr::Const(0),
+                Instr::List(1),
+                Instr::List(1),
+                Instr::Loop(Loop::All, 9),
+                Instr::Item,
+                Instr::Local(0),
+                Instr::Loop(Loop::All, 10),
+                Instr::Item,
+                Instr::Next,
+                Instr::Next,
+                Instr::End,
+            ],
+            ..LOOPING
+        },
+        "BadNesting at 3 of 11",
+    ),
+    // Instructions of a loop outside of all.
+    (
+        Written {
+            targets: &[],
+            code: &[Instr::Item, Instr::Const(0), Instr::End],
+            ..LOOPING
+        },
+        "BadNesting at 0 of 3",
+    ),
+    (
+        Written {
+            targets: &[],
+            code: &[Instr::Const(0), Instr::Next, Instr::End],
+            ..LOOPING
+        },
+        "BadNesting at 1 of 3",
+    ),
+    // The item of a loop that is not there.
+    (
+        Written {
+            targets: &[],
+            code: &[Instr::Local(0), Instr::End],
+            ..LOOPING
+        },
+        "Underflow at 0 of 2",
+    ),
+    // A range that has no items.
+    (
+        Written {
+            targets: &[(5, &[TRUTH])],
+            code: &[
+                Instr::Const(0),
+                Instr::Loop(Loop::All, 5),
+                Instr::Item,
+                Instr::Const(0),
+                Instr::Next,
+                Instr::End,
+            ],
+            ..LOOPING
+        },
+        "WrongKind at 1 of 6",
+    ),
+];
+
+#[test]
+fn a_loop_stands_in_its_place(rt: HostRuntime) {
+    come_to(&rt, rt.alloc(), &LOOPS);
 }
 
 static RULES: [(VerifyRule, u8); 7] = [

@@ -32,7 +32,8 @@ fn binary_of(operator: BinaryOperator) -> &'static str {
     }
 }
 
-fn loop_of(kind: Loop) -> &'static str {
+/// A kind of loop by its name.
+pub fn loop_of(kind: Loop) -> &'static str {
     match kind {
         Loop::All => "all ",
         Loop::Exists => "exists ",

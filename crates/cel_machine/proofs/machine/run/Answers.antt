@@ -1,17 +1,20 @@
-use Rattle.std.proofs.Common.{◌+◌, [], length, sym, ap, ◌∙◌, arith}
-use Rattle.cel_verify.specs.Paths.{path_cost}
-use Rattle.cel_verify.specs.Depths.{greatest_depth}
-use Rattle.cel_verify.proofs.Turns.{starts}
+use Rattle.std.proofs.Common.{◌+◌, sym, ap, ◌∙◌, arith}
+use Rattle.cel_verify.specs.Paths.{path_cost, path_steps}
+use Rattle.cel_verify.specs.Depths.{greatest_depth, greatest_nesting}
 use Rattle.cel_verify.proofs.Walking.{no_end}
-use Rattle.cel_machine.proofs.Running.{here, deep, goes, there, outcome_fits, not_stuck}
+use Rattle.cel_machine.proofs.Running.{begun, here, deep, nested, goes, there, outcome_fits, not_stuck}
 use Rattle.cel_machine.proofs.machine.run.Goals as goal
 
 pub loop-instr-init : goal.loop-instr-init
 loop-instr-init c = (
-  starts c.image-image.result.now c.args.slots.now c.in_ok-stack.stack.items c.in_ok-stack.ensures.items,
+  begun c.image-image.result.now c.args.slots.now c.in_ok-stack.stack.items c.in_ok-frames.frames.items c.in_ok-stack.ensures.items
+      c.in_ok-frames.ensures.items,
   c.in_ok-stack.ensures.room
       ∙ ap (λ n. n + 1) c.max_depth.ensures.depth
       ∙ ap (λ p. greatest_depth p + 1) (sym c.image-image.ensures.image),
+  c.in_ok-frames.ensures.room
+      ∙ ap (λ n. n + 1) c.loop_depth.ensures.depth
+      ∙ ap (λ p. greatest_nesting p + 1) (sym c.image-image.ensures.image),
 )
 
 pub step-requires-clause-at : goal.step-requires-clause-at
@@ -19,7 +22,7 @@ step-requires-clause-at c =
     let l = c.loop-instr in
     let i = c.image-image in
     let run = here c.args.program.now i.result.now c.args.slots.now i.ensures.accepted i.ensures.image c.requires in
-    let h = run l.at l.stack.items l.charged l.steps l.invariant.0 in
+    let h = run l.at l.stack.items l.frames.items l.charged l.steps l.invariant.0 in
     omega (arith, h.room)
 
 pub step-requires-clause-room : goal.step-requires-clause-room
@@ -27,16 +30,24 @@ step-requires-clause-room c =
     let l = c.loop-instr in
     let i = c.image-image in
     let run = deep c.args.program.now i.result.now c.args.slots.now i.ensures.accepted i.ensures.image c.requires in
-    let h = run l.at l.stack.items l.charged l.steps l.invariant.0 in
+    let h = run l.at l.stack.items l.frames.items l.charged l.steps l.invariant.0 in
     omega (arith, l.invariant.1)
+
+pub step-requires-clause-frame_room : goal.step-requires-clause-frame_room
+step-requires-clause-frame_room c =
+    let l = c.loop-instr in
+    let i = c.image-image in
+    let run = nested c.args.program.now i.result.now c.args.slots.now i.ensures.accepted i.ensures.image c.requires in
+    let h = run l.at l.stack.items l.frames.items l.charged l.steps l.invariant.0 in
+    omega (arith, l.invariant.2)
 
 pub overflow_add-charged : goal.overflow_add-charged
 overflow_add-charged c =
     let l = c.loop-instr in
     let i = c.image-image in
     let run = there c.args.program.now i.result.now c.args.slots.now i.ensures.accepted i.ensures.image c.requires in
-    let turn = run l.at l.stack.items l.charged l.steps l.invariant.0 c.in-Some.instr.now c.in_ok-charge.field-0 in
-    let after = turn c.step.new.stack.items (sym c.in-Some.ensures.value) (c.in_ok-charge.ensures.acts []) in
+    let turn = run l.at l.stack.items l.frames.items l.charged l.steps l.invariant.0 c.in-Some.instr.now c.in_ok-charge.field-0 in
+    let after = turn c.step.new.stack.items c.step.new.frames.items (sym c.in-Some.ensures.value) c.in_ok-charge.ensures.acts in
     let t = after c.in-GoesTo.charge c.in-GoesTo.to c.in-GoesTo.is in
     omega (arith, t.cheap)
 
@@ -45,7 +56,7 @@ overflow_add-steps c =
     let l = c.loop-instr in
     let i = c.image-image in
     let run = here c.args.program.now i.result.now c.args.slots.now i.ensures.accepted i.ensures.image c.requires in
-    let h = run l.at l.stack.items l.charged l.steps l.invariant.0 in
+    let h = run l.at l.stack.items l.frames.items l.charged l.steps l.invariant.0 in
     omega (arith, h.few)
 
 pub loop-instr-smaller : goal.loop-instr-smaller
@@ -53,7 +64,7 @@ loop-instr-smaller c =
     let l = c.loop-instr in
     let i = c.image-image in
     let run = here c.args.program.now i.result.now c.args.slots.now i.ensures.accepted i.ensures.image c.requires in
-    let h = run l.at l.stack.items l.charged l.steps l.invariant.0 in
+    let h = run l.at l.stack.items l.frames.items l.charged l.steps l.invariant.0 in
     omega (arith, h.within)
 
 pub loop-instr-preserved : goal.loop-instr-preserved
@@ -61,10 +72,11 @@ loop-instr-preserved c =
     let l = c.loop-instr in
     let i = c.image-image in
     let run = goes c.args.program.now i.result.now c.args.slots.now i.ensures.accepted i.ensures.image c.requires in
-    let turn = run l.at l.stack.items l.charged l.steps l.invariant.0 c.in-Some.instr.now c.in_ok-charge.field-0 in
-    let after = turn c.step.new.stack.items (sym c.in-Some.ensures.value) (c.in_ok-charge.ensures.acts []) in (
+    let turn = run l.at l.stack.items l.frames.items l.charged l.steps l.invariant.0 c.in-Some.instr.now c.in_ok-charge.field-0 in
+    let after = turn c.step.new.stack.items c.step.new.frames.items (sym c.in-Some.ensures.value) c.in_ok-charge.ensures.acts in (
       after c.in-GoesTo.charge c.in-GoesTo.to c.in-GoesTo.is,
       c.step.ensures.room ∙ l.invariant.1,
+      c.step.ensures.frame_room ∙ l.invariant.2,
     )
 
 pub overflow_add-result : goal.overflow_add-result
@@ -72,7 +84,7 @@ overflow_add-result c =
     let l = c.loop-instr in
     let i = c.image-image in
     let run = here c.args.program.now i.result.now c.args.slots.now i.ensures.accepted i.ensures.image c.requires in
-    let h = run l.at l.stack.items l.charged l.steps l.invariant.0 in
+    let h = run l.at l.stack.items l.frames.items l.charged l.steps l.invariant.0 in
     omega (arith, h.few)
 
 pub returns-in-EndsWith-clause-fits : goal.returns-in-EndsWith-clause-fits
@@ -80,8 +92,8 @@ returns-in-EndsWith-clause-fits c =
     let l = c.loop-instr in
     let i = c.image-image in
     let run = outcome_fits c.args.program.now i.result.now c.args.slots.now i.ensures.accepted i.ensures.image c.requires in
-    let turn = run l.at l.stack.items l.charged l.steps l.invariant.0 c.in-Some.instr.now c.in_ok-charge.field-0 in
-    let after = turn c.step.new.stack.items (sym c.in-Some.ensures.value) (c.in_ok-charge.ensures.acts []) in
+    let turn = run l.at l.stack.items l.frames.items l.charged l.steps l.invariant.0 c.in-Some.instr.now c.in_ok-charge.field-0 in
+    let after = turn c.step.new.stack.items c.step.new.frames.items (sym c.in-Some.ensures.value) c.in_ok-charge.ensures.acts in
     after c.in-EndsWith.outcome c.in-EndsWith.is
 
 pub returns-in-EndsWith-clause-steps : goal.returns-in-EndsWith-clause-steps
@@ -89,15 +101,15 @@ returns-in-EndsWith-clause-steps c =
     let l = c.loop-instr in
     let i = c.image-image in
     let run = here c.args.program.now i.result.now c.args.slots.now i.ensures.accepted i.ensures.image c.requires in
-    let h = run l.at l.stack.items l.charged l.steps l.invariant.0 in
-    omega (arith, h.counted, ap (λ p. length p.code) i.ensures.image)
+    let h = run l.at l.stack.items l.frames.items l.charged l.steps l.invariant.0 in
+    omega (arith, h.within, ap path_steps i.ensures.image)
 
 pub returns-in-EndsWith-clause-charged : goal.returns-in-EndsWith-clause-charged
 returns-in-EndsWith-clause-charged c =
     let l = c.loop-instr in
     let i = c.image-image in
     let run = here c.args.program.now i.result.now c.args.slots.now i.ensures.accepted i.ensures.image c.requires in
-    let h = run l.at l.stack.items l.charged l.steps l.invariant.0 in
+    let h = run l.at l.stack.items l.frames.items l.charged l.steps l.invariant.0 in
     omega (arith, h.cost, ap path_cost i.ensures.image)
 
 pub returns-in-EndsWith-clause-within_budget : goal.returns-in-EndsWith-clause-within_budget
@@ -105,7 +117,7 @@ returns-in-EndsWith-clause-within_budget c =
     let l = c.loop-instr in
     let i = c.image-image in
     let run = here c.args.program.now i.result.now c.args.slots.now i.ensures.accepted i.ensures.image c.requires in
-    let h = run l.at l.stack.items l.charged l.steps l.invariant.0 in
+    let h = run l.at l.stack.items l.frames.items l.charged l.steps l.invariant.0 in
     omega (arith, h.cheap)
 
 pub unreachable-requires : goal.unreachable-requires
@@ -113,8 +125,8 @@ unreachable-requires c =
     let l = c.loop-instr in
     let i = c.image-image in
     let run = not_stuck c.args.program.now i.result.now c.args.slots.now i.ensures.accepted i.ensures.image c.requires in
-    let turn = run l.at l.stack.items l.charged l.steps l.invariant.0 c.in-Some.instr.now c.in_ok-charge.field-0 in
-    let after = turn c.step.new.stack.items (sym c.in-Some.ensures.value) (c.in_ok-charge.ensures.acts []) in
+    let turn = run l.at l.stack.items l.frames.items l.charged l.steps l.invariant.0 c.in-Some.instr.now c.in_ok-charge.field-0 in
+    let after = turn c.step.new.stack.items c.step.new.frames.items (sym c.in-Some.ensures.value) c.in_ok-charge.ensures.acts in
     after c.in-IsStuckHere.is
 
 pub unreachable-requires-2 : goal.unreachable-requires-2
@@ -122,5 +134,5 @@ unreachable-requires-2 c =
     let l = c.loop-instr in
     let i = c.image-image in
     let run = here c.args.program.now i.result.now c.args.slots.now i.ensures.accepted i.ensures.image c.requires in
-    let h = run l.at l.stack.items l.charged l.steps l.invariant.0 in
+    let h = run l.at l.stack.items l.frames.items l.charged l.steps l.invariant.0 in
     no_end i.result.now.code l.at h.inside (sym c.in_default.ensures.value)

@@ -52,3 +52,8 @@ returns-in-Texts c =
 
 pub returns-in-Members : goal.returns-in-Members
 returns-in-Members c = of_kind _ _ _ _ c.in-Members.is c.has_members.ensures
+
+pub returns-in-Ranged : goal.returns-in-Ranged
+returns-in-Ranged c =
+    of_kind _ _ _ _ c.in-Ranged.is
+    (c.is_some-in-Ranged.ensures ∙ some-there _ _ c.most_items.ensures ∙ there-mapped _ _)

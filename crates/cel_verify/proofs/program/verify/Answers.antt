@@ -13,5 +13,8 @@ returns-in-Err-clause-labelled c = (sound_labelled c.args.image, has_sound c.arg
 pub returns-in-Ok-clause-dearest : goal.returns-in-Ok-clause-dearest
 returns-in-Ok-clause-dearest c = greatest_path c.args.image c.in-Ok.ensures.accepted.sound (charge_at c.args.image)
 
+pub returns-in-Ok-clause-longest : goal.returns-in-Ok-clause-longest
+returns-in-Ok-clause-longest c = greatest_path c.args.image c.in-Ok.ensures.accepted.sound (λ _. 1)
+
 pub returns-in-Ok-clause-runs : goal.returns-in-Ok-clause-runs
 returns-in-Ok-clause-runs c = λ slots fits. runs_within c.args.image slots c.in-Ok.ensures.accepted.sound fits

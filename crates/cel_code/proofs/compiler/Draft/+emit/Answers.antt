@@ -2,9 +2,11 @@ use Rattle.std.proofs.Common.{◌++◌, [], ◌∷◌, refl, ap, ◌∙◌, arit
 use Rattle.std.proofs.lemmas.Result.{on_ok_weaker}
 use Rattle.cel_code.proofs.Leaving.{split_at, none_left, goes_on, entry_goes_on, all_stand, all_written}
 use Rattle.cel_code.proofs.Place.{emits_items, emits_literal, emits_unary, emits_binary, emits_both, emits_either, emits_conditional}
-use Rattle.cel_code.proofs.Place.{emits_slot, emits_entries, emits_with_text}
+use Rattle.cel_code.proofs.Place.{emits_slot, emits_local, emits_entries, emits_with_text, emits_loop, emits_map_where}
 use Rattle.cel_code.proofs.Written.{writes_binary, writes_both, writes_either, writes_conditional, writes_entries, writes_with_text}
+use Rattle.cel_code.proofs.Written.{writes_body, writes_loop, writes_map_where}
 use Rattle.cel_check.specs.Meaning.{by_turns}
+use Rattle.cel_code.specs.declared.compiler.Draft.{Draft}
 use Rattle.cel_code.proofs.compiler.Draft.+emit.Goals as goal
 
 pub emit_within-returns-in_ok-number-in-Literal-clause-stands : goal.emit_within-returns-in_ok-number-in-Literal-clause-stands
@@ -15,6 +17,10 @@ emit_within-returns-in_ok-number-in-Literal-clause-stands t c =
 pub emit_within-returns-in-Slot-clause-stands : goal.emit_within-returns-in-Slot-clause-stands
 emit_within-returns-in-Slot-clause-stands t c =
     on_ok_weaker c.put-in-Slot.result (λ e. emits_slot _ _ _ _ c.in-Slot.is e) c.put-in-Slot.ensures.code
+
+pub emit_within-returns-in-Local-clause-stands : goal.emit_within-returns-in-Local-clause-stands
+emit_within-returns-in-Local-clause-stands t c =
+    on_ok_weaker c.put-in-Local.result (λ e. emits_local _ _ _ _ c.in-Local.is e) c.put-in-Local.ensures.code
 
 pub emit_within-returns-in_ok-emit-in-Unary-clause-stands : goal.emit_within-returns-in_ok-emit-in-Unary-clause-stands
 emit_within-returns-in_ok-emit-in-Unary-clause-stands t c =
@@ -142,3 +148,46 @@ pub emit_each-returns-clause-writes : goal.emit_each-returns-clause-writes
 emit_each-returns-clause-writes t c =
     let l = c.loop-tree in
     all_written _ _ _ _ (none_left c.args.trees.now l.tree-index (omega (arith, c.loop-tree-test.false))) l.invariant
+
+pub emit_loop-returns-clause-stands : goal.emit_loop-returns-clause-stands
+emit_loop-returns-clause-stands t c =
+    on_ok_weaker c.close_loop.result
+    (λ e.
+    emits_loop _ _ _ _ _ _ _ _ _ _ _ c.requires.is c.in_ok-emit.ensures.stands c.in_ok-start.ensures.place c.in_ok-start.ensures.code
+    c.in_ok-emit_body.ensures.stands refl e)
+    c.close_loop.ensures.code
+
+pub emit_loop-returns-clause-writes : goal.emit_loop-returns-clause-writes
+emit_loop-returns-clause-writes t c =
+    on_ok_weaker c.close_loop.result
+    (λ g.
+    writes_loop _ _ _ _ _ _ _ _ _ c.requires.is c.in_ok-emit.ensures.writes c.in_ok-start.ensures.grows c.in_ok-emit_body.ensures.writes g)
+    c.close_loop.ensures.grows
+
+pub emit_map_where-returns-clause-stands : goal.emit_map_where-returns-clause-stands
+emit_map_where-returns-clause-stands t c =
+    on_ok_weaker c.close_loop.result
+    (λ e.
+    emits_map_where _ _ _ _ _ _ _ _ _ _ _ _ _ c.requires.is c.in_ok-emit.ensures.stands c.in_ok-start.ensures.place
+    c.in_ok-start.ensures.code c.in_ok-emit_body.ensures.stands c.in_ok-put.ensures.code c.in_ok-emit_body-2.ensures.stands refl e)
+    c.close_loop.ensures.code
+
+pub emit_map_where-returns-clause-writes : goal.emit_map_where-returns-clause-writes
+emit_map_where-returns-clause-writes t c =
+    on_ok_weaker c.close_loop.result
+    (λ g.
+    writes_map_where _ _ _ _ _ _ _ _ _ _ _ c.requires.is c.in_ok-emit.ensures.writes c.in_ok-start.ensures.grows
+    c.in_ok-emit_body.ensures.writes c.in_ok-put.ensures.grows c.in_ok-emit_body-2.ensures.writes g)
+    c.close_loop.ensures.grows
+
+pub emit_body-returns-clause-stands : goal.emit_body-returns-clause-stands
+emit_body-returns-clause-stands t c = c.emit-emitted.ensures.stands
+
+pub emit_body-returns-clause-writes : goal.emit_body-returns-clause-writes
+emit_body-returns-clause-writes t c =
+    let old = c.args.self.now in
+    let aside : Draft = record old { below = c.replace-below.new.dest } in
+    on_ok_weaker c.emit-emitted.result
+    (λ w.
+    writes_body old aside c.emit-emitted.new.self _ _ refl refl (c.replace-below.ensures.after ∙ c.new.ensures) w refl refl c.replace-below.ensures.value)
+    c.emit-emitted.ensures.writes

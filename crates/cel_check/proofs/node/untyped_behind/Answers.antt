@@ -1,5 +1,0 @@
-use Rattle.std.proofs.Common.{rules}
-use Rattle.cel_check.proofs.node.untyped_behind.Goals as goal
-
-pub returns : goal.returns
-returns c = search rules

@@ -1,0 +1,224 @@
+//! The instructions of loops.
+
+ghost use Rattle.std.specs.Prelude.{◌≡◌, ◌+◌, ◌<◌, ◌^◌, List, Some, Ok, IfOk, slice_get};
+ghost use Rattle.cel_operators.specs.Outcomes.{Outcome};
+ghost use Rattle.cel_code.specs.Machine.{item_of, slot, opened, gone_on};
+ghost use Rattle.cel_machine.specs.Ranges.{range_items};
+ghost use Rattle.cel_machine.specs.Room.{HasRoom, HasFrameRoom};
+ghost use Rattle.cel_machine.specs.Follow.{Follows, Turns, loop_of, item_in, when_in, side_in, next_in};
+
+use crate::frame::Frame;
+use crate::frames::Frames;
+use crate::operand::{own, read};
+use crate::range::{Range, ranged};
+use crate::stack::Stack;
+use crate::step::Move;
+use crate::turning::{Turned, nothing_yet, result_of};
+use cel_apply::truth;
+use cel_parse::Loop;
+use cel_value::CelError;
+use std::alloc::{AllocError, Global};
+
+/// The item at which an open loop is.
+pub fn local<'a>(
+    alloc: Global,
+    number: usize,
+    at: usize,
+    stack: &mut Stack<'a>,
+    frames: &Frames<'a>,
+) -> Result<Move, AllocError>
+    requires at { at + 1 < 2 ^ 64 }
+    requires room { HasRoom stack.old }
+    ensures acts { IfOk result (λ m. Follows (slot (item_of (slice_get frames.now.items number)) at stack.old.items frames.now.items)
+        m stack.new.items frames.now.items) }
+    ensures room { stack.new.room ≡ stack.old.room }
+{
+    let Some(frame) = frames.get(number) else {
+        return Ok(Move::IsStuckHere);
+    };
+    stack.push(Ok(frame.item(alloc)?));
+    Ok(Move::GoesTo(1, at + 1))
+}
+
+/// A loop over what is on top: it is opened, or its error or the result of no items goes where it leads.
+pub fn open_loop<'a>(
+    alloc: Global,
+    mode: Loop,
+    exit: usize,
+    at: usize,
+    stack: &mut Stack<'a>,
+    frames: &mut Frames<'a>,
+) -> Move
+    requires at { at + 1 < 2 ^ 64 }
+    requires room { HasRoom stack.old }
+    requires frame_room { HasFrameRoom frames.old }
+    ensures acts { Follows (loop_of mode exit stack.old.items at frames.old.items) result stack.new.items frames.new.items }
+    ensures room { stack.new.room ≡ stack.old.room }
+    ensures frame_room { frames.new.room ≡ frames.old.room }
+{
+    let Some(x) = stack.pop() else {
+        return Move::IsStuckHere;
+    };
+    match ranged(x) {
+        Some(Ok(range)) => open_over(alloc, mode, exit, at, range, stack, frames),
+        Some(Err(error)) => {
+            stack.push(Err(error));
+            Move::GoesTo(1, exit)
+        }
+        None => Move::IsStuckHere,
+    }
+}
+
+// A loop over a range.
+fn open_over<'a>(
+    alloc: Global,
+    mode: Loop,
+    exit: usize,
+    at: usize,
+    range: Range<'a>,
+    stack: &mut Stack<'a>,
+    frames: &mut Frames<'a>,
+) -> Move
+    requires at { at + 1 < 2 ^ 64 }
+    requires room { HasRoom stack.old }
+    requires frame_room { HasFrameRoom frames.old }
+    ensures acts { Follows (opened mode (Some (Ok (range_items range.entry))) exit at stack.old.items frames.old.items)
+        result stack.new.items frames.new.items }
+    ensures room { stack.new.room ≡ stack.old.room }
+    ensures frame_room { frames.new.room ≡ frames.old.room }
+{
+    if range.len() == 0 {
+        stack.push(own(result_of(mode, nothing_yet(alloc))));
+        return Move::GoesTo(1, exit);
+    }
+    frames.push(Frame::new(alloc, at, exit, mode, range));
+    Move::GoesTo(1, at + 1)
+}
+
+/// The next item of the innermost loop.
+pub fn item(at: usize, frames: &mut Frames<'_>) -> Move
+    requires at { at + 1 < 2 ^ 64 }
+    requires frame_room { HasFrameRoom frames.old }
+    ensures acts { (stack : List Outcome) → Follows (item_in at stack frames.old.items) result stack frames.new.items }
+    ensures frame_room { frames.new.room ≡ frames.old.room }
+{
+    let Some(mut frame) = frames.pop() else {
+        return Move::IsStuckHere;
+    };
+    if !frame.advance() {
+        return Move::IsStuckHere;
+    }
+    frames.push(frame);
+    Move::GoesTo(1, at + 1)
+}
+
+/// The predicate of the innermost loop: true goes on, false drops the item, and an error ends the loop.
+pub fn when<'a>(at: usize, stack: &mut Stack<'a>, frames: &mut Frames<'a>) -> Move
+    requires at { at + 1 < 2 ^ 64 }
+    requires room { HasRoom stack.old }
+    requires frame_room { HasFrameRoom frames.old }
+    ensures acts { Follows (when_in at stack.old.items frames.old.items) result stack.new.items frames.new.items }
+    ensures room { stack.new.room ≡ stack.old.room }
+    ensures frame_room { frames.new.room ≡ frames.old.room }
+{
+    let Some(x) = stack.pop() else {
+        return Move::IsStuckHere;
+    };
+    test(truth(read(&x)), at, stack, frames)
+}
+
+// What the predicate gave.
+fn test<'a>(
+    side: Option<Result<bool, CelError>>,
+    at: usize,
+    stack: &mut Stack<'a>,
+    frames: &mut Frames<'a>,
+) -> Move
+    requires at { at + 1 < 2 ^ 64 }
+    requires room { HasRoom stack.old }
+    requires frame_room { HasFrameRoom frames.old }
+    ensures acts { Follows (side_in side at stack.old.items frames.old.items) result stack.new.items frames.new.items }
+    ensures room { stack.new.room ≡ stack.old.room }
+    ensures frame_room { frames.new.room ≡ frames.old.room }
+{
+    let Some(frame) = frames.pop() else {
+        return Move::IsStuckHere;
+    };
+    match (frame.mode(), side) {
+        (Loop::Map, Some(Ok(true))) => {
+            frames.push(frame);
+            Move::GoesTo(0, at + 1)
+        }
+        (Loop::Map, Some(Ok(false))) => go_on(frame, stack, frames),
+        (Loop::Map, Some(Err(error))) => {
+            stack.push(Err(error));
+            Move::GoesTo(0, frame.exit())
+        }
+        _ => Move::IsStuckHere,
+    }
+}
+
+/// What the body of the innermost loop gave for the item.
+pub fn next<'a>(
+    alloc: Global,
+    stack: &mut Stack<'a>,
+    frames: &mut Frames<'a>,
+) -> Result<Move, AllocError>
+    requires room { HasRoom stack.old }
+    requires frame_room { HasFrameRoom frames.old }
+    ensures acts { IfOk result (λ m. Follows (next_in stack.old.items frames.old.items) m stack.new.items frames.new.items) }
+    ensures room { stack.new.room ≡ stack.old.room }
+    ensures frame_room { frames.new.room ≡ frames.old.room }
+{
+    let Some(x) = stack.pop() else {
+        return Ok(Move::IsStuckHere);
+    };
+    let Some(mut frame) = frames.pop() else {
+        return Ok(Move::IsStuckHere);
+    };
+    let turned = frame.turn(alloc, x);
+    close(turned, frame, stack, frames)
+}
+
+// Behind a turn: the loop ends, or goes on with what it has gathered.
+fn close<'a>(
+    turned: Result<Turned, AllocError>,
+    frame: Frame<'a>,
+    stack: &mut Stack<'a>,
+    frames: &mut Frames<'a>,
+) -> Result<Move, AllocError>
+    requires room { HasRoom stack.old }
+    requires frame_room { HasFrameRoom frames.old }
+    ensures acts { IfOk result (λ m. Turns turned frame.entry stack.old.items frames.old.items m stack.new.items frames.new.items) }
+    ensures room { stack.new.room ≡ stack.old.room }
+    ensures frame_room { frames.new.room ≡ frames.old.room }
+{
+    match turned {
+        Ok(Turned::GoesOn) => Ok(go_on(frame, stack, frames)),
+        Ok(Turned::Closes(outcome)) => {
+            stack.push(own(outcome));
+            Ok(Move::GoesTo(0, frame.exit()))
+        }
+        Ok(Turned::IsStuck) => Ok(Move::IsStuckHere),
+        Err(error) => Err(error),
+    }
+}
+
+// To the next item, or out of the loop with its result where none is left.
+fn go_on<'a>(frame: Frame<'a>, stack: &mut Stack<'a>, frames: &mut Frames<'a>) -> Move
+    requires room { HasRoom stack.old }
+    requires frame_room { HasFrameRoom frames.old }
+    ensures acts { Follows (gone_on frame.entry frame.entry.left frame.entry.gathered stack.old.items frames.old.items)
+        result stack.new.items frames.new.items }
+    ensures room { stack.new.room ≡ stack.old.room }
+    ensures frame_room { frames.new.room ≡ frames.old.room }
+{
+    if frame.has_left() {
+        let again = frame.again();
+        frames.push(frame);
+        return Move::GoesTo(0, again);
+    }
+    let exit = frame.exit();
+    stack.push(own(frame.into_outcome()));
+    Move::GoesTo(0, exit)
+}

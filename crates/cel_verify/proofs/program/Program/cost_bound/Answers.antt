@@ -1,0 +1,5 @@
+use Rattle.std.proofs.Common.{arith}
+use Rattle.cel_verify.proofs.program.Program.cost_bound.Goals as goal
+
+pub returns-clause-within : goal.returns-clause-within
+returns-clause-within c = omega (arith, c.self.invariant.0.cheap, c.self.invariant.1.cost)
