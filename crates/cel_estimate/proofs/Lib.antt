@@ -1,0 +1,3 @@
+pub mod Estimates
+pub mod Bounded
+mod Ranges

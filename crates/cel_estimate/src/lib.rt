@@ -1,0 +1,9 @@
+//! The most that an expression may charge, told from its types before it runs: [`estimate`].
+#![tactic(auto)]
+
+mod limits;
+mod measuring;
+mod over_budget;
+
+pub use measuring::estimate;
+pub use over_budget::OverBudget;
