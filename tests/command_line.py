@@ -11,6 +11,8 @@ TOP = Path(__file__).resolve().parent.parent
 PROGRAM = TOP / "crates/vap/out/vap"
 LONG = " + ".join(["1"] * 99) + " " * 15_000  # about 16 KB, 99 deep
 LONG_LIST = "[" + ", ".join(["1"] * 5_000) + "].x"
+RULE = TOP / "examples/rule.json"
+RULE_LINES = b"estimate 904\nvalue true\ncharged 14\n"
 
 # The words, the status, the standard output where it is fixed, and what standard error holds.
 ROWS = [
@@ -27,7 +29,26 @@ ROWS = [
     (["--help"], 0, None, b""),
     (["eval", "--help"], 0, None, b""),
     (["eval", LONG], 0, b"99\n", b""),
-    (["eval", LONG_LIST], 1, None, b""),
+    (["eval", LONG_LIST], 1, None, b"^"),
+    (["eval", "1 +\n\ttrue"], 1, b"refused: NoOverload at 2\n", b"1 +\n  ^\n"),
+    (["eval", "1 ==\n\t+"], 1, b"refused: Unexpected at 6\n", b"\t+\n\t^\n"),
+    (["eval", "1/0"], 1, b"error: DivideByZero\n", b"divisor"),
+    (["check"], 2, b"", b"FILE"),
+    (["check", RULE], 0, RULE_LINES, b""),
+    (["check", TOP / "examples/nothing.json"], 3, b"", b"opened"),
+    (["check", TOP / "examples"], 3, b"", b"vap: "),
+    (["check", "-"], 1, b"refused: BadJson\n", b"schema"),
+    (["check", "--help"], 0, None, b""),
+]
+
+# What stands on standard input of `check -`, the status, the standard output, and what standard error holds.
+FILES = [
+    (RULE.read_bytes(), 0, RULE_LINES, b""),
+    (RULE.read_bytes().replace(b"abc", b"abcdefghijkl"), 1, b"estimate 904\nvalue false\ncharged 15\n", b""),
+    (RULE.read_bytes().replace(b'"ab"', b"1"), 1, b"estimate 904\nrefused: WrongKind\n", b"object.spec.items[0]"),
+    (RULE.read_bytes().replace(b"size(x)", b"length(x)"), 1, b"refused: NoOverload at 25\n", b" " * 25 + b"^\n"),
+    (b" " * 1_048_576, 1, b"refused: BadJson\n", b"schema"),
+    (b" " * 1_048_577, 1, b"refused: TooLong\n", b"1048576"),
 ]
 
 
@@ -40,6 +61,15 @@ def unmet(words, status, out, said):
     return f"{words}: status {ran.returncode}, {ran.stdout!r}, {ran.stderr!r}; wanted {status}, {out!r}, {said!r}"
 
 
+def unmet_from_input(given, status, out, said):
+    """Why `check -` does not end as it should on these bytes, or None."""
+    ran = subprocess.run([PROGRAM, "check", "-"], input=given, capture_output=True, timeout=60)
+    is_told = said in ran.stderr if said else not ran.stderr
+    if (ran.returncode, ran.stdout) == (status, out) and is_told:
+        return None
+    return f"{given[:200]}: status {ran.returncode}, {ran.stdout!r}, {ran.stderr!r}; wanted {status}, {out!r}, {said!r}"
+
+
 def unmet_when_full(words, stream, status):
     """Why the program does not end with that status where a stream is full, or None."""
     with open("/dev/full", "wb") as full:
@@ -49,11 +79,13 @@ def unmet_when_full(words, stream, status):
 
 
 def main():
-    whys = [unmet(*row) for row in ROWS]
+    whys = [unmet(*row) for row in ROWS] + [unmet_from_input(*row) for row in FILES]
     # What cannot be written is told by the status; a message that cannot be written leaves it.
     whys += [
         unmet_when_full(["eval", "1"], "stdout", 3),
         unmet_when_full(["eval", "1 +"], "stdout", 3),
+        unmet_when_full(["check", RULE], "stdout", 3),
+        unmet_when_full(["eval", "1 +"], "stderr", 1),
         unmet_when_full(["--help"], "stdout", 3),
         unmet_when_full(["nothing"], "stderr", 2),
         unmet_when_full(["eval", "-1"], "stderr", 2),

@@ -13,24 +13,49 @@ from pathlib import Path
 TOP = Path(__file__).resolve().parent.parent
 PROGRAM = TOP / "crates/vap/out/vap"
 
-# What each command is given of a line.
-WORDS = {"eval": lambda line: ["eval", "--", line["expression"]]}
+
+def file_of(line):
+    """The bytes of a line's file."""
+    return bytes.fromhex(line["hex"]) if "hex" in line else line["file"].encode()
+
+
+# What each command is given of a line: the words, the standard input, and further words with which the answer is the same.
+COMMANDS = {
+    "eval": (lambda line: ["eval", "--", line["expression"]], lambda line: b"", [[]]),
+    "check": (lambda line: ["check", "-"], file_of, [[]]),
+}
+
+
+def is_dear(stdout):
+    """Whether an answer tells of a charge that is past its estimate."""
+    told = dict(line.partition(b" ")[::2] for line in stdout.splitlines())
+    return b"charged" in told and int(told[b"charged"]) > int(told.get(b"estimate", b"0"))
+
+
+def unmet_with(words, given, line):
+    """Why the program does not answer so to these words, or None."""
+    try:
+        ran = subprocess.run([PROGRAM, *words], input=given, capture_output=True, timeout=60)
+    except (OSError, ValueError, subprocess.TimeoutExpired) as error:
+        return f"{words}: {error}"
+    status, stdout, stderr = line["status"], line["stdout"].encode(), line.get("stderr")
+    if words[0] == "check" and is_dear(ran.stdout):
+        return f"{words}: {ran.stdout!r} charges more than its estimate"
+    is_told = stderr is None or ran.stderr.decode(errors="replace").rstrip("\n") == stderr.rstrip("\n")
+    if (ran.returncode, ran.stdout) == (status, stdout) and is_told:
+        return None
+    return f"{words}: {ran.stdout!r}, {ran.stderr!r}, status {ran.returncode}; wanted {stdout!r}, {stderr!r}, status {status}"
 
 
 def unmet(command, text):
     """Why a line is not met, or None."""
     try:
         line = json.loads(text)
-        words, status, stdout = WORDS[command](line), line["status"], line["stdout"].encode()
+        words_of, input_of, others = COMMANDS[command]
+        words, given = words_of(line), input_of(line)
     except (KeyError, ValueError) as error:
         return f"it cannot be read: {error!r}"
-    try:
-        ran = subprocess.run([PROGRAM, *words], stdin=subprocess.DEVNULL, capture_output=True, timeout=60)
-    except (OSError, ValueError, subprocess.TimeoutExpired) as error:
-        return f"{words}: {error}"
-    if (ran.returncode, ran.stdout) == (status, stdout):
-        return None
-    return f"{words}: {ran.stdout!r}, status {ran.returncode}; wanted {stdout!r}, status {status}"
+    return next(filter(None, (unmet_with(words + more, given, line) for more in others)), None)
 
 
 def main():
@@ -42,7 +67,7 @@ def main():
         return 1
     lines = []
     for file in sorted((TOP / "tests/vectors").glob("*.jsonl")):
-        command = file.name.partition("-")[0]
+        command = file.stem.partition("-")[0]
         for number, text in enumerate(file.read_text(encoding="utf-8").split("\n")[:-1], 1):
             lines.append((f"{file.relative_to(TOP)}:{number}", command, text))
     with ThreadPoolExecutor(os.cpu_count()) as pool:

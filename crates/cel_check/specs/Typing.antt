@@ -1,6 +1,6 @@
 -- The typed tree of an expression in a scope of names, or its first fault in post-order.
-use Rattle.std.specs.Prelude.{ℕ, ◌+◌, ◌^◌, Bool, ◌&&◌, ◌||◌, nat_lt, List, [], ◌∷◌, map, Option, Some, None, Result, Ok, Err}
-use Rattle.std.specs.Prelude.{if◌then◌else◌, ◌≡◌, codes, true, false}
+use Rattle.std.specs.Prelude.{ℕ, ◌+◌, ◌^◌, Bool, ◌&&◌, ◌||◌, nat_lt, List, [], ◌∷◌, ◌++◌, map, Option, Some, None, Result, Ok, Err}
+use Rattle.std.specs.Prelude.{if◌then◌else◌, ◌≡◌, codes, true, false, is_none}
 use Rattle.std.specs.Str.{bytes_eq}
 use Rattle.plain.specs.declared.text.Keyed.{Keyed}
 use Rattle.cel_value.specs.declared.value.Value as value
@@ -32,6 +32,8 @@ use Rattle.cel_operators.specs.declared.operator.Operator.TheVariants as operato
 use Rattle.cel_operators.specs.declared.operator.Overload.{Overload}
 use Rattle.cel_check.specs.declared.scope.Scope.{Scope}
 use Rattle.cel_check.specs.declared.bindings.Bindings.{Bindings}
+use Rattle.cel_check.specs.declared.refusals.Refusals.{Refusals}
+use Rattle.cel_check.specs.declared.refusals.Refusals.TheVariants as refusals
 use Rattle.cel_check.specs.declared.loops.Opened.{Opened}
 use Rattle.cel_check.specs.declared.tree.TypedTree.{TypedTree, out-TypedTree, roll-TypedTree}
 use Rattle.cel_check.specs.declared.tree.Form.{Form}
@@ -76,10 +78,15 @@ types_of names = record { slots = types_in names.slots; locals = types_in names.
 abbrev pub names_of : List (List ℕ) → Scope → Names
 names_of choice scope = record { slots = scope.names; locals = []; opaque = false; choice = choice }
 
+-- the texts that are no patterns: those that were refused, or these
+abbrev pub refused_by : Refusals → List (List ℕ)
+refused_by (refusals.Asked patterns) = choice_in patterns.now
+refused_by (refusals.Given texts) = texts.now
+
 -- the names that are bound, where what is checked may not be Opaque
 abbrev pub names_in : Bindings → Names
 names_in bound =
-    record { slots = bound.slots.now; locals = bound.locals; opaque = false; choice = choice_in bound.patterns.now }
+    record { slots = bound.slots.now; locals = bound.locals; opaque = false; choice = refused_by bound.refusals }
 
 -- where what is checked may be Opaque, or may not
 abbrev pub with_opaque : Bool → Names → Names
@@ -350,6 +357,41 @@ named place (Some l) s = Ok (node l.1 (form.Local l.0))
 named place None (Some s) = Ok (node s.1 (form.Slot s.0))
 named place None None = refused place UnknownName
 
+-- whether a level of an expression is this name
+abbrev pub is_name : List ℕ → Syntax Expr → Bool
+is_name word (syntax.Name n) = bytes_eq word n
+is_name word _ = false
+
+-- whether a level is an open loop's item
+abbrev pub is_local : Form TypedTree → Bool
+is_local (form.Local d) = true
+is_local _ = false
+
+-- whether what checking gives is an open loop's item
+abbrev pub gives_local : Checked → Bool
+gives_local (Err e) = false
+gives_local (Ok t) = is_local (out-TypedTree t).form
+
+-- no name but that of one open loop's item
+abbrev pub no_name_but : List ℕ → Names
+no_name_but word = record { slots = []; locals = record { key = word; value = type.Null } ∷ []; opaque = true; choice = [] }
+
+-- whether a part is this word alone: it is that item, where no other name is known
+unfoldable pub is_word : List ℕ → (Names → Checked) → Bool
+is_word word a = gives_local (a (no_name_but word))
+
+-- the slot of the variable that is selected behind the word `variables`, where no open loop's item has that name: it stands
+-- among the names under one, `variables.` and its own
+abbrev pub variable_in : (Names → Checked) → List ℕ → Names → Option (ℕ × CelType)
+variable_in a x names =
+    if is_word (codes "variables") a && is_none (slot_from 0 (codes "variables") names.locals)
+    then slot_from 0 (codes "variables." ++ x) names.slots else None
+
+-- a slot, or else what is found otherwise
+abbrev pub or_else : Option (ℕ × CelType) → Checked → Checked
+or_else (Some s) c = Ok (node s.1 (form.Slot s.0))
+or_else None c = c
+
 -- inside one more loop, whose name hides those outside
 abbrev pub with_local : List ℕ → Span → Names → Names
 with_local x span names = record names { locals = record { key = x; value = span.item } ∷ names.locals }
@@ -421,7 +463,7 @@ checked_at place (syntax.Name n) names = named place (slot_from 0 n names.locals
 checked_at place syntax.Null names = Ok (node type.Null (form.Literal value.Null))
 checked_at place (syntax.Uint n) names = Ok (node type.Uint (form.Literal (value.Uint n)))
 checked_at place (syntax.Text s) names = text_literal place s
-checked_at place (syntax.Select a f) names = after (a names) (selected place text_operator.Select f)
+checked_at place (syntax.Select a f) names = or_else (variable_in a f names) (after (a names) (selected place text_operator.Select f))
 checked_at place (syntax.Has a f) names = after (a names) (selected place text_operator.Has f)
 checked_at place (syntax.Call f xs) names = called place f xs names
 checked_at place (syntax.Method a f xs) names = after (a names) (λ s. called_on place f s xs names)
@@ -474,6 +516,11 @@ Answers (Err (error.Fault f)) view c = c ≡ Err f
 -- whatever checking gives of a part, what a node answers is what follows behind the part
 abbrev pub Follows : Result TypedTree CheckError → Result TypedTree CheckError → (TypedTree → Checked) → Type 0
 Follows part result f = (c : Checked) → Answers part (λ tree. tree) c → Answers result (λ tree. tree) (after c f)
+
+-- likewise where a slot may come before that
+abbrev pub FollowsUnless : Option (ℕ × CelType) → Result TypedTree CheckError → Result TypedTree CheckError → (TypedTree → Checked)
+    → Type 0
+FollowsUnless slot part result f = (c : Checked) → Answers part (λ tree. tree) c → Answers result (λ tree. tree) (or_else slot (after c f))
 
 -- whatever checking gives of several parts, what a node answers is what follows behind them
 abbrev pub FollowsItems : Result (List TypedTree) CheckError → Result TypedTree CheckError → (List TypedTree → Checked) → Type 0

@@ -1,4 +1,4 @@
-ghost use Rattle.std.specs.Prelude.{◌≡◌, Some, true, option_map, slice_get};
+ghost use Rattle.std.specs.Prelude.{◌≡◌, ◌++◌, Some, option_map, slice_get};
 ghost use Rattle.cel_operators.specs.Outcomes.{outcome_fits, slots_fit as fits_slots};
 ghost use Rattle.cel_apply.specs.Lent.{lent, all_lent};
 
@@ -6,15 +6,16 @@ use cel_value::{CelError, CelType, Value, fits};
 use cel_verify::Program;
 use std::marker::Model;
 
-/// What the slots of a program hold: values that are lent, and errors. Contracts see the list of the values themselves
-/// and the errors.
+/// What the slots of a program hold: values that are lent and errors, and behind them what was made, values and errors too.
+/// Contracts see one list of the values themselves and the errors.
 #[derive(Drop)]
 pub struct Slots<'a> {
-    values: Vec<Result<&'a Value, CelError>>,
+    lent: &'a [Result<&'a Value, CelError>],
+    made: &'a [Result<Value, CelError>],
 }
 
 impl<'a> Model for Slots<'a> {
-    ghost use Rattle.std.specs.Prelude.{List};
+    ghost use Rattle.std.specs.Prelude.{◌++◌, List};
     ghost use Rattle.std.specs.Coded.{codes};
     ghost use Rattle.cel_value.specs.contracts.value.Value as cel_value;
     ghost use Rattle.cel_operators.specs.Outcomes.{Outcome};
@@ -24,24 +25,30 @@ impl<'a> Model for Slots<'a> {
 
     ghost coded = { Prim.hlevel (codes, cel_value.the_row.coded) };
 
-    ghost view = { λ s. all_lent s.values.items };
+    ghost view = { λ s. all_lent s.lent.now ++ s.made.now };
 }
 
 impl<'a> Slots<'a> {
-    /// These values and errors, which fit the program's slots: [`slots_fit`] is the test.
-    pub fn new(program: &Program, values: Vec<Result<&'a Value, CelError>>) -> Slots<'a>
-        requires { fits_slots program.now.slots (all_lent values.items) ≡ true }
-        ensures { result ≡ all_lent values.entry.items }
+    /// What is lent, and behind it what was made; nothing is copied. [`slots_fit`] is the test of what slots may hold.
+    pub fn new(
+        lent: &'a [Result<&'a Value, CelError>],
+        made: &'a [Result<Value, CelError>],
+    ) -> Slots<'a>
+        ensures { result ≡ all_lent lent.now ++ made.now }
     {
-        Slots { values }
+        Slots { lent, made }
     }
 
     /// What the slot of this number holds, if there is one.
     pub fn get(&self, number: usize) -> Option<Result<&Value, CelError>>
         ensures { option_map lent result ≡ slice_get self.now number }
     {
-        match self.values.get(number) {
-            Some(value) => Some(*value),
+        if number < self.lent.len() {
+            return Some(self.lent[number]);
+        }
+        match self.made.get(number - self.lent.len()) {
+            Some(Ok(value)) => Some(Ok(value)),
+            Some(Err(error)) => Some(Err(*error)),
             None => None,
         }
     }

@@ -10,13 +10,13 @@ const FIRST_ROW: &str = "1 + 2 * 3 == 7 && !(4 < 3)";
 
 /// A writer that takes so many bytes, and then fails in its own way; or one that fails when it is flushed.
 #[derive(Drop)]
-struct Narrow {
-    room: usize,
-    refusal: Refusal,
+pub struct Narrow {
+    pub room: usize,
+    pub refusal: Refusal,
 }
 
 #[derive(Clone, Copy)]
-enum Refusal {
+pub enum Refusal {
     Fails,
     TakesNothing,
     IsInterrupted,
@@ -47,7 +47,7 @@ impl Write for Narrow {
 
 /// A reader that fails.
 #[derive(Drop)]
-struct Broken;
+pub struct Broken;
 
 impl Read for Broken {
     fn read(&mut self, _buf: &mut [u8]) -> io::Result<usize> {

@@ -8,6 +8,8 @@
 #[cfg(test)]
 mod asked;
 #[cfg(test)]
+mod checking;
+#[cfg(test)]
 mod evaluation;
 #[cfg(test)]
 mod images;

@@ -129,7 +129,8 @@ pub fn run_with(
     if !slots_fit(program, &lent) {
         return String::from_str(alloc, "does not fit");
     }
-    let slots = Slots::new(program, lent);
+    let made: Vec<Result<Value, CelError>> = Vec::new(alloc);
+    let slots = Slots::new(lent.as_slice(), made.as_slice());
     let mut matchers = Matchers::new(alloc);
     match &run(alloc, program, &slots, &mut matchers) {
         Ok(ended) => run_text(alloc, program, ended),

@@ -3,10 +3,11 @@ use Rattle.clap.specs.Values.{kind_of}
 use Rattle.clap.specs.declared.error.kind.ErrorKind.{ErrorKind}
 use Rattle.clap.specs.declared.error.kind.ErrorKind.TheVariants.{DisplayHelp, DisplayVersion}
 use Rattle.vap_cli.specs.declared.status.Status.{Status}
-use Rattle.vap_cli.specs.declared.status.Status.TheVariants.{Done, BadCommandLine}
+use Rattle.vap_cli.specs.declared.status.Status.TheVariants.{Done, BadCommandLine, Stream}
 use Rattle.vap_cli.specs.Status.{status_without}
+use Rattle.vap_check.specs.Report.{status_without as status_unchecked}
 use Rattle.vap.specs.declared.problem.Problem.{Problem}
-use Rattle.vap.specs.declared.problem.Problem.TheVariants.{Words, Minus, NoExpression, NotText, Unanswered}
+use Rattle.vap.specs.declared.problem.Problem.TheVariants.{Words, Minus, NoTask, NotText, NotOpened, Unanswered, Unchecked}
 
 -- help and the version are asked for; all else is a mistake
 abbrev pub status_of_kind : ErrorKind → Status
@@ -18,6 +19,8 @@ status_of_kind _ = BadCommandLine
 abbrev pub status_of : Problem → Status
 status_of (Words error) = status_of_kind (kind_of error)
 status_of Minus = BadCommandLine
-status_of NoExpression = BadCommandLine
+status_of NoTask = BadCommandLine
 status_of NotText = BadCommandLine
+status_of NotOpened = Stream
 status_of (Unanswered error) = status_without error
+status_of (Unchecked error) = status_unchecked error

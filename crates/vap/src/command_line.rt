@@ -11,16 +11,59 @@ Prints one line, and ends with the status behind it:
   error: NAME            the evaluation ends with this error         1
   refused: NAME at BYTE  the text is no expression, or has no type:
                          what is wrong, and where it stands          1
+  refused: OverBudget N  it may charge N, which is more than
+                         10000000                                    1
 
-BYTE counts from 0. Other statuses, with the reason on standard error, are 2 for a bad
-command line, 3 where a write failed and 4 for want of memory. The language, and each NAME,
-is described in docs/LANGUAGE.md, beside the program's sources.
+BYTE counts from 0. What a refusal or an error means stands on standard error. Other
+statuses, with the reason on standard error, are 2 for a bad command line, 3 where a write
+failed and 4 for want of memory. The language, and each NAME, is described in
+docs/LANGUAGE.md, beside the program's sources.
 
 An expression that begins with a minus goes after `--`, or in parentheses.
 
 Examples:
   vap eval '1 + 2 * 3 == 7 && !(4 < 3)'
   vap eval -- '-7 / 2'";
+
+const CHECK_NOTES: &str =
+    r#"FILE, or standard input where it is `-`, has at most 1048576 bytes. It is a JSON object:
+
+  {
+    "schema": {
+      "type": "object",
+      "properties": {"spec": {"type": "object", "properties": {
+        "items": {"type": "array", "maxItems": 100, "items": {"type": "string", "maxLength": 50}}
+      }}}
+    },
+    "expression": "object.spec.items.all(x, size(x) < 10)",
+    "object": {"spec": {"items": ["ab", "abc"]}}
+  }
+
+The schema is that of a CustomResourceDefinition, the one name in scope is `object`, and an
+object need not be given. For this file the answer is:
+
+  estimate 904           the most that the expression charges, for any object
+  value true             the value, as compact JSON, or `error: NAME`
+  charged 14             what it charged
+
+The status is 0 where the value is true or there is no object, else 1. A file, a schema, an
+expression or an object that is refused gives a line `refused: NAME`, with `at BYTE` behind
+it where the expression is at fault, and status 1. What it means, and where it stands, is on
+standard error. Other statuses are 2 for a bad command line, 3 where FILE does not open, a
+read or a write failed, and 4 for want of memory.
+
+Examples:
+  vap check examples/rule.json
+  vap check - < examples/rule.json"#;
+
+/// What the words ask for.
+#[derive(Debug, Drop)]
+pub enum Task<'a> {
+    /// The value of an expression.
+    Eval { text: &'a str },
+    /// What a file comes to; `-` is standard input.
+    Check { file: &'a str },
+}
 
 fn command<'a>(alloc: Global) -> Result<Command<'a>, AllocError> {
     let program = Command::new(alloc, "vap")
@@ -29,7 +72,7 @@ fn command<'a>(alloc: Global) -> Result<Command<'a>, AllocError> {
         .about("An admission engine: ValidatingAdmissionPolicy with verified CEL")
         .subcommand_required(true)
         .arg_required_else_help(true);
-    program.subcommand(eval(alloc)?)
+    program.subcommand(eval(alloc)?)?.subcommand(check(alloc)?)
 }
 
 fn eval<'a>(alloc: Global) -> Result<Command<'a>, AllocError> {
@@ -42,16 +85,35 @@ fn eval<'a>(alloc: Global) -> Result<Command<'a>, AllocError> {
         .arg(expression)
 }
 
-/// The expression that is to be evaluated.
-pub fn expression<'a>(alloc: Global, words: &'a [String]) -> Result<&'a str, Problem> {
+fn check<'a>(alloc: Global) -> Result<Command<'a>, AllocError> {
+    let file = Arg::new(alloc, "FILE")
+        .required(true)
+        .help("A JSON file, or `-` for standard input");
+    Command::new(alloc, "check")
+        .about("Tells what a rule may charge, and what it answers for an object")
+        .after_help(CHECK_NOTES)
+        .arg(file)
+}
+
+/// What the words ask for.
+pub fn asked<'a>(alloc: Global, words: &'a [String]) -> Result<Task<'a>, Problem> {
     match command(alloc)?.try_get_matches_from(words) {
-        Ok(matches) => expression_in(&matches).ok_or(Problem::NoExpression),
+        Ok(matches) => task_in(&matches).ok_or(Problem::NoTask),
         Err(error) => Err(mistake(error, words)),
     }
 }
 
-fn expression_in<'a>(matches: &ArgMatches<'a>) -> Option<&'a str> {
-    matches.subcommand_matches("eval")?.get_str("EXPR")
+fn task_in<'a>(matches: &ArgMatches<'a>) -> Option<Task<'a>> {
+    let (name, below) = matches.subcommand()?;
+    if name == "eval" {
+        Some(Task::Eval {
+            text: below.get_str("EXPR")?,
+        })
+    } else {
+        Some(Task::Check {
+            file: below.get_str("FILE")?,
+        })
+    }
 }
 
 /// What is wrong with the words.

@@ -2,11 +2,12 @@
 
 ghost use Rattle.std.specs.Prelude.{◌≡◌};
 ghost use Rattle.vap_cli.specs.declared.eval.EvalError.TheVariants as failure;
-ghost use Rattle.vap.specs.declared.problem.Problem.TheVariants.{Unanswered};
+ghost use Rattle.vap.specs.declared.problem.Problem.TheVariants.{Unanswered, Unchecked};
 
 use clap::error::ErrorKind;
 use std::alloc::AllocError;
 use std::io;
+use vap_check::CheckFailure;
 use vap_cli::{EvalError, Status};
 
 /// Why the program prints no answer.
@@ -16,10 +17,14 @@ pub enum Problem {
     Words(clap::Error),
     /// A word that begins with a minus stands where the expression is asked.
     Minus,
-    NoExpression,
+    /// What the words ask for is not among them.
+    NoTask,
     /// A word is not text in UTF-8.
     NotText,
+    /// The file does not open.
+    NotOpened,
     Unanswered(EvalError),
+    Unchecked(CheckFailure),
 }
 
 impl From<AllocError> for Problem {
@@ -35,6 +40,14 @@ impl From<EvalError> for Problem {
 
     fn from(error: EvalError) -> Problem {
         Problem::Unanswered(error)
+    }
+}
+
+impl From<CheckFailure> for Problem {
+    ghost from_gives = { λ error p. p ≡ Unchecked error };
+
+    fn from(error: CheckFailure) -> Problem {
+        Problem::Unchecked(error)
     }
 }
 
@@ -62,6 +75,15 @@ impl From<io::Error> for Problem {
 impl Problem {
     ghost use Rattle.vap.specs.Problem.{status_of};
 
+    /// What is told of a file that does not open.
+    pub fn not_opened(error: &io::Error) -> Problem {
+        if error.kind() == io::ErrorKind::OutOfMemory {
+            Problem::Unanswered(EvalError::OutOfMemory)
+        } else {
+            Problem::NotOpened
+        }
+    }
+
     /// How the program ends.
     pub fn status(&self) -> Status
         ensures { result ≡ status_of self.now }
@@ -71,8 +93,10 @@ impl Problem {
                 ErrorKind::DisplayHelp | ErrorKind::DisplayVersion => Status::Done,
                 _ => Status::BadCommandLine,
             },
-            Problem::Minus | Problem::NoExpression | Problem::NotText => Status::BadCommandLine,
+            Problem::Minus | Problem::NoTask | Problem::NotText => Status::BadCommandLine,
+            Problem::NotOpened => Status::Stream,
             Problem::Unanswered(error) => error.status(),
+            Problem::Unchecked(error) => error.status(),
         }
     }
 
@@ -84,16 +108,19 @@ impl Problem {
                 rt,
                 "no flag begins like that; an expression that begins with a minus goes after `--`, or in parentheses",
             ),
-            Problem::NoExpression => bad_words(rt, "there is no expression"),
+            Problem::NoTask => bad_words(rt, "the words ask for nothing"),
             Problem::NotText => bad_words(rt, "an argument is not text in UTF-8"),
-            Problem::Unanswered(EvalError::Write) => {
+            Problem::NotOpened => eprintln!(rt; "vap: the file cannot be opened"),
+            Problem::Unchecked(CheckFailure::Read) => eprintln!(rt; "vap: the file cannot be read"),
+            Problem::Unanswered(EvalError::Write) | Problem::Unchecked(CheckFailure::Write) => {
                 eprintln!(rt; "vap: the standard output cannot be written")
             }
-            Problem::Unanswered(EvalError::OutOfMemory) => eprintln!(rt; "vap: out of memory"),
+            Problem::Unanswered(EvalError::OutOfMemory)
+            | Problem::Unchecked(CheckFailure::OutOfMemory) => eprintln!(rt; "vap: out of memory"),
         }
     }
 }
 
 fn bad_words(rt: &impl Eprint, what: &str) -> io::Result<()> {
-    eprintln!(rt; "error: {what}\n\nUsage: vap eval <EXPR>\n\nFor more information, try '--help'.")
+    eprintln!(rt; "error: {what}\n\nUsage: vap <COMMAND>\n\nFor more information, try '--help'.")
 }

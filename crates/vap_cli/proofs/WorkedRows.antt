@@ -4,6 +4,7 @@ use Rattle.cel_value.specs.declared.value.Value as value
 use Rattle.cel_value.specs.declared.cel_error.CelError.TheVariants as error
 use Rattle.cel_lex.specs.declared.fault.LexFaultKind.TheVariants as lexing
 use Rattle.cel_grammar.specs.declared.fault.ParseFault.TheVariants as parsing
+use Rattle.cel_expression.specs.declared.refusal.Refusal.TheVariants as text_refusal
 use Rattle.vap_cli.specs.declared.answer.Refusal.TheVariants as refusal
 use Rattle.vap_cli.specs.declared.answer.Answer.TheVariants as answer
 use Rattle.json_text.proofs.WorkedRows.{true_text, negative_text}
@@ -18,9 +19,13 @@ negative_line = ap (λ text. text ++ 10 ∷ []) negative_text
 error_line : answer_line (answer.Error error.DivideByZero) ≡ codes "error: DivideByZero" ++ 10 ∷ []
 error_line = refl
 
-number_line : answer_line (answer.Refused (refusal.Parse (parsing.Lex (record { kind = lexing.IntRange; place = 14 }))))
+number_line : answer_line (answer.Refused (refusal.Text (text_refusal.Parse (parsing.Lex (record { kind = lexing.IntRange; place = 14 })))))
     ≡ codes "refused: IntRange at " ++ (decimal 14 ++ 10 ∷ [])
 number_line = refl
 
-depth_line : answer_line (answer.Refused (refusal.Parse parsing.TooDeep)) ≡ codes "refused: TooDeep" ++ 10 ∷ []
+depth_line : answer_line (answer.Refused (refusal.Text (text_refusal.Parse parsing.TooDeep))) ≡ codes "refused: TooDeep" ++ 10 ∷ []
 depth_line = refl
+
+budget_line : answer_line (answer.Refused (refusal.Text (text_refusal.OverBudget 10000001)))
+    ≡ codes "refused: OverBudget " ++ (decimal 10000001 ++ 10 ∷ [])
+budget_line = refl

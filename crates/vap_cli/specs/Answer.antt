@@ -9,6 +9,8 @@ use Rattle.cel_grammar.specs.declared.fault.ParseFault.TheVariants.{Lex, Unexpec
 use Rattle.cel_operators.specs.declared.type_rule.TypeRule.{TypeRule}
 use Rattle.cel_operators.specs.declared.type_rule.TypeRule.TheVariants.{UnknownName, NoField, NoOverload, Mixed, OpaqueUse}
 use Rattle.cel_operators.specs.declared.type_rule.TypeRule.TheVariants.{PatternNotLiteral, BadPattern, TooLarge}
+use Rattle.cel_expression.specs.declared.refusal.Refusal.{Refusal as TextRefusal}
+use Rattle.cel_expression.specs.declared.refusal.Refusal.TheVariants as text_refusal
 use Rattle.vap_cli.specs.declared.answer.Refusal.{Refusal}
 use Rattle.vap_cli.specs.declared.answer.Refusal.TheVariants as refusal
 use Rattle.vap_cli.specs.declared.answer.Answer.{Answer}
@@ -46,10 +48,15 @@ parse_fault_text (Unexpected place) = name_at (codes "Unexpected") place
 parse_fault_text (BadMacro place) = name_at (codes "BadMacro") place
 parse_fault_text TooDeep = codes "TooDeep"
 
+-- why a text may not be run, with its place or its estimate, where it has one
+abbrev pub text_refusal_text : TextRefusal → List ℕ
+text_refusal_text (text_refusal.Parse fault) = parse_fault_text fault
+text_refusal_text (text_refusal.Type fault) = name_at (type_rule_name fault.rule) fault.place
+text_refusal_text (text_refusal.OverBudget estimate) = codes "OverBudget " ++ decimal estimate
+
 -- a refusal with its place, where it has one
 abbrev pub refusal_text : Refusal → List ℕ
-refusal_text (refusal.Parse fault) = parse_fault_text fault
-refusal_text (refusal.Type fault) = name_at (type_rule_name fault.rule) fault.place
+refusal_text (refusal.Text why) = text_refusal_text why
 refusal_text (refusal.Unverified at) = name_at (codes "Unverified") at
 refusal_text refusal.Pattern = codes "Pattern"
 

@@ -1,124 +1,52 @@
--- What an expression comes to, by the definitions of its parts.
-use Rattle.std.specs.Prelude.{◌≡◌, ℕ, false, List, [], Some, Ok, Err}
-use Rattle.cel_parse.specs.declared.expr.Expr.{Expr}
-use Rattle.cel_grammar.specs.declared.fault.ParseError.{ParseError}
-use Rattle.cel_grammar.specs.declared.fault.ParseError.TheVariants as parsing
-use Rattle.cel_parse.specs.Parsing.{IsParsed, IsRefused}
-use Rattle.cel_check.specs.declared.fault.CheckError.{CheckError}
-use Rattle.cel_check.specs.declared.fault.CheckError.TheVariants as checking
-use Rattle.cel_check.specs.declared.tree.TypedTree.{TypedTree}
-use Rattle.cel_code.specs.declared.image.Image.{Image}
-use Rattle.cel_code.specs.Compiled.{IsCompiled}
-use Rattle.cel_code.specs.Machine.{Run}
-use Rattle.cel_check.specs.Meaning.{value_of}
-use Rattle.cel_operators.specs.Outcomes.{Outcome, outside}
-use Rattle.cel_check.specs.Typing.{Names, Checked, checked_within}
-use Rattle.cel_verify.specs.declared.fault.VerifyFault.{VerifyFault}
-use Rattle.cel_verify.specs.declared.fault.VerifyError.{VerifyError}
-use Rattle.cel_verify.specs.declared.fault.VerifyError.TheVariants as verifying
-use Rattle.cel_verify.specs.Accepted.{IsFault}
-use Rattle.cel_machine.specs.declared.fault.RunFault.{RunFault}
-use Rattle.cel_machine.specs.declared.fault.RunFault.TheVariants as running
+-- What an expression comes to where no name is in scope, by the definitions of the language.
+use Rattle.std.specs.Prelude.{◌≡◌, ℕ, List, [], Some, Ok, Err}
+use Rattle.cel_operators.specs.Outcomes.{Outcome}
+use Rattle.cel_expression.specs.Source.{Source}
+use Rattle.cel_expression.specs.Expressions.{run_of, compiled_of}
+use Rattle.cel_expression.specs.Faulty.{IsUnverified}
 use Rattle.vap_cli.specs.declared.answer.Refusal.{Refusal}
 use Rattle.vap_cli.specs.declared.answer.Refusal.TheVariants as refusal
 use Rattle.vap_cli.specs.declared.answer.Answer.{Answer}
 use Rattle.vap_cli.specs.declared.answer.Answer.TheVariants as answer
-use Rattle.vap_cli.specs.declared.evaluation.EvaluationError.{EvaluationError}
-use Rattle.vap_cli.specs.declared.evaluation.EvaluationError.TheVariants.{OutOfMemory, Refused}
 
 -- a choice of texts that are taken as no patterns
 abbrev pub Choice : Type 0
 Choice = List (List ℕ)
 
--- no names, by a choice
-abbrev pub no_names : Choice → Names
-no_names choice = record { slots = []; locals = []; opaque = false; choice = choice }
+-- an expression where there are no names, by a choice
+abbrev pub source_of : Choice → List ℕ → Source
+source_of choice text = record { choice = choice; names = []; text = text }
 
--- the text spells an expression, whose typed tree or first fault where there are no names is this by the choice
-pub record IsChecked (choice : Choice) (text : List ℕ) (checked : Checked) : Type 0 where
-  pub expression : Expr
-  pub parsed : IsParsed text expression
-  pub as_checked : checked_within expression (no_names choice) ≡ checked
-
--- the text spells an expression that has a type and comes to this value or error
-pub record ComesTo (choice : Choice) (text : List ℕ) (outcome : Outcome) : Type 0 where
-  pub tree : TypedTree
-  pub typed : IsChecked choice text (Ok tree)
-  pub value : value_of tree (outside []) ≡ Some outcome
-
--- the text spells an expression that has a type
-pub record HasType (choice : Choice) (text : List ℕ) : Type 0 where
-  pub tree : TypedTree
-  pub typed : IsChecked choice text (Ok tree)
-
--- the image that the expression compiles to has a fault at this instruction
-pub record IsFaulty (tree : TypedTree) (at : ℕ) : Type 0 where
-  pub image : Image
-  pub compiled : IsCompiled image tree []
-  pub fault : VerifyFault
-  pub faulty : IsFault image fault
-  pub here : fault.at ≡ at
-
--- the text spells an expression that has a type, and whose image is faulty
-pub record IsUnverified (choice : Choice) (text : List ℕ) (at : ℕ) : Type 0 where
-  pub tree : TypedTree
-  pub typed : IsChecked choice text (Ok tree)
-  pub faulty : IsFaulty tree at
-
--- why a typed expression comes to nothing
-abbrev pub IsNotRunFor : TypedTree → Refusal → Type 0
-IsNotRunFor tree (refusal.Parse fault) = ⊥
-IsNotRunFor tree (refusal.Type fault) = ⊥
-IsNotRunFor tree (refusal.Unverified at) = IsFaulty tree at
-IsNotRunFor tree refusal.Pattern = Unit {0}
-
--- why an expression has no type where there are no names
-abbrev pub IsUntypedFor : Choice → Expr → Refusal → Type 0
-IsUntypedFor choice expression (refusal.Parse fault) = ⊥
-IsUntypedFor choice expression (refusal.Type fault) = checked_within expression (no_names choice) ≡ Err fault
-IsUntypedFor choice expression (refusal.Unverified at) = ⊥
-IsUntypedFor choice expression refusal.Pattern = ⊥
-
--- a run of the program on no slots ends with this value or error
-pub record EndsWith (program : Image) (outcome : Outcome) : Type 0 where
+-- a source comes to this value or error, for some charge
+pub record RunsTo (s : Source) (outcome : Outcome) : Type 0 where
   pub charged : ℕ
-  pub steps : ℕ
-  pub run : Run program [] outcome charged steps
+  pub ran : run_of s [] ≡ Some (record { outcome = outcome; charged = charged })
 
--- why a text comes to nothing; where a pattern that was built is not built again, all that is told is that it has a type
-abbrev pub IsRefusedFor : Choice → List ℕ → Refusal → Type 0
-IsRefusedFor choice text (refusal.Parse fault) = IsRefused text fault
-IsRefusedFor choice text (refusal.Type fault) = IsChecked choice text (Err fault)
-IsRefusedFor choice text (refusal.Unverified at) = IsUnverified choice text at
-IsRefusedFor choice text refusal.Pattern = HasType choice text
+-- the text spells an expression that may be run and comes to this value or error
+abbrev pub ComesTo : Choice → List ℕ → Outcome → Type 0
+ComesTo choice text outcome = RunsTo (source_of choice text) outcome
+
+-- why a source comes to nothing: where a pattern that was built is not built again, all that is told is that it may be run
+abbrev pub IsRefusedFor : Source → Refusal → Type 0
+IsRefusedFor s (refusal.Text why) = compiled_of s ≡ Err why
+IsRefusedFor s (refusal.Unverified at) = IsUnverified s at
+IsRefusedFor s refusal.Pattern = compiled_of s ≡ Ok s
+
+-- what a source comes to
+abbrev pub IsAnswerTo : Source → Answer → Type 0
+IsAnswerTo s (answer.Value value) = RunsTo s (Ok value)
+IsAnswerTo s (answer.Error error) = RunsTo s (Err error)
+IsAnswerTo s (answer.Refused why) = IsRefusedFor s why
+
+-- what a source that may be run comes to
+abbrev pub IsAnswerOf : Source → Answer → Type 0
+IsAnswerOf s a = compiled_of s ≡ Ok s → IsAnswerTo s a
 
 -- what a text comes to by a choice
 abbrev pub IsAnswerBy : Choice → List ℕ → Answer → Type 0
-IsAnswerBy choice text (answer.Value value) = ComesTo choice text (Ok value)
-IsAnswerBy choice text (answer.Error error) = ComesTo choice text (Err error)
-IsAnswerBy choice text (answer.Refused why) = IsRefusedFor choice text why
+IsAnswerBy choice text a = IsAnswerTo (source_of choice text) a
 
 -- what a text comes to by some choice
 pub record IsAnswer (text : List ℕ) (answer : Answer) : Type 0 where
   pub choice : Choice
   pub is : IsAnswerBy choice text answer
-
--- what a failure to parse is to the whole
-abbrev pub from_parsing : ParseError → EvaluationError
-from_parsing parsing.OutOfMemory = OutOfMemory
-from_parsing (parsing.Fault fault) = Refused (refusal.Parse fault)
-
--- what a failure to type is to the whole
-abbrev pub from_checking : CheckError → EvaluationError
-from_checking checking.OutOfMemory = OutOfMemory
-from_checking (checking.Fault fault) = Refused (refusal.Type fault)
-
--- what a failure to run is to the whole
-abbrev pub from_running : RunFault → EvaluationError
-from_running running.OutOfMemory = OutOfMemory
-from_running running.Pattern = Refused refusal.Pattern
-
--- what a failure to verify is to the whole
-abbrev pub from_verifying : VerifyError → EvaluationError
-from_verifying verifying.OutOfMemory = OutOfMemory
-from_verifying (verifying.Fault fault) = Refused (refusal.Unverified fault.at)

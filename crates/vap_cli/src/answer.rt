@@ -5,7 +5,8 @@ ghost use Rattle.json_text.specs.JsonText.{json_text};
 ghost use Rattle.vap_cli.specs.Answer.{answer_line, lex_fault_name, status_of, type_rule_name};
 
 use crate::status::Status;
-use cel_check::{TypeFault, TypeRule};
+use cel_check::TypeRule;
+use cel_expression::Refusal as TextRefusal;
 use cel_lex::LexFaultKind;
 use cel_parse::ParseFault;
 use cel_value::{CelError, Value};
@@ -16,8 +17,8 @@ use std::fmt;
 /// Why an expression is not evaluated.
 #[derive(Clone, Copy, Debug, PartialEq, Eq)]
 pub enum Refusal {
-    Parse(ParseFault),
-    Type(TypeFault),
+    /// The text is no expression that may be run.
+    Text(TextRefusal),
     /// The verifier refuses the compiled image, at this instruction.
     Unverified { at: usize },
     /// A pattern that was built when the expression was typed is not built again.
@@ -72,13 +73,22 @@ impl fmt::Display for Refusal {
 
     fn fmt<W: fmt::Write>(&self, f: &mut fmt::Formatter<W>) -> fmt::Result {
         let (name, place) = match self {
-            Refusal::Parse(ParseFault::TooDeep) => return write!(f, "TooDeep"),
             Refusal::Pattern => return write!(f, "Pattern"),
-            Refusal::Parse(ParseFault::Lex(fault)) => (lex_fault_name(fault.kind), fault.place),
-            Refusal::Parse(ParseFault::Unexpected { place }) => ("Unexpected", *place),
-            Refusal::Parse(ParseFault::BadMacro { place }) => ("BadMacro", *place),
-            Refusal::Type(fault) => (type_rule_name(fault.rule), fault.place),
             Refusal::Unverified { at } => ("Unverified", *at),
+            Refusal::Text(TextRefusal::OverBudget(estimate)) => {
+                return write!(f, "OverBudget {estimate}");
+            }
+            Refusal::Text(TextRefusal::Parse(ParseFault::TooDeep)) => return write!(f, "TooDeep"),
+            Refusal::Text(TextRefusal::Parse(ParseFault::Lex(fault))) => {
+                (lex_fault_name(fault.kind), fault.place)
+            }
+            Refusal::Text(TextRefusal::Parse(ParseFault::Unexpected { place })) => {
+                ("Unexpected", *place)
+            }
+            Refusal::Text(TextRefusal::Parse(ParseFault::BadMacro { place })) => {
+                ("BadMacro", *place)
+            }
+            Refusal::Text(TextRefusal::Type(fault)) => (type_rule_name(fault.rule), fault.place),
         };
         write!(f, "{name} at {place}")
     }

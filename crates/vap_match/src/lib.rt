@@ -12,7 +12,7 @@ mod rule_form;
 mod rules;
 
 pub use choosing::{matches, selects_namespace, selects_object};
-pub use covering::covers;
+pub use covering::{covers, is_cluster};
 pub use rule_form::{fault_under, rules_under};
 pub use rules::{Operation, Rule, Rules, Scope};
 pub use vap_request::{Admission, Kind, Request, Resource, ReviewError, ReviewFault, UserInfo};

@@ -1,0 +1,3 @@
+mod Within
+mod Runs
+mod Faults

@@ -1,0 +1,5 @@
+pub mod Source
+pub mod Expressions
+pub mod Stages
+pub mod Faulty
+pub mod Holds

@@ -1,0 +1,36 @@
+//! Which texts are taken as no patterns: those that `regex` refuses.
+
+ghost use Rattle.std.specs.Prelude.{◌≡◌, IfOk, OnOk};
+ghost use Rattle.cel_parse.specs.Parsed.{parsed};
+ghost use Rattle.cel_patterns.specs.Answers.{choice_in, Grows};
+ghost use Rattle.cel_check.specs.PatternTexts.{patterns_in, AreAnswered};
+
+use cel_check::ask;
+use cel_parse::{ParseError, parse};
+use cel_patterns::Patterns;
+use plain::{Items, Shared, Text};
+use std::alloc::{AllocError, Global};
+
+/// Asks for each literal text that `matches` is given in a text's expression whether it is a pattern.
+pub fn ask_patterns(alloc: Global, text: &str, patterns: &mut Patterns) -> Result<(), AllocError>
+    ensures answered { OnOk result (IfOk (parsed text.now) (λ e. AreAnswered patterns.new (patterns_in e))) }
+    ensures grows { Grows patterns.old patterns.new }
+{
+    match parse(alloc, text) {
+        Ok(expression) => ask(alloc, &expression, patterns),
+        Err(ParseError::Fault(_)) => Ok(()),
+        Err(ParseError::OutOfMemory) => Err(AllocError),
+    }
+}
+
+/// The texts that were refused, as a choice.
+pub fn choice_of(alloc: Global, patterns: &Patterns) -> Result<Shared<Items<Text>>, AllocError>
+    ensures { IfOk result (λ choice. choice ≡ choice_in patterns.now) }
+{
+    let refused = patterns.choice();
+    let mut texts = Items::new(alloc);
+    for text in refused {
+        texts.push(Text::from_str(alloc, text.as_str())?)?;
+    }
+    Shared::new(alloc, texts)
+}

@@ -1,0 +1,182 @@
+ghost use Rattle.std.specs.Prelude.{◌≡◌, ◌≤◌, ℕ, true, Some, IfOk, IsErrOf};
+ghost use Rattle.cel_operators.specs.Outcomes.{outcome_fits, slots_fit};
+ghost use Rattle.cel_check.specs.Typing.{types_in};
+ghost use Rattle.cel_code.specs.Correct.{Computes, Preserves};
+ghost use Rattle.cel_estimate.specs.Estimate.{budget};
+ghost use Rattle.cel_expression.specs.Expressions.{accepted_of, compiled_of, estimate_at, run_of, type_at};
+ghost use Rattle.cel_expression.specs.Faulty.{IsFaulty, IsUnverified};
+ghost use Rattle.cel_expression.specs.Stages.{IsRated};
+ghost use Rattle.cel_expression.specs.declared.refusal.CompileError.TheVariants.{Unverified};
+
+use crate::refusal::{CompileError, Refusal};
+use crate::stages::{Accepted, program_of, typed_text};
+use cel_machine::{Matchers, RunFault, Slots, run};
+use cel_value::{CelError, CelType, Value};
+use cel_verify::Program;
+use plain::{Items, Keyed, Shared, Text};
+use std::alloc::{AllocError, Global};
+use std::marker::Model;
+
+/// An expression that may be run. Contracts see the text, the names in scope with their types, and the choice of texts that
+/// are taken as no patterns.
+#[derive(Drop)]
+pub struct Compiled {
+    choice: Shared<Items<Text>>,
+    names: Shared<Items<Keyed<CelType>>>,
+    text: Text,
+    cel_type: Shared<CelType>,
+    estimate: u64,
+    program: Shared<Program>,
+}
+
+impl Model for Compiled {
+    ghost use Rattle.std.specs.Coded.{codes};
+    ghost use Rattle.cel_value.specs.contracts.cel_type.CelType as of_types;
+    ghost use Rattle.cel_expression.specs.Source.{Source};
+
+    ghost Value = { Source };
+
+    ghost coded = { Prim.hlevel (codes, of_types.the_row.coded) };
+
+    ghost use Rattle.cel_expression.specs.Holds.{source_of, IsCompiled};
+
+    ghost view = { source_of };
+
+    ghost invariant = { IsCompiled };
+}
+
+/// What a run came to.
+#[derive(Drop)]
+pub struct Ran {
+    pub outcome: Result<Value, CelError>,
+    /// What it charged.
+    pub charged: u64,
+}
+
+/// The expression of a text in a scope of names, by a choice of texts that are taken as no patterns; or why it is refused:
+/// the fault of the text, else the first fault of its types, else that it may charge more than 10,000,000.
+#[tactic(auto, unfolding(crate::specs::Expressions::compiled_of))]
+pub fn compile_text(
+    alloc: Global,
+    choice: &Shared<Items<Text>>,
+    names: &Shared<Items<Keyed<CelType>>>,
+    text: &Text,
+) -> Result<Result<Compiled, Refusal>, CompileError>
+    ensures compiled { IfOk result (λ c. c ≡ compiled_of (record { choice = choice.now; names = names.now; text = text.now })) }
+    ensures itself { IfOk result (λ c. IfOk c (λ s. s ≡ record { choice = choice.now; names = names.now; text = text.now })) }
+    ensures unverified { (at : ℕ) → IsErrOf result (Unverified at)
+        → IsUnverified (record { choice = choice.now; names = names.now; text = text.now }) at }
+{
+    match typed_text(
+        alloc,
+        choice.get().as_slice(),
+        names.get().as_slice(),
+        text.as_str(),
+    )? {
+        Err(refusal) => Ok(Err(refusal)),
+        Ok(accepted) => match compiled_by(alloc, choice, names, text, &accepted) {
+            Ok(compiled) => Ok(Ok(compiled)),
+            Err(error) => Err(error),
+        },
+    }
+}
+
+// An accepted expression with its program.
+fn compiled_by(
+    alloc: Global,
+    choice: &Shared<Items<Text>>,
+    names: &Shared<Items<Keyed<CelType>>>,
+    text: &Text,
+    accepted: &Accepted,
+) -> Result<Compiled, CompileError>
+    requires { IsRated (types_in names.now) (accepted_of (record { choice = choice.now; names = names.now; text = text.now })) accepted.now }
+    ensures compiled { IfOk result (λ c. c ≡ record { choice = choice.now; names = names.now; text = text.now }) }
+    ensures unverified { (at : ℕ) → IsErrOf result (Unverified at)
+        → IsFaulty accepted.now.typed.tree accepted.now.typed.slots at }
+{
+    match program_of(alloc, &accepted.typed) {
+        Ok(program) => Ok(compiled_with(alloc, choice, names, text, accepted, program)?),
+        Err(error) => Err(error),
+    }
+}
+
+// What holds an expression that may be run.
+fn compiled_with(
+    alloc: Global,
+    choice: &Shared<Items<Text>>,
+    names: &Shared<Items<Keyed<CelType>>>,
+    text: &Text,
+    accepted: &Accepted,
+    program: Program,
+) -> Result<Compiled, AllocError>
+    requires rated { IsRated (types_in names.now) (accepted_of (record { choice = choice.now; names = names.now; text = text.now })) accepted.now }
+    requires computes { Computes program accepted.now.typed.tree }
+    requires preserves { Preserves accepted.now.typed.slots accepted.now.typed.tree }
+    requires slots { program.slots ≡ accepted.now.typed.slots }
+    ensures { IfOk result (λ c. c ≡ record { choice = choice.now; names = names.now; text = text.now }) }
+{
+    let program = Shared::new(alloc, program)?;
+    let cel_type = Shared::new(alloc, accepted.typed.tree.get().cel_type.copy()?)?;
+    Ok(Compiled {
+        choice: choice.share()?,
+        names: names.share()?,
+        text: text.copy()?,
+        cel_type,
+        estimate: accepted.estimate,
+        program,
+    })
+}
+
+impl Compiled {
+    /// The type of its values.
+    #[tactic(auto, unfolding(crate::specs::Expressions::type_at))]
+    pub fn cel_type(&self) -> &CelType
+        ensures { result.now ≡ type_at self.now }
+    {
+        self.cel_type.get()
+    }
+
+    /// The most that a run charges.
+    #[tactic(auto, unfolding(crate::specs::Expressions::estimate_at))]
+    pub fn estimate(&self) -> u64
+        ensures exact { result ≡ estimate_at self.now }
+        ensures within { result ≤ budget }
+    {
+        self.estimate
+    }
+
+    pub fn text(&self) -> &Text
+        ensures { result.now ≡ self.now.text }
+    {
+        &self.text
+    }
+
+    /// The program, for its slots.
+    pub fn program(&self) -> &Program
+        ensures { result.now.slots ≡ types_in self.now.names }
+    {
+        self.program.get()
+    }
+
+    /// What the definitions say of the text, where its names hold these; it is given up where memory is wanting, or where a
+    /// pattern is found to take too much room to be built.
+    #[tactic(auto, unfolding(crate::specs::Expressions::run_of, crate::specs::Expressions::type_at, crate::specs::Expressions::estimate_at))]
+    pub fn run(
+        &self,
+        alloc: Global,
+        slots: &Slots<'_>,
+        matchers: &mut Matchers,
+    ) -> Result<Ran, RunFault>
+        requires { slots_fit (types_in self.now.names) slots.now ≡ true }
+        ensures run { IfOk result (λ r. run_of self.now slots.now ≡ Some (record { outcome = r.outcome; charged = r.charged })) }
+        ensures fits { IfOk result (λ r. outcome_fits (type_at self.now) (Some r.outcome) ≡ true) }
+        ensures within { IfOk result (λ r. r.charged ≤ estimate_at self.now) }
+        ensures small { IfOk result (λ r. r.charged ≤ budget) }
+    {
+        let ended = run(alloc, self.program.get(), slots, matchers)?;
+        Ok(Ran {
+            outcome: ended.outcome,
+            charged: ended.charged,
+        })
+    }
+}

@@ -1,0 +1,16 @@
+//! Entries.
+
+use plain::Shared;
+use vap_answer::Verdict;
+use vap_request::Request;
+use vap_watch::Log;
+
+/// What was decided in one call, and at which log. Calls and workers are counted from 0.
+#[derive(Drop)]
+pub struct Entry {
+    pub call: u64,
+    pub log: Shared<Log>,
+    pub request: Request,
+    pub verdict: Verdict,
+    pub worker: u64,
+}

@@ -1,0 +1,3 @@
+mod Taken
+mod Told
+mod WorkedRows

@@ -1,0 +1,19 @@
+//! What `check` writes of a file with a schema, an expression and perhaps an object, over any reader and writer.
+//!
+//! [`check_to`] writes what the expression may charge, and where there is an object what it comes to and what it charged; or why
+//! the file, its schema, its expression or its object is refused. It tells the status with which the program then ends, and
+//! what stands on standard error.
+#![tactic(auto)]
+
+mod check;
+mod failure;
+mod judgement;
+mod made;
+mod object;
+mod reading;
+mod refusal;
+
+pub use check::{Ended, check_to};
+pub use failure::CheckFailure;
+pub use judgement::Judgement;
+pub use refusal::FileRefusal;

@@ -1,0 +1,59 @@
+//! Why a file is refused before its object is looked at.
+
+ghost use Rattle.std.specs.Prelude.{◌≡◌, IfOk, string_bytes};
+ghost use Rattle.vap_check.specs.Report.{refused_line};
+
+use cel_expression::Refusal as TextRefusal;
+use std::alloc::{AllocError, Global};
+use vap_cli::{Refusal, refusal_note};
+use vap_schema::SchemaFault;
+
+/// Why a file is refused; the first of these that applies.
+#[derive(Clone, Copy, Debug, PartialEq, Eq)]
+pub enum FileRefusal {
+    /// It has more than 1,048,576 bytes.
+    TooLong,
+    /// It is no JSON, has no schema, or its expression is absent or no text.
+    BadJson,
+    Schema(SchemaFault),
+    /// The expression may not be run.
+    Text(TextRefusal),
+    /// The verifier refuses the compiled image, at this instruction.
+    Unverified { at: usize },
+}
+
+impl FileRefusal {
+    /// The line that is printed.
+    pub fn line(&self, alloc: Global) -> Result<String, AllocError>
+        ensures { IfOk result (λ line. string_bytes line ≡ refused_line self.now) }
+    {
+        match *self {
+            FileRefusal::TooLong => String::from_str(alloc, "refused: TooLong\n"),
+            FileRefusal::BadJson => String::from_str(alloc, "refused: BadJson\n"),
+            FileRefusal::Schema(fault) => format!(in alloc; "refused: {}\n", fault.name()),
+            FileRefusal::Text(why) => format!(in alloc; "refused: {}\n", Refusal::Text(why)),
+            FileRefusal::Unverified { at } => {
+                format!(in alloc; "refused: {}\n", Refusal::Unverified { at })
+            }
+        }
+    }
+
+    /// What stands on standard error, for people.
+    pub fn note(&self, alloc: Global, expression: &str) -> Result<String, AllocError> {
+        match *self {
+            FileRefusal::TooLong => String::from_str(
+                alloc,
+                "The file has more than 1048576 bytes.\n",
+            ),
+            FileRefusal::BadJson => String::from_str(
+                alloc,
+                "The file is to be a JSON object with a `schema`, an `expression` that is a text, and perhaps an `object`.\n",
+            ),
+            FileRefusal::Schema(fault) => format!(in alloc; "The schema is refused: {fault}.\n"),
+            FileRefusal::Text(why) => refusal_note(alloc, expression, &Refusal::Text(why)),
+            FileRefusal::Unverified { at } => {
+                refusal_note(alloc, expression, &Refusal::Unverified { at })
+            }
+        }
+    }
+}

@@ -1,0 +1,5 @@
+pub mod Gates
+pub mod Steps
+pub mod Sums
+pub mod Fitting
+pub mod WorkedRows

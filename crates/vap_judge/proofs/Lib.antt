@@ -1,0 +1,4 @@
+pub mod Fitting
+pub mod Kept
+pub mod Named
+pub mod WorkedRows

@@ -1,0 +1,4 @@
+pub mod Standing
+pub mod Typed
+pub mod Each
+pub mod Unverified

@@ -1,0 +1,46 @@
+//! Policies with their expressions compiled.
+
+use crate::pair_fault::PairFault;
+use cel_expression::Compiled;
+use plain::{Items, Text};
+use vap_policies::Reason;
+
+/// A match condition.
+#[derive(Drop)]
+pub struct Condition {
+    pub name: Text,
+    pub expression: Compiled,
+}
+
+/// A validation, with what is said and told where it is false.
+#[derive(Drop)]
+pub struct Check {
+    pub expression: Compiled,
+    pub message: Option<Text>,
+    pub message_expression: Option<Compiled>,
+    pub reason: Reason,
+}
+
+/// An annotation, with the expression of its value.
+#[derive(Drop)]
+pub struct Annotation {
+    pub key: Text,
+    pub value: Compiled,
+}
+
+/// The expressions of a policy at a kind, each list in the order of the policy.
+#[derive(Drop)]
+pub struct Programs {
+    pub conditions: Items<Condition>,
+    pub variables: Items<Compiled>,
+    pub validations: Items<Check>,
+    pub annotations: Items<Annotation>,
+}
+
+/// A policy at a kind.
+#[derive(Drop)]
+pub enum Pair {
+    Runs(Programs),
+    /// It is misconfigured there.
+    Misconfigured(PairFault),
+}

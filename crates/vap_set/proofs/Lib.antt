@@ -1,0 +1,4 @@
+pub mod Slashes
+pub mod Firsts
+pub mod Standing
+pub mod ParamKinds

@@ -1,0 +1,155 @@
+-- What a policy of a set is at a kind may be run there.
+use Rattle.std.proofs.Common.{◌≡◌, ◌≤◌, ℕ, zero, suc, Bool, true, false, cond, ◌&&◌, List, [], ◌∷◌, ◌++◌, Option, Some, None, refl, sym}
+use Rattle.std.proofs.Common.{ap, ◌∙◌, subst}
+use Rattle.std.proofs.Common.{map, take, drop, length, arith, length-append, option_map}
+use Rattle.std.specs.Prelude.{if◌then◌else◌}
+use Rattle.std.specs.List.{AllByRecursion, find}
+use Rattle.std.specs.Str.{bytes_eq}
+use Rattle.std.proofs.lemmas.List.{length-map}
+use Rattle.std.proofs.lemmas.List.Elements.{All-from_recursion}
+use Rattle.plain.specs.declared.text.Keyed.{Keyed}
+use Rattle.vap_bindings.specs.declared.binding.Binding.{Binding}
+use Rattle.vap_kinds.specs.declared.kind.Kind.{Kind}
+use Rattle.vap_objects.specs.Listed.{bindings_in, bindings_of, definitions_in, if_bound, policies_in}
+use Rattle.vap_policies.specs.declared.policy.Policy.{Policy}
+use Rattle.vap_policies.specs.declared.policy.PolicySpec.{PolicySpec}
+use Rattle.vap_programs.specs.Ready.{PairsAreReady, PairsAreWithin}
+use Rattle.vap_set.specs.Kinds.{params_type, type_or_opaque, types_at}
+use Rattle.vap_set.specs.Sets.{Built, bound_of, is_looked_at, is_pair_of, kind_pair, kinds_of, pairs_of, place_of, policies_of, with_kind}
+use Rattle.vap_set.specs.Sets.{with_kinds, with_pair}
+use Rattle.vap_set.specs.Ready.{IsFirst, IsOneOf, IsReadyBy, IsReadyAt, HasFew, AreFew, AreReady}
+use Rattle.vap_set.specs.declared.bound.KindPair.{KindPair}
+use Rattle.vap_set.specs.declared.choice.Choice.{Choice}
+use Rattle.vap_set.proofs.Firsts.{kinds_first, one_kind, same_text}
+
+-- what stands of a policy at a kind
+record IsOfKind (choice : Choice) (kinds : List Kind) (p : PolicySpec) (e : KindPair) : Type 0 where
+  kind : Kind
+  first : IsFirst kinds kind
+  is : e ≡ kind_pair choice kinds p kind
+
+placed : {X : Type 0} (P : X → Type 0) (n : ℕ) (xs : List X) (y : X) → P y → AllByRecursion P xs
+    → AllByRecursion P (take n xs ++ y ∷ drop n xs)
+placed P zero [] y h all = (h, tt)
+placed P zero (x ∷ xs) y h all = (h, all)
+placed P (suc n) [] y h all = (h, tt)
+placed P (suc n) (x ∷ xs) y h all = (all.0, placed P n xs y h all.1)
+
+one_put : (choice : Choice) (kinds : List Kind) (p : PolicySpec) (k : Kind) (es : List KindPair) → IsFirst kinds k
+    → AllByRecursion (IsOfKind choice kinds p) es → AllByRecursion (IsOfKind choice kinds p) (with_kind choice kinds p k es)
+unfolding with_kind
+one_put choice kinds p k es first all = at (is_looked_at p k)
+  where
+    e : KindPair
+    e = kind_pair choice kinds p k
+
+    at : (b : Bool) → AllByRecursion (IsOfKind choice kinds p) (if b then with_pair e es else es)
+    at true = placed (IsOfKind choice kinds p) (place_of e es) es e (record { kind = k; first = first; is = refl }) all
+    at false = all
+
+all_put : (choice : Choice) (kinds : List Kind) (p : PolicySpec) (ks : List Kind) (es : List KindPair)
+    → AllByRecursion (IsFirst kinds) ks → AllByRecursion (IsOfKind choice kinds p) es
+    → AllByRecursion (IsOfKind choice kinds p) (with_kinds choice kinds p ks es)
+all_put choice kinds p [] es first all = all
+all_put choice kinds p (k ∷ ks) es first all =
+    all_put choice kinds p ks (with_kind choice kinds p k es) first.1 (one_put choice kinds p k es first.0 all)
+
+-- three tests that hold together
+pub all_three : (a b c : Bool) → (a && b && c) ≡ true → (a ≡ true) × (b ≡ true) × (c ≡ true)
+all_three true true true h = (refl, refl, refl)
+all_three true true false h = absurd cc
+all_three true false c h = absurd cc
+all_three false b c h = absurd cc
+
+-- what stands under the name of a kind is what the policy is there
+own_pair : (choice : Choice) (kinds : List Kind) (p : PolicySpec) (k : Kind) (e : KindPair) → IsFirst kinds k
+    → IsOfKind choice kinds p e → is_pair_of k e ≡ true → e ≡ kind_pair choice kinds p k
+own_pair choice kinds p k e first of h =
+    let same = all_three (bytes_eq k.group e.group) (bytes_eq k.version e.version) (bytes_eq k.kind e.kind) h in
+    let group = same_text k.group e.group same.0 ∙ ap (λ (x : KindPair). x.group) of.is in
+    let version = same_text k.version e.version same.1 ∙ ap (λ (x : KindPair). x.version) of.is in
+    let name = same_text k.kind e.kind same.2 ∙ ap (λ (x : KindPair). x.kind) of.is in
+    of.is ∙ ap (kind_pair choice kinds p) (sym (one_kind kinds k of.kind first of.first group version name))
+
+found_ready : PairsAreReady → PairsAreWithin → (choice : Choice) (kinds : List Kind) (p : PolicySpec) (k : Kind) (es : List KindPair)
+    → IsFirst kinds k → AllByRecursion (IsOfKind choice kinds p) es
+    → IsReadyBy (types_at (type_or_opaque k.object_type)) (params_type kinds p.param_kind)
+    (option_map (λ e. e.pair) (find (is_pair_of k) es))
+found_ready ready within choice kinds p k [] first all = tt
+found_ready ready within choice kinds p k (e ∷ es) first all =
+    at (is_pair_of k e) refl (found_ready ready within choice kinds p k es first all.1)
+  where
+    Ready : Option KindPair → Type 0
+    Ready found = IsReadyBy (types_at (type_or_opaque k.object_type)) (params_type kinds p.param_kind) (option_map (λ x. x.pair) found)
+
+    at : (b : Bool) → is_pair_of k e ≡ b → Ready (find (is_pair_of k) es) → Ready (cond b (Some e) (find (is_pair_of k) es))
+    at true h rest = subst (λ (x : KindPair). Ready (Some x)) (sym (own_pair choice kinds p k e first all.0 h)) (
+      ready choice.refused (types_at (type_or_opaque k.object_type)) (params_type kinds p.param_kind) p,
+      within choice.refused (types_at (type_or_opaque k.object_type)) (params_type kinds p.param_kind) p,
+    )
+    at false h rest = rest
+
+one_ready : PairsAreReady → PairsAreWithin → (b : Built) (bindings : List (Keyed Binding)) (p : Keyed Policy) (k : Option Kind)
+    → AllByRecursion (IsFirst (kinds_of b)) (kinds_of b) → IsOneOf (kinds_of b) k
+    → IsReadyAt b k (bound_of b.choice (kinds_of b) bindings p)
+one_ready ready within b bindings p None firsts first = (
+  ready b.choice.refused (types_at (type_or_opaque None)) (params_type (kinds_of b) p.value.spec.param_kind) p.value.spec,
+  within b.choice.refused (types_at (type_or_opaque None)) (params_type (kinds_of b) p.value.spec.param_kind) p.value.spec,
+)
+one_ready ready within b bindings p (Some k) firsts first =
+    found_ready ready within b.choice (kinds_of b) p.value.spec k (pairs_of b.choice (kinds_of b) p.value.spec) first
+    (all_put b.choice (kinds_of b) p.value.spec (kinds_of b) [] firsts tt)
+
+each_ready : PairsAreReady → PairsAreWithin → (b : Built) (bindings : List (Keyed Binding)) (ps : List (Keyed Policy)) (k : Option Kind)
+    → AllByRecursion (IsFirst (kinds_of b)) (kinds_of b) → IsOneOf (kinds_of b) k
+    → AllByRecursion (IsReadyAt b k) (map (bound_of b.choice (kinds_of b) bindings) ps)
+each_ready ready within b bindings [] k firsts first = tt
+each_ready ready within b bindings (p ∷ ps) k firsts first =
+    (one_ready ready within b bindings p k firsts first, each_ready ready within b bindings ps k firsts first)
+
+-- each policy of a set is ready at each kind
+pub set_ready : PairsAreReady → PairsAreWithin → (b : Built) → AreReady b
+set_ready ready within b k first =
+    All-from_recursion (IsReadyAt b k) (policies_of b)
+    (
+    each_ready ready within b (bindings_in b.objects.objects) (policies_in b.objects.objects) k
+    (kinds_first (definitions_in b.objects.objects)) first
+    )
+
+-- ---- how many there are
+
+at_most_one : (name : List ℕ) (b : Keyed Binding) → length (if_bound name b) ≤ 1
+unfolding if_bound
+at_most_one name b = at (bytes_eq b.value.spec.policy_name name)
+  where
+    at : (t : Bool) → length (if t then b ∷ [] else []) ≤ 1
+    at true = omega arith
+    at false = omega arith
+
+no_more : (name : List ℕ) (bs : List (Keyed Binding)) → length (bindings_of name bs) ≤ length bs
+no_more name [] = omega arith
+no_more name (b ∷ bs) =
+    omega (arith, length-append (if_bound name b) (bindings_of name bs), at_most_one name b, no_more name bs)
+
+few_each : (choice : Choice) (kinds : List Kind) (bindings : List (Keyed Binding)) (ps : List (Keyed Policy)) → length bindings ≤ 256
+    → AllByRecursion HasFew (map (bound_of choice kinds bindings) ps)
+few_each choice kinds bindings [] few = tt
+few_each choice kinds bindings (p ∷ ps) few =
+    (omega (arith, no_more p.key bindings, few), few_each choice kinds bindings ps few)
+
+-- few policies and few bindings make a set of few
+pub few_bound : (choice : Choice) (kinds : List Kind) (bindings : List (Keyed Binding)) (ps : List (Keyed Policy))
+    → length bindings ≤ 256 → length ps ≤ 256 → AreFew (map (bound_of choice kinds bindings) ps)
+few_bound choice kinds bindings ps few_bindings few = (
+  omega (arith, length-map ps (bound_of choice kinds bindings), few),
+  All-from_recursion HasFew (map (bound_of choice kinds bindings) ps) (few_each choice kinds bindings ps few_bindings),
+)
+
+-- policies are bound by what is the same
+pub bound_same : {a choice : Choice} {k kinds : List Kind} {b bindings : List (Keyed Binding)} {p policies : List (Keyed Policy)}
+    → a ≡ choice → k ≡ kinds → b ≡ bindings → p ≡ policies → map (bound_of a k b) p ≡ map (bound_of choice kinds bindings) policies
+bound_same {a} {choice} {k} {kinds} {b} {bindings} {p} {policies} one two three four =
+    ap (λ (x : Choice). map (bound_of x k b) p) one
+    ∙ ap (λ (x : List Kind). map (bound_of choice x b) p) two
+    ∙ ap (λ (x : List (Keyed Binding)). map (bound_of choice kinds x) p) three
+    ∙ ap (λ (x : List (Keyed Policy)). map (bound_of choice kinds bindings) x) four

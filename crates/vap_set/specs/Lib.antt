@@ -1,0 +1,4 @@
+pub mod Kinds
+pub mod Sets
+pub mod Ready
+pub mod Unverified

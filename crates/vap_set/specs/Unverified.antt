@@ -1,0 +1,54 @@
+-- Policies for which something was compiled that the verifier refuses.
+use Rattle.std.specs.Prelude.{◌≡◌, ℕ, true, List, Option, Some, None}
+use Rattle.std.specs.List.{Any, Contains}
+use Rattle.cel_expression.specs.Source.{Source}
+use Rattle.cel_expression.specs.declared.refusal.CompileError.{CompileError}
+use Rattle.cel_expression.specs.declared.refusal.CompileError.TheVariants as compile_error
+use Rattle.cel_value.specs.declared.cel_type.CelType.{CelType}
+use Rattle.plain.specs.declared.text.Keyed.{Keyed}
+use Rattle.vap_kinds.specs.declared.kind.Kind.{Kind}
+use Rattle.vap_objects.specs.Cluster.{Cluster}
+use Rattle.vap_objects.specs.Listed.{kinds_in, policies_in}
+use Rattle.vap_policies.specs.declared.policy.Policy.{Policy}
+use Rattle.vap_policies.specs.declared.policy.PolicySpec.{PolicySpec}
+use Rattle.vap_programs.specs.Expressions.{expressions_of, IsOneUnverified}
+use Rattle.vap_programs.specs.Scopes.{first_names}
+use Rattle.vap_set.specs.Kinds.{params_type, types_at}
+use Rattle.vap_set.specs.Ready.{type_at}
+use Rattle.vap_set.specs.Sets.{is_looked_at}
+use Rattle.vap_set.specs.declared.build_error.BuildError.{BuildError}
+use Rattle.vap_set.specs.declared.build_error.BuildError.TheVariants as build_error
+use Rattle.vap_set.specs.declared.choice.Choice.{Choice}
+
+-- what a failure to compile a policy of this name is to the whole
+abbrev pub error_of : List ℕ → CompileError → BuildError
+error_of name (compile_error.Unverified at) = build_error.Unverified name
+error_of name compile_error.OutOfMemory = build_error.OutOfMemory
+
+-- the expressions of a policy, where the objects are of this type
+abbrev pub expressions_at : Choice → List Kind → PolicySpec → CelType → List Source
+expressions_at choice kinds p t = expressions_of choice.refused (first_names (types_at t) (params_type kinds p.param_kind)) p
+
+-- a policy is looked at where the kind is not known, and at each known one of these that it names
+abbrev pub IsLookedAt : List Kind → PolicySpec → Option Kind → Type 0
+IsLookedAt kinds p None = Unit {0}
+IsLookedAt kinds p (Some k) = Contains kinds k × (is_looked_at p k ≡ true)
+
+-- where it is looked at, one of its expressions may be run, and the verifier refuses its image
+pub record HasUnverified (choice : Choice) (kinds : List Kind) (p : PolicySpec) : Type 0 where
+  pub kind : Option Kind
+  pub looked_at : IsLookedAt kinds p kind
+  pub at : ℕ
+  pub is : IsOneUnverified at (expressions_at choice kinds p (type_at kind))
+
+-- a policy has this name, and such an expression
+abbrev pub IsNamedUnverified : Choice → List Kind → List ℕ → Keyed Policy → Type 0
+IsNamedUnverified choice kinds name p = (p.key ≡ name) × HasUnverified choice kinds p.value.spec
+
+-- so has one of these
+abbrev pub AreUnverified : Choice → List Kind → List ℕ → List (Keyed Policy) → Type 0
+AreUnverified choice kinds name ps = Any (IsNamedUnverified choice kinds name) ps
+
+-- so has a policy among objects, by some choice
+abbrev pub IsUnverifiedIn : Cluster → List ℕ → Type 0
+IsUnverifiedIn objects name = (choice : Choice) × AreUnverified choice (kinds_in objects.objects) name (policies_in objects.objects)

@@ -1,0 +1,64 @@
+//! Policies with their bindings, at each kind.
+
+ghost use Rattle.std.specs.Prelude.{◌≡◌, Some};
+ghost use Rattle.std.specs.Option.{option_copied};
+ghost use Rattle.vap_set.specs.Sets.{is_pair_of, pair_in};
+
+use plain::{Items, Keyed, Text};
+use vap_bindings::Binding;
+use vap_kinds::Kind;
+use vap_policies::Policy;
+use vap_programs::Pair;
+
+/// A policy at a kind.
+#[derive(Drop)]
+pub struct KindPair {
+    pub group: Text,
+    pub version: Text,
+    pub kind: Text,
+    pub pair: Pair,
+}
+
+/// A policy with its bindings by name, and what it is at each kind.
+#[derive(Drop)]
+pub struct BoundPolicy {
+    pub name: Text,
+    pub policy: Policy,
+    pub bindings: Items<Keyed<Binding>>,
+    /// At the known kinds that it names.
+    pub pairs: Items<KindPair>,
+    /// At the kinds that are not known.
+    pub other: Pair,
+}
+
+fn is_pair_of(kind: &Kind, pair: &KindPair) -> bool
+    ensures { result ≡ is_pair_of kind.now pair.now }
+{
+    kind.group.as_str() == pair.group.as_str()
+        && kind.version.as_str() == pair.version.as_str()
+        && kind.kind.as_str() == pair.kind.as_str()
+}
+
+impl BoundPolicy {
+    /// What the policy is at the kind of a request, or at those that are not known. At a known kind that it does not name it is
+    /// nothing.
+    pub fn pair(&self, kind: Option<&Kind>) -> Option<&Pair>
+        ensures { option_copied result ≡ pair_in self.now (option_copied kind.entry) }
+    {
+        match kind {
+            Some(kind) => self.pair_at(kind),
+            None => Some(&self.other),
+        }
+    }
+
+    fn pair_at(&self, kind: &Kind) -> Option<&Pair>
+        ensures { option_copied result ≡ pair_in self.now (Some kind.now) }
+    {
+        for pair in self.pairs.as_slice() {
+            if is_pair_of(kind, pair) {
+                return Some(&pair.pair);
+            }
+        }
+        None
+    }
+}

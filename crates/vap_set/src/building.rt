@@ -1,0 +1,199 @@
+//! What policies are at each kind.
+
+ghost use Rattle.std.specs.Prelude.{◌≡◌, ◌≤◌, ℕ, true, List, length, IfOk, IsErrOf, OnOk, map};
+ghost use Rattle.std.specs.Cmp.Lexicographic.{slice_cmp};
+ghost use Rattle.std.specs.Ordering.{nat_cmp};
+ghost use Rattle.vap_set.specs.Kinds.{params_type, type_or_opaque, types_at};
+ghost use Rattle.vap_set.specs.Sets.{bound_of, is_looked_at, kind_pair, pair_cmp, pairs_of, place_of, with_kind, with_pair};
+ghost use Rattle.vap_set.specs.Unverified.{AreUnverified, error_of, expressions_at, HasUnverified};
+ghost use Rattle.vap_set.specs.declared.build_error.BuildError.TheVariants as build_error;
+ghost use Rattle.cel_expression.specs.declared.refusal.CompileError.TheVariants.{Unverified};
+ghost use Rattle.vap_programs.specs.Expressions.{IsOneUnverified};
+ghost use Rattle.vap_programs.specs.Pairs.{pair_of};
+
+use crate::bound::{BoundPolicy, KindPair};
+use crate::build_error::BuildError;
+use crate::choice::Choice;
+use crate::params::{is_named_by, params_type, types_at};
+use cel_value::CelType;
+use plain::{Items, Keyed, Text};
+use std::alloc::{AllocError, Global};
+use std::cmp::Ordering;
+use vap_bindings::Binding;
+use vap_kinds::Kind;
+use vap_objects::bindings_of;
+use vap_policies::{Policy, PolicySpec};
+use vap_programs::{CompileError, Pair, pair};
+
+/// A policy where the objects are of this type, or of none that is known.
+fn pair_at(
+    alloc: Global,
+    choice: &Choice,
+    kinds: &[Kind],
+    policy: &PolicySpec,
+    cel_type: &Option<CelType>,
+) -> Result<Pair, CompileError>
+    ensures pair { IfOk result (λ p. p ≡ pair_of choice.now.refused (types_at (type_or_opaque cel_type.now))
+        (params_type kinds.now policy.now.param_kind) policy.now) }
+    ensures unverified { (at : ℕ) → IsErrOf result (Unverified at)
+        → IsOneUnverified at (expressions_at choice.now kinds.now policy.now (type_or_opaque cel_type.now)) }
+{
+    let types = types_at(alloc, cel_type)?;
+    let params = params_type(alloc, kinds, &policy.param_kind)?;
+    pair(alloc, &choice.refused, &types, &params, policy)
+}
+
+fn kind_pair(
+    alloc: Global,
+    choice: &Choice,
+    kinds: &[Kind],
+    policy: &PolicySpec,
+    kind: &Kind,
+) -> Result<KindPair, CompileError>
+    ensures pair { IfOk result (λ p. p ≡ kind_pair choice.now kinds.now policy.now kind.now) }
+    ensures unverified { (at : ℕ) → IsErrOf result (Unverified at)
+        → IsOneUnverified at (expressions_at choice.now kinds.now policy.now (type_or_opaque kind.now.object_type)) }
+{
+    Ok(KindPair {
+        group: kind.group.copy()?,
+        version: kind.version.copy()?,
+        kind: kind.kind.copy()?,
+        pair: pair_at(alloc, choice, kinds, policy, &kind.object_type)?,
+    })
+}
+
+fn is_looked_at(policy: &PolicySpec, kind: &Kind) -> bool
+    ensures { result ≡ is_looked_at policy.now kind.now }
+{
+    kind.object_type.is_some()
+        && is_named_by(policy.match_constraints.resource_rules.as_slice(), kind)
+}
+
+fn pair_order(left: &KindPair, right: &KindPair) -> Ordering
+    ensures { result ≡ pair_cmp left.now right.now }
+{
+    order(&left.group, &right.group).then(order(&left.version, &right.version).then(order(
+        &left.kind,
+        &right.kind,
+    )))
+}
+
+fn order(left: &Text, right: &Text) -> Ordering
+    ensures { result ≡ slice_cmp nat_cmp left.now right.now }
+{
+    left.as_str().cmp(right.as_str())
+}
+
+/// Where a pair goes: before the first that is above it.
+fn place_of(pair: &KindPair, pairs: &[KindPair]) -> usize
+    ensures place { result ≡ place_of pair.now pairs.now }
+    ensures within { result ≤ length pairs.now }
+{
+    let mut place = 0;
+    for other in pairs {
+        if pair_order(pair, other).is_lt() {
+            return place;
+        }
+        place += 1;
+    }
+    place
+}
+
+fn put_pair(pair: KindPair, pairs: &mut Vec<KindPair>) -> Result<(), AllocError>
+    ensures { OnOk result (pairs.new.items ≡ with_pair pair pairs.old.items) }
+{
+    let place = place_of(&pair, pairs.as_slice());
+    pairs.insert(place, pair)?;
+    Ok(())
+}
+
+/// Puts what a policy is at a kind in its place, if it is looked at there.
+#[tactic(auto, unfolding(crate::specs::Sets::with_kind))]
+fn put_kind(
+    alloc: Global,
+    choice: &Choice,
+    kinds: &[Kind],
+    policy: &PolicySpec,
+    kind: &Kind,
+    pairs: &mut Vec<KindPair>,
+) -> Result<(), CompileError>
+    ensures put { OnOk result (pairs.new.items ≡ with_kind choice.now kinds.now policy.now kind.now pairs.old.items) }
+    ensures looked_at { (at : ℕ) → IsErrOf result (Unverified at) → is_looked_at policy.now kind.now ≡ true }
+    ensures unverified { (at : ℕ) → IsErrOf result (Unverified at)
+        → IsOneUnverified at (expressions_at choice.now kinds.now policy.now (type_or_opaque kind.now.object_type)) }
+{
+    if is_looked_at(policy, kind) {
+        put_pair(kind_pair(alloc, choice, kinds, policy, kind)?, pairs)?;
+    }
+    Ok(())
+}
+
+fn pairs_of(
+    alloc: Global,
+    choice: &Choice,
+    kinds: &[Kind],
+    policy: &PolicySpec,
+) -> Result<Items<KindPair>, CompileError>
+    ensures pairs { IfOk result (λ pairs. pairs ≡ pairs_of choice.now kinds.now policy.now) }
+    ensures unverified { (at : ℕ) → IsErrOf result (Unverified at) → HasUnverified choice.now kinds.now policy.now }
+{
+    let mut pairs = Vec::new(alloc);
+    for kind in kinds {
+        put_kind(alloc, choice, kinds, policy, kind, &mut pairs)?;
+    }
+    Ok(Items::from_vec(pairs))
+}
+
+fn bound_of(
+    alloc: Global,
+    choice: &Choice,
+    kinds: &[Kind],
+    bindings: &[Keyed<Binding>],
+    policy: &Keyed<Policy>,
+) -> Result<BoundPolicy, CompileError>
+    ensures bound { IfOk result (λ p. p ≡ bound_of choice.now kinds.now bindings.now policy.now) }
+    ensures unverified { (at : ℕ) → IsErrOf result (Unverified at) → HasUnverified choice.now kinds.now policy.now.value.spec }
+{
+    let spec = policy.value.spec.get();
+    Ok(BoundPolicy {
+        name: policy.key.copy()?,
+        policy: policy.value.copy()?,
+        bindings: bindings_of(alloc, policy.key.as_str(), bindings)?,
+        pairs: pairs_of(alloc, choice, kinds, spec)?,
+        other: pair_at(alloc, choice, kinds, spec, &None)?,
+    })
+}
+
+/// Why a policy is not compiled.
+fn unbuilt(policy: &Keyed<Policy>, error: CompileError) -> Result<BuildError, AllocError>
+    ensures { IfOk result (λ told. told ≡ error_of policy.now.key error) }
+{
+    match error {
+        CompileError::Unverified { .. } => Ok(BuildError::Unverified {
+            policy: policy.key.copy()?,
+        }),
+        CompileError::OutOfMemory => Ok(BuildError::OutOfMemory),
+    }
+}
+
+/// Policies with their bindings, and what each is at each kind.
+pub fn bound_policies(
+    alloc: Global,
+    choice: &Choice,
+    kinds: &[Kind],
+    bindings: &[Keyed<Binding>],
+    policies: &[Keyed<Policy>],
+) -> Result<Items<BoundPolicy>, BuildError>
+    ensures bound { IfOk result (λ bound. bound ≡ map (bound_of choice.now kinds.now bindings.now) policies.now) }
+    ensures unverified { (name : List ℕ) → IsErrOf result (build_error.Unverified name)
+        → AreUnverified choice.now kinds.now name policies.now }
+{
+    let mut bound = Vec::new(alloc);
+    for policy in policies {
+        match bound_of(alloc, choice, kinds, bindings, policy) {
+            Ok(one) => bound.push(one)?,
+            Err(error) => return Err(unbuilt(policy, error)?),
+        }
+    }
+    Ok(Items::from_vec(bound))
+}

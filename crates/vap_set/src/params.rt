@@ -1,0 +1,128 @@
+//! Kinds of params, and the types of names.
+
+ghost use Rattle.std.specs.Prelude.{◌≡◌, IfOk};
+ghost use Rattle.std.specs.Option.{option_copied};
+ghost use Rattle.vap_match.specs.Cover.{is_word_or_any, before_slash};
+ghost use Rattle.std.specs.List.{list_any};
+ghost use Rattle.vap_set.specs.Kinds.{is_named_by, kind_of_params, params_by, params_type, rule_names, type_or_opaque, types_at};
+
+use cel_value::CelType;
+use plain::{Shared, Text};
+use std::alloc::{AllocError, Global};
+use vap_kinds::{Kind, find_kind, namespace_type};
+use vap_match::Rule;
+use vap_policies::ParamKind;
+use vap_programs::{KindTypes, ParamsType};
+use vap_slots::request_type;
+
+/// The kind of params that a policy names, if it is known or refused.
+pub fn kind_of_params<'a>(kinds: &'a [Kind], params: &ParamKind) -> Option<&'a Kind>
+    ensures { option_copied result ≡ kind_of_params kinds.now params.now }
+{
+    let text = params.api_version.as_str();
+    match text.split_once('/') {
+        Some((group, version)) => find_kind(kinds, group, version, params.kind.as_str()),
+        None => find_kind(kinds, "", text, params.kind.as_str()),
+    }
+}
+
+fn params_by(alloc: Global, cel_type: &Option<CelType>) -> Result<ParamsType, AllocError>
+    ensures { IfOk result (λ t. t ≡ params_by cel_type.now) }
+{
+    match cel_type {
+        Some(cel_type) => Ok(ParamsType::Known(Shared::new(alloc, cel_type.copy()?)?)),
+        None => Ok(ParamsType::Unknown),
+    }
+}
+
+/// What the params of a policy are.
+pub fn params_type(
+    alloc: Global,
+    kinds: &[Kind],
+    params: &Option<ParamKind>,
+) -> Result<ParamsType, AllocError>
+    ensures { IfOk result (λ t. t ≡ params_type kinds.now params.now) }
+{
+    match params {
+        None => Ok(ParamsType::Absent),
+        Some(params) => match kind_of_params(kinds, params) {
+            Some(kind) => params_by(alloc, &kind.object_type),
+            None => Ok(ParamsType::Unknown),
+        },
+    }
+}
+
+fn object_type(cel_type: &Option<CelType>) -> Result<CelType, AllocError>
+    ensures { IfOk result (λ t. t ≡ type_or_opaque cel_type.now) }
+{
+    match cel_type {
+        Some(cel_type) => cel_type.copy(),
+        None => Ok(CelType::Opaque),
+    }
+}
+
+/// The types of all names but `params`, where the objects are of this type.
+pub fn types_at(alloc: Global, cel_type: &Option<CelType>) -> Result<KindTypes, AllocError>
+    ensures { IfOk result (λ types. types ≡ types_at (type_or_opaque cel_type.now)) }
+{
+    let object = Shared::new(alloc, object_type(cel_type)?)?;
+    let namespace = Shared::new(alloc, namespace_type(alloc)?)?;
+    Ok(KindTypes {
+        object,
+        request: request_type(alloc)?,
+        namespace,
+    })
+}
+
+fn names_word(words: &[Text], wanted: &str) -> bool
+    ensures { result ≡ list_any (is_word_or_any wanted.now) words.now }
+{
+    for word in words {
+        if word.as_str() == wanted || word.as_str() == "*" {
+            return true;
+        }
+    }
+    false
+}
+
+fn names_resource(patterns: &[Text], resource: &str) -> bool
+    ensures { result ≡ list_any (λ pattern. is_word_or_any resource.now (before_slash pattern)) patterns.now }
+{
+    for pattern in patterns {
+        let before = resource_in(pattern.as_str());
+        if before == resource || before == "*" {
+            return true;
+        }
+    }
+    false
+}
+
+/// What stands before the first slash of a pattern.
+fn resource_in(pattern: &str) -> &str
+    ensures { result.now ≡ before_slash pattern.now }
+{
+    match pattern.split_once('/') {
+        Some((before, _)) => before,
+        None => pattern,
+    }
+}
+
+fn rule_names(kind: &Kind, rule: &Rule) -> bool
+    ensures { result ≡ rule_names kind.now rule.now }
+{
+    names_word(rule.api_groups.as_slice(), kind.group.as_str())
+        && names_word(rule.api_versions.as_slice(), kind.version.as_str())
+        && names_resource(rule.resources.as_slice(), kind.plural.as_str())
+}
+
+/// Whether one of these rules names a kind's group, version and resource.
+pub fn is_named_by(rules: &[Rule], kind: &Kind) -> bool
+    ensures { result ≡ is_named_by rules.now kind.now }
+{
+    for rule in rules {
+        if rule_names(kind, rule) {
+            return true;
+        }
+    }
+    false
+}

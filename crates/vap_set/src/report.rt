@@ -1,0 +1,66 @@
+//! Where policies are misconfigured.
+
+ghost use Rattle.std.specs.Prelude.{◌≡◌, ◌++◌, IfOk, OnOk};
+ghost use Rattle.std.specs.List.{flat_map};
+ghost use Rattle.vap_set.specs.Sets.{misconfigured_at, misconfigured_in};
+
+use crate::bound::{BoundPolicy, KindPair};
+use plain::{Items, Text};
+use std::alloc::{AllocError, Global};
+use vap_programs::{Pair, PairFault};
+
+/// A policy that is misconfigured at a kind, and why.
+#[derive(Drop)]
+pub struct Misconfigured {
+    pub policy: Text,
+    pub group: Text,
+    pub version: Text,
+    pub kind: Text,
+    pub fault: PairFault,
+}
+
+#[tactic(auto, unfolding(crate::specs::Sets::misconfigured_at))]
+fn put_at(policy: &Text, pair: &KindPair, report: &mut Vec<Misconfigured>) -> Result<(), AllocError>
+    ensures { OnOk result (report.new.items ≡ report.old.items ++ misconfigured_at policy.now pair.now) }
+{
+    match &pair.pair {
+        Pair::Runs(_) => Ok(()),
+        Pair::Misconfigured(fault) => {
+            let policy = policy.copy()?;
+            let group = pair.group.copy()?;
+            let version = pair.version.copy()?;
+            let kind = pair.kind.copy()?;
+            report.push(Misconfigured {
+                policy,
+                group,
+                version,
+                kind,
+                fault: *fault,
+            })?;
+            Ok(())
+        }
+    }
+}
+
+fn put_in(policy: &BoundPolicy, report: &mut Vec<Misconfigured>) -> Result<(), AllocError>
+    ensures { OnOk result (report.new.items ≡ report.old.items ++ misconfigured_in policy.now) }
+{
+    for pair in policy.pairs.as_slice() {
+        put_at(&policy.name, pair, report)?;
+    }
+    Ok(())
+}
+
+/// Where policies are misconfigured: by the policy's name, and of one policy by group, version and kind.
+pub fn report_of(
+    alloc: Global,
+    policies: &[BoundPolicy],
+) -> Result<Items<Misconfigured>, AllocError>
+    ensures { IfOk result (λ report. report ≡ flat_map misconfigured_in policies.now) }
+{
+    let mut report = Vec::new(alloc);
+    for policy in policies {
+        put_in(policy, &mut report)?;
+    }
+    Ok(Items::from_vec(report))
+}

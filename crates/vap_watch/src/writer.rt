@@ -1,0 +1,125 @@
+//! Staging and publishing.
+
+ghost use Rattle.std.specs.Prelude.{◌≡◌, ◌≢◌, ◌<◌, ◌++◌, ◌∷◌, [], false, length, IfErr, IfOk, OnErr, OnOk};
+ghost use Rattle.vap_watch.specs.Given.{takes};
+ghost use Rattle.vap_watch.specs.Places.{HasRoomFor, IsNext, Publishes, at, events_at, most_events, objects_at};
+
+use crate::fault::{PublishError, StageFault};
+use crate::snapshot::{Snapshot, revision_of};
+use std::alloc::Global;
+use std::marker::Model;
+use vap_judge::PolicySet;
+use vap_objects::Objects;
+use vap_read::Event;
+
+/// The most events of a log.
+pub const MOST_EVENTS: usize = 65_536;
+
+/// Stages events and publishes them. Contracts see it as the published log with what is staged behind it.
+#[derive(Drop)]
+pub struct Writer {
+    published: Snapshot,
+    staged: Vec<Event>,
+    objects: Objects,
+    alloc: Global,
+}
+
+impl Model for Writer {
+    ghost use Rattle.std.specs.Prelude.{◌≡◌, ◌≤◌, ◌+◌, length};
+    ghost use Rattle.std.specs.Coded.{codes};
+    ghost use Rattle.vap_read.specs.contracts.event.Event as event;
+    ghost use Rattle.vap_watch.specs.Logs.{objects_after, objects_of};
+    ghost use Rattle.vap_watch.specs.Places.{Position};
+
+    ghost Value = { Position };
+
+    ghost coded = { Prim.hlevel (codes, event.the_row.coded) };
+
+    ghost view = { λ w. record { published = w.published; staged = w.staged.items } };
+
+    ghost invariant = { λ w. (w.objects ≡ objects_after (objects_of w.published) w.staged.items)
+        × (length w.published + length w.staged.items ≤ 65536) };
+}
+
+/// A writer that published the log of no event, and stages nothing.
+pub fn open(alloc: Global) -> Result<Writer, PublishError>
+    ensures { IfOk result (λ writer. writer ≡ at [] []) }
+{
+    Ok(Writer {
+        published: Snapshot::opening(alloc)?,
+        staged: Vec::new(alloc),
+        objects: Objects::new(alloc),
+        alloc,
+    })
+}
+
+impl Writer {
+    /// Puts an event behind all that is staged. Where it is refused, it comes back and nothing has changed; the fault is the
+    /// first that applies of a full log and too many objects.
+    pub fn stage(&mut self, event: Event) -> Result<(), (StageFault, Event)>
+        ensures room { OnOk result (HasRoomFor self.old event) }
+        ensures last { OnOk result (self.new ≡ at self.old.published (self.old.staged ++ event ∷ [])) }
+        ensures back { IfErr result (λ refused. (refused.1 ≡ event) × (self.new ≡ self.old)) }
+        ensures full { IfErr result (λ refused. refused.0 ≡ StageFault.LogFull → events_at self.old ≡ most_events) }
+        ensures many { IfErr result (λ refused. refused.0 ≡ StageFault.TooManyObjects
+            → (events_at self.old < most_events) × (takes (objects_at self.old) event ≡ false)) }
+    {
+        if revision_of(&self.published) + self.staged.len() >= MOST_EVENTS {
+            return Err((StageFault::LogFull, event));
+        }
+        if !self.takes(&event) {
+            return Err((StageFault::TooManyObjects, event));
+        }
+        let Ok(()) = self.staged.reserve(1) else {
+            return Err((StageFault::OutOfMemory, event));
+        };
+        let Ok(()) = self.objects.apply(self.alloc, &event) else {
+            return Err((StageFault::OutOfMemory, event));
+        };
+        self.staged.push_reserved(event);
+        Ok(())
+    }
+
+    /// Whether the limits on objects hold after an event behind all that is staged.
+    fn takes(&self, event: &Event) -> bool
+        ensures { result ≡ takes (objects_at self.now) event.now }
+    {
+        self.objects.takes(event)
+    }
+
+    /// Publishes all that is staged, once and in order, and answers the revision. Where it is refused, all stays as it was.
+    #[tactic(auto, using(crate::proofs::Publication::next_published, crate::proofs::Publication::objects_behind, crate::proofs::Publication::length_behind))]
+    pub fn publish(&mut self) -> Result<usize, PublishError>
+        ensures all { OnOk result (Publishes self.old self.new) }
+        ensures revision { IfOk result (λ revision. revision ≡ length self.new.published) }
+        ensures err { OnErr result (self.new ≡ self.old) }
+    {
+        if self.staged.is_empty() {
+            return Ok(revision_of(&self.published));
+        }
+        self.published = self.next()?;
+        self.staged.clear();
+        Ok(revision_of(&self.published))
+    }
+
+    /// The snapshot of all that was published and is staged.
+    #[tactic(auto, using(crate::proofs::Publication::set_behind))]
+    fn next(&self) -> Result<Snapshot, PublishError>
+        requires { self.now.staged ≢ [] }
+        ensures { IfOk result (λ snapshot. IsNext self.now snapshot) }
+    {
+        let set = PolicySet::build(self.alloc, &self.objects)?;
+        let log = self
+            .published
+            .log()
+            .followed_by(self.alloc, self.staged.as_slice(), set.choice())?;
+        Ok(Snapshot::new(self.alloc, log, set)?)
+    }
+
+    /// The published snapshot.
+    pub fn snapshot(&self) -> &Snapshot
+        ensures { result.now ≡ self.now.published }
+    {
+        &self.published
+    }
+}
