@@ -3,6 +3,8 @@
 
 The last line is 'N passed, M failed'.
 """
+import json
+import resource
 import subprocess
 import sys
 from pathlib import Path
@@ -12,6 +14,7 @@ PROGRAM = TOP / "crates/vap/out/vap"
 LONG = " + ".join(["1"] * 99) + " " * 15_000  # about 16 KB, 99 deep
 LONG_LIST = "[" + ", ".join(["1"] * 5_000) + "].x"
 RULE = TOP / "examples/rule.json"
+STREAM = TOP / "examples/stream.jsonl"
 RULE_LINES = b"estimate 904\nvalue true\ncharged 14\n"
 
 # The words, the status, the standard output where it is fixed, and what standard error holds.
@@ -28,6 +31,15 @@ ROWS = [
     (["--version"], 0, b"vap 0.1.0\n", b""),
     (["--help"], 0, None, b""),
     (["eval", "--help"], 0, None, b""),
+    (["replay", "--help"], 0, None, b""),
+    (["replay"], 2, b"", b"FILE"),
+    (["replay", "--workers", "0", "-"], 2, b"", b"workers"),
+    (["replay", "--workers", "17", "-"], 2, b"", b"workers"),
+    (["replay", "--workers", "16", "-"], 0, b"", b""),
+    (["replay", "--audit", "/dev/null"], 0, b"", b""),
+    (["replay", "--audit", STREAM], 0, None, b""),
+    (["replay", "no/such/file"], 3, b"", b"cannot be opened"),
+    (["replay", "/"], 3, b"", b"could not be read"),
     (["eval", LONG], 0, b"99\n", b""),
     (["eval", LONG_LIST], 1, None, b"^"),
     (["eval", "1 +\n\ttrue"], 1, b"refused: NoOverload at 2\n", b"1 +\n  ^\n"),
@@ -51,6 +63,16 @@ FILES = [
     (b" " * 1_048_577, 1, b"refused: TooLong\n", b"1048576"),
 ]
 
+# Expressions that nest as deep as they may, with what they come to, run in a stack of 4 MB.
+SMALL_STACK = 4 << 20
+DEEP = [
+    ("!" * 98 + "true", b"true\n"),
+    ("(" * 95 + "1" + ")" * 95, b"1\n"),
+    ("[1].all(x, " * 30 + "true" + ")" * 30, b"true\n"),
+    ("[" * 97 + "]" * 97 + ".size()", b"1\n"),
+]
+DEEP_STREAM = STREAM.read_bytes().replace(b"object.spec.replicas <= 5", b"!" * 90 + b"(object.spec.replicas <= 5)")
+
 
 def unmet(words, status, out, said):
     """Why a command line does not end as it should, or None."""
@@ -70,6 +92,30 @@ def unmet_from_input(given, status, out, said):
     return f"{given[:200]}: status {ran.returncode}, {ran.stdout!r}, {ran.stderr!r}; wanted {status}, {out!r}, {said!r}"
 
 
+def in_small_stack(words, given):
+    """What a run comes to whose stack has 4 MB."""
+    limit = (SMALL_STACK, SMALL_STACK)
+    shorten = lambda: resource.setrlimit(resource.RLIMIT_STACK, limit)
+    return subprocess.run([PROGRAM, *words], input=given, capture_output=True, timeout=60, preexec_fn=shorten)
+
+
+def unmet_where_deep(expression, out):
+    """Why a deep expression does not come to this in a small stack, or None."""
+    ran = in_small_stack(["eval", "--", expression], b"")
+    if (ran.returncode, ran.stdout) == (0, out):
+        return None
+    return f"{expression} in a small stack: status {ran.returncode}, {ran.stdout!r}"
+
+
+def unmet_where_a_policy_is_deep():
+    """Why a stream with a deep policy is not answered in a small stack, or None. The policy denies one review of four."""
+    ran = in_small_stack(["replay", "-"], DEEP_STREAM)
+    denied = [json.loads(line)["uid"] for line in ran.stdout.splitlines() if not json.loads(line)["allowed"]]
+    if (ran.returncode, denied) == (0, ["many"]):
+        return None
+    return f"a deep policy in a small stack: status {ran.returncode}, denied {denied}"
+
+
 def unmet_when_full(words, stream, status):
     """Why the program does not end with that status where a stream is full, or None."""
     with open("/dev/full", "wb") as full:
@@ -87,9 +133,11 @@ def main():
         unmet_when_full(["check", RULE], "stdout", 3),
         unmet_when_full(["eval", "1 +"], "stderr", 1),
         unmet_when_full(["--help"], "stdout", 3),
+        unmet_when_full(["replay", STREAM], "stdout", 3),
         unmet_when_full(["nothing"], "stderr", 2),
         unmet_when_full(["eval", "-1"], "stderr", 2),
     ]
+    whys += [unmet_where_deep(*row) for row in DEEP] + [unmet_where_a_policy_is_deep()]
     for why in filter(None, whys):
         print(why)
     failed = sum(why is not None for why in whys)

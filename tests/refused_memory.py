@@ -2,7 +2,8 @@
 """Runs what `rt ci` built with its first allocation refused, then with its second, and so on to the last that it makes.
 
 The program is run on the first expression, on one with loops and on vectors of each answer, and then must give its right answer, or end
-with status 4 and nothing on standard output. Of crates/value_rows, crates/match_rows, crates/judge_rows and
+with status 4 and nothing on standard output; and so are `check` and `replay` on their examples, which may have written
+whole lines of their answer before. Of crates/value_rows, crates/match_rows, crates/judge_rows and
 crates/replay_rows the tests of TESTS are run, which take 'out of memory' for an answer and no other wrong one.
 
 Then the allocations of crates/rows' tests of what is lent are counted: that ten runs more of the same expressions take as
@@ -72,6 +73,16 @@ def spread(lines):
     return chosen[:VECTORS]
 
 
+def commands():
+    """The other commands on their examples: where memory is refused, what is written up to there is whole lines of the answer."""
+    for words in (["check", TOP / "examples/rule.json"], ["replay", "--audit", TOP / "examples/stream.jsonl"]):
+        ran = subprocess.run([PROGRAM, *words], stdin=subprocess.DEVNULL, capture_output=True, timeout=60, check=True)
+        well = (0, ran.stdout)
+        is_begun = lambda out, whole=ran.stdout: whole.startswith(out) and (not out or out.endswith(b"\n"))
+        is_well = lambda status, out, well=well, is_begun=is_begun: (status, out) == well or status == 4 and is_begun(out)
+        yield str(words[0]), [PROGRAM, *words], well, is_well
+
+
 def cases():
     """Each case: its name, its words, and whether a status and an output are well where memory is refused."""
     lines = []
@@ -84,6 +95,7 @@ def cases():
         well = (line["status"], line["stdout"].encode())
         is_well = lambda status, out, well=well: (status, out) in (well, (4, b""))
         yield line["expression"], [PROGRAM, "eval", "--", line["expression"]], well, is_well
+    yield from commands()
     for rows, test in TESTS:
         is_well = lambda status, out: status == 0 and b"test result: ok" in out
         yield test, [rows, test], None, is_well

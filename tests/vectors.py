@@ -1,7 +1,8 @@
 #!/usr/bin/env python3
 """Runs the program on each line of tests/vectors/*.jsonl and names each line that is not met.
 
-The first word of a file's name is the command that its lines are for. The last line is 'N passed, M failed'.
+The first word of a file's name is the command that its lines are for. Lines of `replay` are run with one worker, with
+two and with 16. The last line is 'N passed, M failed'.
 """
 import json
 import os
@@ -19,10 +20,16 @@ def file_of(line):
     return bytes.fromhex(line["hex"]) if "hex" in line else line["file"].encode()
 
 
+def replay_words(line):
+    """The words for a line of `replay`, whose file is the standard input."""
+    return ["replay", *(["--audit"] if line["audit"] else []), "-"]
+
+
 # What each command is given of a line: the words, the standard input, and further words with which the answer is the same.
 COMMANDS = {
     "eval": (lambda line: ["eval", "--", line["expression"]], lambda line: b"", [[]]),
     "check": (lambda line: ["check", "-"], file_of, [[]]),
+    "replay": (replay_words, file_of, [[], ["--workers", "2"], ["--workers", "16"]]),
 }
 
 

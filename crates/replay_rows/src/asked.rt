@@ -1,7 +1,7 @@
 //! Tables of rows, each a question with its answer.
 
 use crate::same::Read;
-use crate::{lines, same, slots};
+use crate::{lines, replaying, same, slots};
 use std::alloc::{AllocError, Global};
 use std::process::Abort;
 
@@ -30,6 +30,8 @@ pub enum Asked {
     Namespace(&'static str),
     /// What so many characters hold as this member of `request`.
     Long(&'static str),
+    /// What is written for a stream, and behind it how the run ends; with the history where it is asked for.
+    Replay(bool),
 }
 
 /// The answer to a row's question.
@@ -46,6 +48,7 @@ fn answer(alloc: Global, asked: Asked, row: &str) -> Result<String, AllocError> 
         Asked::Objects => slots::objects(alloc, row),
         Asked::Namespace(list) => slots::namespace(alloc, list, row),
         Asked::Long(name) => slots::long(alloc, name, row),
+        Asked::Replay(audit) => replaying::answer(alloc, row, audit),
     }
 }
 

@@ -11,6 +11,10 @@ mod limits;
 #[cfg(test)]
 mod lines;
 #[cfg(test)]
+mod replaying;
+#[cfg(test)]
 mod same;
 #[cfg(test)]
 mod slots;
+#[cfg(test)]
+mod streams;

@@ -1,9 +1,31 @@
-//! Logs and objects at their limits.
+//! Lines, logs, objects and histories at their limits.
 
+use crate::replaying::{Stream, replayed};
 use serde_json::Value as Json;
 use std::alloc::{AllocError, Global};
 use vap_read::Event;
 use vap_watch::{StageFault, Writer, open};
+
+/// A review without policies.
+const REVIEW: &[u8] = b"{\"apiVersion\":\"admission.k8s.io/v1\",\"kind\":\"AdmissionReview\",\
+         \"request\":{\"uid\":\"a\",\"kind\":{},\"resource\":{},\"operation\":\"CREATE\"}}\n";
+
+/// 1,024 spaces.
+const SPACES: &[u8] = &[b' '; 1024];
+
+/// How many lines are written for a text so many times behind another, and how the run ends.
+fn ended(
+    alloc: Global,
+    rest: &[u8],
+    again: &[u8],
+    times: usize,
+) -> Result<(usize, String), AllocError> {
+    let (written, ending) = replayed(alloc, Stream { rest, again, times }, false)?;
+    Ok((
+        written.as_slice().iter().filter(|b| **b == b'\n').count(),
+        ending,
+    ))
+}
 
 /// How many of so many passing events are staged, why the next is not, and the revision behind them.
 fn staged(writer: &mut Writer, most: usize) -> (usize, Option<StageFault>, Option<usize>) {
@@ -48,6 +70,20 @@ fn objects(
         }
     }
     Ok((most, None))
+}
+
+#[test]
+fn review_65537_is_one_too_many(rt: HostRuntime) {
+    let (lines, ending) = ended(rt.alloc(), b"", REVIEW, 65_537).expect(&rt, "out of memory");
+    assert_eq!(rt; (lines, ending.as_str()), (65_536, "line 65537: AuditFull"));
+}
+
+#[test]
+fn a_line_is_as_long_as_it_may_be(rt: HostRuntime) {
+    let (_, ending) = ended(rt.alloc(), b"", SPACES, 1024).expect(&rt, "out of memory");
+    assert_eq!(rt; ending.as_str(), "line 1: BadJson");
+    let (_, ending) = ended(rt.alloc(), b"\nx", SPACES, 1024).expect(&rt, "out of memory");
+    assert_eq!(rt; ending.as_str(), "line 2: TooLong");
 }
 
 #[test]

@@ -1,8 +1,11 @@
 //! What the words of a command line ask for.
 
+ghost use Rattle.std.specs.Prelude.{IfOk, IfSome};
+ghost use Rattle.vap.specs.Task.{HasWorkersInRange};
+
 use crate::problem::Problem;
 use clap::error::ErrorKind;
-use clap::{Arg, ArgMatches, Command};
+use clap::{Arg, ArgAction, ArgMatches, Command, value_parser};
 use std::alloc::{AllocError, Global};
 
 const EVAL_NOTES: &str = "\
@@ -56,13 +59,39 @@ Examples:
   vap check examples/rule.json
   vap check - < examples/rule.json"#;
 
+const REPLAY_NOTES: &str = "\
+Each line is a watch event, a List or an AdmissionReview, as JSON; a line that is empty, or a
+carriage return alone, is skipped. An event changes the objects for the lines behind it. Each
+review is answered by the policies that then stand, one line of compact JSON each, in order;
+with --audit, at the end a line follows for each review.
+
+The first line that is refused ends the run, with `line N: NAME` on standard error and the
+status 1; what was answered before it stands. Other statuses are 2 for a bad command line, 3
+where FILE is not opened, or a read or a write failed, and 4 for want of memory. What lines
+may hold, and each NAME, is described in docs/EVENTS.md and docs/REPLAY.md, beside the
+program's sources.
+
+Examples:
+  vap replay examples/stream.jsonl
+  vap replay --audit --workers 4 - < examples/stream.jsonl";
+
 /// What the words ask for.
 #[derive(Debug, Drop)]
 pub enum Task<'a> {
     /// The value of an expression.
-    Eval { text: &'a str },
+    Eval {
+        text: &'a str,
+    },
     /// What a file comes to; `-` is standard input.
-    Check { file: &'a str },
+    Check {
+        file: &'a str,
+    },
+    /// The answers to the reviews of a file; `-` is standard input.
+    Replay {
+        file: &'a str,
+        workers: u8,
+        audit: bool,
+    },
 }
 
 fn command<'a>(alloc: Global) -> Result<Command<'a>, AllocError> {
@@ -72,7 +101,10 @@ fn command<'a>(alloc: Global) -> Result<Command<'a>, AllocError> {
         .about("An admission engine: ValidatingAdmissionPolicy with verified CEL")
         .subcommand_required(true)
         .arg_required_else_help(true);
-    program.subcommand(eval(alloc)?)?.subcommand(check(alloc)?)
+    program
+        .subcommand(eval(alloc)?)?
+        .subcommand(check(alloc)?)?
+        .subcommand(replay(alloc)?)
 }
 
 fn eval<'a>(alloc: Global) -> Result<Command<'a>, AllocError> {
@@ -95,25 +127,61 @@ fn check<'a>(alloc: Global) -> Result<Command<'a>, AllocError> {
         .arg(file)
 }
 
+fn replay<'a>(alloc: Global) -> Result<Command<'a>, AllocError> {
+    let file = Arg::new(alloc, "FILE").required(true).help(
+        "Lines of at most 1048576 bytes, or - for the standard input",
+    );
+    let workers = Arg::new(alloc, "workers")
+        .long("workers")
+        .value_name("N")
+        .value_parser(value_parser!(u8).range(1..=16))
+        .default_value("1")
+        .help("How many workers judge, from 1 to 16; so far one serves");
+    let audit = Arg::new(alloc, "audit")
+        .long("audit")
+        .action(ArgAction::SetTrue)
+        .help("Prints a line for each review at the end");
+    Command::new(alloc, "replay")
+        .about("Replays a stream of events and reviews and prints the answers")
+        .after_help(REPLAY_NOTES)
+        .arg(file)?
+        .arg(workers)?
+        .arg(audit)
+}
+
 /// What the words ask for.
-pub fn asked<'a>(alloc: Global, words: &'a [String]) -> Result<Task<'a>, Problem> {
+pub fn asked<'a>(alloc: Global, words: &'a [String]) -> Result<Task<'a>, Problem>
+    ensures { IfOk result HasWorkersInRange }
+{
     match command(alloc)?.try_get_matches_from(words) {
         Ok(matches) => task_in(&matches).ok_or(Problem::NoTask),
         Err(error) => Err(mistake(error, words)),
     }
 }
 
-fn task_in<'a>(matches: &ArgMatches<'a>) -> Option<Task<'a>> {
+fn task_in<'a>(matches: &ArgMatches<'a>) -> Option<Task<'a>>
+    ensures { IfSome result HasWorkersInRange }
+{
     let (name, below) = matches.subcommand()?;
     if name == "eval" {
-        Some(Task::Eval {
+        return Some(Task::Eval {
             text: below.get_str("EXPR")?,
-        })
-    } else {
-        Some(Task::Check {
-            file: below.get_str("FILE")?,
-        })
+        });
     }
+    let file = below.get_str("FILE")?;
+    if name == "check" {
+        return Some(Task::Check { file });
+    }
+    let workers = below.get_one::<u8>("workers")?;
+    if workers < 1 || workers > 16 {
+        return None;
+    }
+    let audit = below.get_flag("audit");
+    Some(Task::Replay {
+        file,
+        workers,
+        audit,
+    })
 }
 
 /// What is wrong with the words.

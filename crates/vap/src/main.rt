@@ -1,38 +1,56 @@
-//! The program `vap`: the command line over the commands of vap_cli and vap_check.
+//! The program `vap`: the command line over the commands of vap_cli, vap_check and vap_replay.
 //!
 //! [`problem::Problem::status`] tells how the program ends where it prints no answer.
 #![tactic(auto)]
 
+ghost use Rattle.std.specs.Prelude.{◌≤◌};
+
 mod command_line;
+mod meter;
 mod problem;
 
 use command_line::Task;
+use meter::Meter;
 use problem::Problem;
 use std::alloc::AllocError;
-use std::io::{Input, Read};
+use std::io::{Input, IsTerminal, Read};
 use std::process::ExitCode;
 use std::rt::{Env, Files};
+use std::time::Clock;
 use std::{env, fs, io};
 use vap_check::check_to;
 use vap_cli::{Counted, EvalError, Status, eval_to, note_of};
+use vap_replay::replay_with;
 
 fn main(rt: HostRuntime) -> ExitCode {
-    ExitCode::from(run(&rt).code())
+    let is_watched = rt.stderr().is_terminal();
+    ExitCode::from(run(&rt, is_watched).code())
 }
 
-fn run<R: Env + Files + Input + Print + Eprint + AllocGlobal>(rt: &R) -> Status {
-    match obey(rt) {
+fn run<R: Env + Files + Input + Clock + Print + Eprint + AllocGlobal>(
+    rt: &R,
+    is_watched: bool,
+) -> Status {
+    match obey(rt, is_watched) {
         Ok(status) => status,
         Err(problem) => tell(rt, &problem),
     }
 }
 
 /// Does what the words of the command line ask for.
-fn obey<R: Env + Files + Input + Print + Eprint + AllocGlobal>(rt: &R) -> Result<Status, Problem> {
+fn obey<R: Env + Files + Input + Clock + Print + Eprint + AllocGlobal>(
+    rt: &R,
+    is_watched: bool,
+) -> Result<Status, Problem> {
     let words = words(rt)?;
     match command_line::asked(rt.alloc(), words.as_slice())? {
         Task::Eval { text } => eval(rt, text),
         Task::Check { file } => check_file(rt, file),
+        Task::Replay {
+            file,
+            workers,
+            audit,
+        } => replay_file(rt, file, workers, audit, is_watched),
     }
 }
 
@@ -71,6 +89,53 @@ fn check<R: Print + Eprint + AllocGlobal, F: Read + Drop>(
     let status = ended.status;
     explain(rt, Ok(ended.note));
     Ok(status)
+}
+
+/// Prints the answers to the reviews of a file, or of standard input where the file is `-`.
+fn replay_file<R: Files + Input + Clock + Print + Eprint + AllocGlobal>(
+    rt: &R,
+    file: &str,
+    workers: u8,
+    audit: bool,
+    is_watched: bool,
+) -> Result<Status, Problem>
+    requires { (1 ≤ workers) × (workers ≤ 16) }
+{
+    if file == "-" {
+        return replay_from(rt, rt.reader(), workers, audit, is_watched);
+    }
+    match fs::open(rt, file) {
+        Ok(opened) => replay_from(rt, opened, workers, audit, is_watched),
+        Err(error) => Err(Problem::not_opened(&error)),
+    }
+}
+
+/// Prints the answers to the reviews of a stream, and, where somebody watches, how far it is.
+fn replay_from<R: Clock + Print + Eprint + AllocGlobal, I: Read + Drop>(
+    rt: &R,
+    input: I,
+    workers: u8,
+    audit: bool,
+    is_watched: bool,
+) -> Result<Status, Problem>
+    requires { (1 ≤ workers) × (workers ≤ 16) }
+{
+    let mut input = Counted::new(input);
+    let mut output = Counted::new(io::writer(rt));
+    let mut meter = Meter::new(rt, is_watched);
+    let replayed = replay_with(
+        rt.alloc(),
+        &mut input,
+        &mut output,
+        workers,
+        audit,
+        &mut meter,
+    );
+    meter.end();
+    match replayed {
+        Ok(()) => Ok(Status::Done),
+        Err(error) => Err(Problem::Unreplayed(error)),
+    }
 }
 
 /// Prints a note to standard error, where there is one. The status stays where that cannot be done.

@@ -2,6 +2,7 @@
 
 ghost use Rattle.std.specs.Prelude.{◌≡◌};
 ghost use Rattle.vap_cli.specs.declared.eval.EvalError.TheVariants as failure;
+ghost use Rattle.vap.specs.Problem.{replay_status};
 ghost use Rattle.vap.specs.declared.problem.Problem.TheVariants.{Unanswered, Unchecked};
 
 use clap::error::ErrorKind;
@@ -9,6 +10,7 @@ use std::alloc::AllocError;
 use std::io;
 use vap_check::CheckFailure;
 use vap_cli::{EvalError, Status};
+use vap_replay::ReplayError;
 
 /// Why the program prints no answer.
 #[derive(Drop)]
@@ -25,6 +27,7 @@ pub enum Problem {
     NotOpened,
     Unanswered(EvalError),
     Unchecked(CheckFailure),
+    Unreplayed(ReplayError),
 }
 
 impl From<AllocError> for Problem {
@@ -97,6 +100,7 @@ impl Problem {
             Problem::NotOpened => Status::Stream,
             Problem::Unanswered(error) => error.status(),
             Problem::Unchecked(error) => error.status(),
+            Problem::Unreplayed(error) => replay_status(*error),
         }
     }
 
@@ -117,7 +121,22 @@ impl Problem {
             }
             Problem::Unanswered(EvalError::OutOfMemory)
             | Problem::Unchecked(CheckFailure::OutOfMemory) => eprintln!(rt; "vap: out of memory"),
+            Problem::Unreplayed(ReplayError::Line { line, fault }) => {
+                eprintln!(rt; "line {line}: {}", fault.name())
+            }
+            Problem::Unreplayed(error) => eprintln!(rt; "vap: {error}"),
         }
+    }
+}
+
+/// How the program ends where a replay ends before its input.
+fn replay_status(error: ReplayError) -> Status
+    ensures { result ≡ replay_status error }
+{
+    match error {
+        ReplayError::Line { .. } => Status::Fault,
+        ReplayError::Read | ReplayError::Write => Status::Stream,
+        ReplayError::OutOfMemory => Status::OutOfMemory,
     }
 }
 

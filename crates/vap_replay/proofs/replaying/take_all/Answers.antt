@@ -1,0 +1,69 @@
+use Rattle.std.proofs.Common.{◌≡◌, ◌^◌, ◌+◌, ◌∙◌, arith, rules}
+use Rattle.std.specs.Prelude.{IsErrOf}
+use Rattle.std.specs.Io.KnownBytes.{IsAtEnd}
+use Rattle.std.proofs.lemmas.Result.{err_from_is_err_and}
+use Rattle.vap_lines.specs.Counted.{inner_of}
+use Rattle.vap_lines.specs.Lines.{room, unread}
+use Rattle.vap_lines.specs.declared.lines.Ending.TheVariants.{Feed}
+use Rattle.vap_replay.specs.declared.fault.ReplayError.TheVariants.{Line}
+use Rattle.vap_replay.proofs.Next.{ended_of, lines_within, stops_first}
+use Rattle.vap_replay.proofs.Told.{refused_next, stopped_last, stopped_next, taken_next, written_next}
+use Rattle.vap_replay.proofs.replaying.take_all.Goals as goal
+
+pub returns-in_err-reader-clause-stopped : goal.returns-in_err-reader-clause-stopped
+returns-in_err-reader-clause-stopped g c =
+    let p = err_from_is_err_and c.from_residual.result c.from_residual.ensures.1 in
+    rw p.1 (λ not audit.
+    stops_first audit (g.R.Read.remaining (inner_of c.args.input.now)) (g.W.Write.contents (inner_of c.args.output.now)))
+
+pub returns-in_err-ending-clause-refused : goal.returns-in_err-ending-clause-refused
+returns-in_err-ending-clause-refused g c =
+    let from = c.from_residual-in_err-ending in
+    let p = err_from_is_err_and from.result from.ensures.1 in
+    λ number why is told audit.
+    let same : IsErrOf c.take_next.result (Line number why) = cc (c.in_err-ending.was) in
+    refused_next g.W.Write.contents audit (g.R.Read.remaining (inner_of c.args.input.now))
+    (unread g.R.Read.remaining c.loop-alloc.input c.loop-alloc.reader) c.loop-alloc.session
+    (g.W.Write.contents (inner_of c.args.output.now)) c.loop-alloc.output c.take_next.new.output number why
+    c.loop-alloc.invariant.taken c.loop-alloc.invariant.written (c.take_next.ensures.refused number why is same)
+
+pub returns-in_err-ending-clause-stopped : goal.returns-in_err-ending-clause-stopped
+returns-in_err-ending-clause-stopped g c =
+    let from = c.from_residual-in_err-ending in
+    let p = err_from_is_err_and from.result from.ensures.1 in
+    rw (p.1, p.2) (λ not audit.
+    stopped_next g.W.Write.contents audit (g.R.Read.remaining (inner_of c.args.input.now))
+    (unread g.R.Read.remaining c.loop-alloc.input c.loop-alloc.reader) c.loop-alloc.session
+    (g.W.Write.contents (inner_of c.args.output.now)) c.loop-alloc.output c.take_next.new.output
+    c.loop-alloc.invariant.taken c.loop-alloc.invariant.written (c.in_err-ending.ensures.stopped not))
+
+pub loop-alloc-preserved : goal.loop-alloc-preserved
+loop-alloc-preserved g c =
+    let at = c.loop-alloc.invariant in
+    let on = c.in_ok-ending.ensures in
+    let feed : c.loop-alloc.ending ≡ Feed = search rules in
+    record {
+      step = on.step;
+      taken =
+          taken_next c.in_ok-ending.ending (g.R.Read.remaining (inner_of c.args.input.now))
+          (unread g.R.Read.remaining c.loop-alloc.input c.loop-alloc.reader)
+          (unread g.R.Read.remaining c.take_next.new.input c.take_next.new.reader) c.loop-alloc.session c.take_next.new.session
+          at.taken on.taken;
+      ended =
+          ended_of c.in_ok-ending.ending (IsAtEnd (unread g.R.Read.remaining c.take_next.new.input c.take_next.new.reader))
+          on.taken.short on.taken.at_end;
+      written =
+          written_next g.W.Write.contents (g.W.Write.contents (inner_of c.args.output.now)) c.loop-alloc.session
+          c.take_next.new.session c.loop-alloc.output c.take_next.new.output at.written on.written;
+      counted = on.counts.all ∙ at.counted;
+      lines =
+          lines_within c.loop-alloc.ending c.in_ok-ending.ending c.loop-alloc.session.lines c.take_next.new.session.lines
+          (room c.loop-alloc.reader) (room c.take_next.new.reader) (2 ^ 56 + 1) feed at.lines on.lines on.less on.no_more;
+    }
+
+pub returns-clause-stopped : goal.returns-clause-stopped
+returns-clause-stopped g c =
+    stopped_last c.answer_group.result g.W.Write.contents (g.R.Read.remaining (inner_of c.args.input.now))
+    (unread g.R.Read.remaining c.loop-alloc.input c.loop-alloc.reader) c.loop-alloc.session
+    (g.W.Write.contents (inner_of c.args.output.now)) c.loop-alloc.output c.answer_group.new.out c.loop-alloc.invariant.taken
+    c.loop-alloc.invariant.written c.answer_group.ensures.stopped

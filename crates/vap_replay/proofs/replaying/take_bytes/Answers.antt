@@ -1,0 +1,46 @@
+use Rattle.std.proofs.Common.{◌≡◌, ◌≢◌, ◌<◌, ◌≤◌, ◌+◌, length}
+use Rattle.vap_lines.specs.declared.lines.Ending.TheVariants.{End, TooLong as TooLongOf}
+use Rattle.vap_replay.specs.Moves.{Advances}
+use Rattle.vap_replay.specs.declared.fault.LineFault.TheVariants.{TooLong}
+use Rattle.vap_replay.proofs.Next.{never_taken, one_counted, one_each, one_refused}
+use Rattle.vap_replay.proofs.replaying.take_bytes.Goals as goal
+
+pub returns-in-TooLong-clause-taken : goal.returns-in-TooLong-clause-taken
+returns-in-TooLong-clause-taken g c =
+    never_taken c.take.result TooLong c.args.session.now c.take.new.self
+    (Advances c.args.ending c.args.bytes.now c.args.session.now c.take.new.self) c.take.ensures.taken
+
+pub returns-in-TooLong-clause-ended : goal.returns-in-TooLong-clause-ended
+returns-in-TooLong-clause-ended g c =
+    never_taken c.take.result TooLong c.args.session.now c.take.new.self (c.args.ending ≢ TooLongOf) c.take.ensures.taken
+
+pub returns-in-TooLong-clause-lines : goal.returns-in-TooLong-clause-lines
+returns-in-TooLong-clause-lines g c =
+    never_taken c.take.result TooLong c.args.session.now c.take.new.self (c.take.new.self.lines ≤ c.args.session.now.lines + 1)
+    c.take.ensures.taken
+
+pub returns-in_ok-read_line-in-Feed-clause-taken :
+    goal.returns-in_ok-read_line-in-Feed-clause-taken
+returns-in_ok-read_line-in-Feed-clause-taken g c =
+    let some : c.args.ending ≡ End → 0 < length c.args.bytes.now = λ e. cc in
+    one_each c.take-in-Feed.result c.args.ending c.args.bytes.now c.in_ok-read_line-in-Feed.field-0 c.args.session.now
+    c.take-in-Feed.new.self some c.in_ok-read_line-in-Feed.ensures c.take-in-Feed.ensures.taken
+
+pub returns-in_ok-read_line-in-Feed-clause-lines :
+    goal.returns-in_ok-read_line-in-Feed-clause-lines
+returns-in_ok-read_line-in-Feed-clause-lines g c =
+    one_counted c.take-in-Feed.result c.in_ok-read_line-in-Feed.field-0 c.args.session.now c.take-in-Feed.new.self
+    c.take-in-Feed.ensures.taken
+
+pub returns-in_ok-read_line-in-Feed-clause-refused :
+    goal.returns-in_ok-read_line-in-Feed-clause-refused
+returns-in_ok-read_line-in-Feed-clause-refused g c =
+    let some : c.args.ending ≡ End → 0 < length c.args.bytes.now = λ e. cc in
+    let short : c.args.ending ≢ TooLongOf = λ e. cc in
+    λ number why is told.
+    one_refused g.W.Write.contents c.args.ending c.args.bytes.now c.in_ok-read_line-in-Feed.field-0 c.args.session.now
+    c.args.output.now c.take-in-Feed.new.out number why some short c.in_ok-read_line-in-Feed.ensures
+    (c.take-in-Feed.ensures.refused number why is told)
+
+pub returns-in-End-clause-refused : goal.returns-in-End-clause-refused
+returns-in-End-clause-refused g c = λ number why is told. rw c.in-End.is (c.take_last.ensures.refused number why is told)

@@ -1,0 +1,45 @@
+use Rattle.std.proofs.Common.{refl, sym, subst}
+use Rattle.std.specs.Prelude.{OnOk}
+use Rattle.vap_replay.specs.Moves.{RefusesAt, Takes}
+use Rattle.vap_replay.specs.declared.line.Line.{Line}
+use Rattle.vap_replay.proofs.Arms.{event_step, refused_event, refused_line, refused_review, took_each}
+use Rattle.vap_replay.proofs.session.Session.take.Goals as goal
+
+pub returns-in-Asks-clause-refused : goal.returns-in-Asks-clause-refused
+returns-in-Asks-clause-refused g c =
+    λ number why is told.
+    subst (λ (l : Line). RefusesAt g.W.Write.contents l c.args.self.now c.args.out.now c.take_review.new.out number why)
+    (sym c.in-Asks.is)
+    (refused_review g.W.Write.contents c.in-Asks.request c.args.self.now _ c.args.out.now c.take_review.new.out number why
+    (c.take_review.ensures.told number why is told) (c.take_review.ensures.full number why is told) refl refl refl)
+
+pub returns-in_ok-answer_group-in-Happens-clause-step :
+    goal.returns-in_ok-answer_group-in-Happens-clause-step
+returns-in_ok-answer_group-in-Happens-clause-step g c =
+    event_step c.take_event.result _ c.answer_group.new.self c.take_event.new.self c.in_ok-answer_group-in-Happens.ensures.answered
+    c.requires.step.room c.take_event.ensures.rest c.take_event.ensures.published
+
+pub returns-in_ok-answer_group-in-Happens-clause-taken :
+    goal.returns-in_ok-answer_group-in-Happens-clause-taken
+returns-in_ok-answer_group-in-Happens-clause-taken g c =
+    subst (λ (l : Line). OnOk c.take_event.result (Takes l c.args.self.now c.take_event.new.self)) (sym c.in-Happens.is)
+    (took_each c.take_event.result c.in-Happens.event c.args.self.now _ c.answer_group.new.self c.take_event.new.self
+    c.in_ok-answer_group-in-Happens.ensures.answered refl refl refl c.take_event.ensures.rest c.take_event.ensures.taken)
+
+pub returns-in_ok-answer_group-in-Happens-clause-refused :
+    goal.returns-in_ok-answer_group-in-Happens-clause-refused
+returns-in_ok-answer_group-in-Happens-clause-refused g c =
+    λ number why is told.
+    subst (λ (l : Line). RefusesAt g.W.Write.contents l c.args.self.now c.args.out.now c.answer_group.new.out number why)
+    (sym c.in-Happens.is)
+    (refused_event g.W.Write.contents c.in-Happens.event c.args.self.now _ c.answer_group.new.self c.args.out.now
+    c.answer_group.new.out number why c.in_ok-answer_group-in-Happens.ensures.answered
+    c.in_ok-answer_group-in-Happens.ensures.written (c.take_event.ensures.refused number why is told) refl refl refl)
+
+pub returns-in-Refused-clause-refused : goal.returns-in-Refused-clause-refused
+returns-in-Refused-clause-refused g c =
+    λ number why is told.
+    subst (λ (l : Line). RefusesAt g.W.Write.contents l c.args.self.now c.args.out.now c.refuse.new.out number why)
+    (sym c.in-Refused.is)
+    (refused_line g.W.Write.contents c.in-Refused.fault c.args.self.now _ c.args.out.now c.refuse.new.out number why
+    (c.refuse.ensures.told number why is told) refl refl)

@@ -1,0 +1,20 @@
+use Rattle.std.proofs.Common.{sym, ap, ◌∙◌}
+use Rattle.vap_watch.specs.Places.{Position}
+use Rattle.vap_replay.proofs.Arms.{answered_last, answered_step, entries_length}
+use Rattle.vap_replay.proofs.session.Session.take_review.Goals as goal
+
+pub returns-then-waiting-eq-MOST_ENTRIES-clause-full :
+    goal.returns-then-waiting-eq-MOST_ENTRIES-clause-full
+returns-then-waiting-eq-MOST_ENTRIES-clause-full g c =
+    λ number why is told. entries_length c.args.self.now ∙ (sym c.waiting.ensures ∙ c.if-waiting-eq-MOST_ENTRIES.true)
+
+pub returns-in_ok-answer_group-clause-step : goal.returns-in_ok-answer_group-clause-step
+returns-in_ok-answer_group-clause-step g c =
+    let done = c.in_ok-answer_group.ensures.answered in
+    answered_step c.wait.new.self c.answer_group.new.self c.in_ok-wait.ensures.room done
+    (ap (λ (p : Position). p.staged) (done.log ∙ c.in_ok-wait.ensures.taken.log) ∙ c.requires.step.published)
+
+pub returns-in_ok-answer_group-clause-taken : goal.returns-in_ok-answer_group-clause-taken
+returns-in_ok-answer_group-clause-taken g c =
+    answered_last c.args.request c.args.self.now c.wait.new.self c.answer_group.new.self c.in_ok-wait.ensures.taken
+    c.in_ok-answer_group.ensures.answered

@@ -1,0 +1,19 @@
+-- The names of faults of lines, as they are printed.
+use Rattle.std.specs.Prelude.{ℕ, List, codes}
+use Rattle.vap_read.specs.Names.{event_fault_name}
+use Rattle.vap_request.specs.Names.{review_fault_name}
+use Rattle.vap_replay.specs.declared.fault.LineFault.{LineFault}
+use Rattle.vap_replay.specs.declared.fault.LineFault.TheVariants as fault
+
+-- the name of a fault of a line; of an event or a review the innermost fault's
+abbrev pub line_fault_name : LineFault → List ℕ
+line_fault_name fault.TooLong = codes "TooLong"
+line_fault_name fault.BadJson = codes "BadJson"
+line_fault_name fault.UnknownLine = codes "UnknownLine"
+line_fault_name (fault.OfEvent f) = event_fault_name f
+line_fault_name (fault.OfReview f) = review_fault_name f
+line_fault_name fault.LogFull = codes "LogFull"
+line_fault_name fault.TooManyObjects = codes "TooManyObjects"
+line_fault_name fault.AuditFull = codes "AuditFull"
+line_fault_name fault.Unverified = codes "Unverified"
+line_fault_name fault.Pattern = codes "Pattern"

@@ -1,0 +1,7 @@
+pub mod AuditLine
+pub mod Faults
+pub mod Lines
+pub mod Moves
+pub mod Replay
+pub mod Sessions
+pub mod Streams

@@ -1,0 +1,90 @@
+//! What a line of a stream is.
+
+ghost use Rattle.std.specs.Prelude.{◌≡◌, ◌≤◌, length, IfOk, false};
+ghost use Rattle.serde_json.specs.View.{view};
+ghost use Rattle.vap_lines.specs.Lines.{longest_line};
+ghost use Rattle.vap_read.specs.Reading.{read_event as event_of};
+ghost use Rattle.vap_request.specs.Reading.{read_review as review_of};
+ghost use Rattle.vap_replay.specs.Lines.{Reads, event_line, is_blank, line_of, review_line};
+
+use crate::fault::LineFault;
+use serde_json::Value as Json;
+use std::alloc::{AllocError, Global};
+use vap_read::{Event, EventError, LineKind, line_kind};
+use vap_request::{Request, ReviewError};
+
+/// What a line of a stream is.
+#[derive(Drop)]
+pub enum Line {
+    /// It is empty, or a carriage return alone.
+    Skipped,
+    Happens(Event),
+    Asks(Request),
+    Refused(LineFault),
+}
+
+/// Whether a line is empty, or a carriage return alone.
+fn is_blank(bytes: &[u8]) -> bool
+    ensures { result ≡ is_blank bytes.now }
+{
+    bytes.is_empty() || bytes == b"\r".as_slice()
+}
+
+/// What the bytes of a line are, which has no more than it may have.
+pub(crate) fn read_line(alloc: Global, bytes: &[u8]) -> Result<Line, AllocError>
+    requires { length bytes.now ≤ longest_line }
+    ensures { IfOk result (Reads bytes.now) }
+{
+    if is_blank(bytes) {
+        Ok(Line::Skipped)
+    } else {
+        read_text(alloc, bytes)
+    }
+}
+
+fn read_text(alloc: Global, bytes: &[u8]) -> Result<Line, AllocError>
+    requires short { length bytes.now ≤ longest_line }
+    requires some { is_blank bytes.now ≡ false }
+    ensures { IfOk result (Reads bytes.now) }
+{
+    match Json::from_slice(alloc, bytes) {
+        Ok(json) => read_json(alloc, json),
+        Err(error) => {
+            if error.is_memory() {
+                Err(AllocError)
+            } else {
+                Ok(Line::Refused(LineFault::BadJson))
+            }
+        }
+    }
+}
+
+fn read_json(alloc: Global, json: Json) -> Result<Line, AllocError>
+    ensures { IfOk result (λ line. line ≡ line_of json) }
+{
+    match line_kind(&json) {
+        LineKind::WatchEvent | LineKind::ObjectList => read_event(alloc, json),
+        LineKind::Review => read_review(alloc, json),
+        LineKind::Unknown => Ok(Line::Refused(LineFault::UnknownLine)),
+    }
+}
+
+fn read_event(alloc: Global, json: Json) -> Result<Line, AllocError>
+    ensures { IfOk result (λ line. line ≡ event_line (event_of (view json))) }
+{
+    match Event::from_json(alloc, json) {
+        Ok(event) => Ok(Line::Happens(event)),
+        Err(EventError::Fault(fault)) => Ok(Line::Refused(LineFault::OfEvent(fault))),
+        Err(EventError::OutOfMemory) => Err(AllocError),
+    }
+}
+
+fn read_review(alloc: Global, json: Json) -> Result<Line, AllocError>
+    ensures { IfOk result (λ line. line ≡ review_line (review_of json)) }
+{
+    match Request::from_json(alloc, json) {
+        Ok(request) => Ok(Line::Asks(request)),
+        Err(ReviewError::Fault(fault)) => Ok(Line::Refused(LineFault::OfReview(fault))),
+        Err(ReviewError::OutOfMemory) => Err(AllocError),
+    }
+}

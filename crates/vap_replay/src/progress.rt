@@ -1,0 +1,14 @@
+//! How far a replay is.
+
+/// Is told how far a replay is, after each line.
+pub trait Progress {
+    fn reached(&mut self, lines: u64, reviews: usize, revision: usize);
+}
+
+/// Tells nobody.
+#[derive(Clone, Copy, Debug)]
+pub struct Silent;
+
+impl Progress for Silent {
+    fn reached(&mut self, _lines: u64, _reviews: usize, _revision: usize) {}
+}

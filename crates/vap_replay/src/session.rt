@@ -1,0 +1,376 @@
+//! A replay under way.
+
+ghost use Rattle.std.specs.Prelude.{◌≡◌, ◌≢◌, ◌+◌, ◌<◌, ◌^◌, ◌∷◌, ◌++◌, ℕ, [], false, true};
+ghost use Rattle.std.specs.Prelude.{length, take, slice_get, Some, IfErr, IfOk, IsErr, IsErrOf, OnOk, string_bytes};
+ghost use Rattle.std.specs.Io.KnownBytes.{Appends, Keeps};
+ghost use Rattle.vap_lines.specs.Counted.{inner_of};
+ghost use Rattle.vap_audit.specs.Entries.{most_entries};
+ghost use Rattle.vap_audit.specs.declared.entry.Entry.{Entry as EntryOf};
+ghost use Rattle.vap_replay.specs.Moves.{CountsWrites, IsRefusal, RefusesAt, StopsAt, Takes, Writes};
+ghost use Rattle.vap_replay.specs.Streams.{is_of_the_lines};
+ghost use Rattle.vap_replay.specs.declared.fault.LineFault.{LineFault as FaultOf};
+ghost use Rattle.vap_replay.specs.Replay.{answer_line, answers_text, audit_line, audit_lines, audit_where, entry_of};
+ghost use Rattle.vap_replay.specs.Sessions.{Answered, Decided, HasRoom, IsInStep, IsOpening, RefusesEvent, TakesEvent, TakesReview};
+ghost use Rattle.vap_replay.specs.Sessions.{sofar_of, waiting_entries};
+
+use crate::audit_line::audit_text;
+use crate::fault::{LineFault, ReplayError, unpublished, unstaged};
+use crate::line::Line;
+use std::alloc::Global;
+use std::io::Write;
+use std::mem;
+use vap_answer::answer_text;
+use vap_audit::{AuditFault, Entry, History, MOST_ENTRIES};
+use vap_judge::{JudgeError, Matchers};
+use vap_lines::Counted;
+use vap_read::Event;
+use vap_request::Request;
+use vap_watch::{Writer, open};
+
+/// The most reviews that are judged together.
+pub const LARGEST_GROUP: usize = 1_024;
+
+/// A replay under way: what is published, what was decided, and the reviews that are read and not yet answered, with the line of
+/// the first of them.
+#[derive(Drop)]
+pub(crate) struct Session {
+    alloc: Global,
+    pub(crate) writer: Writer,
+    pub(crate) history: History,
+    pub(crate) group: Vec<Request>,
+    pub(crate) matchers: Matchers,
+    pub(crate) lines: u64,
+    pub(crate) first: u64,
+}
+
+impl Session {
+    #[tactic(auto, using(crate::proofs::Taking::published_not))]
+    pub(crate) fn new(alloc: Global) -> Result<Session, ReplayError>
+        ensures opening { IfOk result IsOpening }
+        ensures lines { (number : ℕ) → (why : FaultOf) → IsErrOf result (ReplayError.Line number why) → is_of_the_lines why ≡ false }
+        ensures unwritten { IfErr result (λ error. error ≢ ReplayError.Write) }
+    {
+        match open(alloc) {
+            Ok(writer) => Ok(Session {
+                alloc,
+                writer,
+                history: History::new(alloc),
+                group: Vec::new(alloc),
+                matchers: Matchers::new(alloc),
+                lines: 0,
+                first: 0,
+            }),
+            Err(error) => Err(unpublished(0, error)),
+        }
+    }
+
+    /// The refusal of the line that was read last.
+    fn refusal(&self, fault: LineFault) -> ReplayError
+        ensures { result ≡ ReplayError.Line self.now.lines fault }
+    {
+        ReplayError::Line {
+            line: self.lines,
+            fault,
+        }
+    }
+
+    /// Takes one line more: an event when the reviews before it are answered, a review into the group.
+    pub(crate) fn take<W: Write>(
+        &mut self,
+        line: Line,
+        out: &mut Counted<W>,
+    ) -> Result<(), ReplayError>
+        requires step { IsInStep self.old }
+        requires count { self.old.lines + 1 < 2 ^ 64 }
+        ensures step { OnOk result (IsInStep self.new) }
+        ensures taken { OnOk result (Takes line self.old self.new) }
+        ensures written { OnOk result (Writes W.contents self.old self.new out.old out.new) }
+        ensures refused { (number : ℕ) → (why : FaultOf) → is_of_the_lines why ≡ true → IsErrOf result (ReplayError.Line number why)
+            → RefusesAt W.contents line self.old out.old out.new number why }
+        ensures stopped { IfErr result (λ error. error ≢ ReplayError.Write → StopsAt W.contents self.old out.old out.new) }
+        ensures counts { CountsWrites result out.old out.new }
+    {
+        self.lines += 1;
+        match line {
+            Line::Skipped => Ok(()),
+            Line::Asks(request) => self.take_review(request, out),
+            Line::Happens(event) => {
+                self.answer_group(out)?;
+                self.take_event(event)
+            }
+            Line::Refused(fault) => self.refuse(fault, out),
+        }
+    }
+
+    /// Answers the reviews before the line that was read last, and refuses this line.
+    #[tactic(auto, using(crate::proofs::Taking::not_both, crate::proofs::Told::stops_here, crate::proofs::Told::stops_behind))]
+    fn refuse<W: Write>(
+        &mut self,
+        fault: LineFault,
+        out: &mut Counted<W>,
+    ) -> Result<(), ReplayError>
+        requires { IsInStep self.old }
+        ensures refused { IsErr result }
+        ensures told { (number : ℕ) → (why : FaultOf) → is_of_the_lines why ≡ true → IsErrOf result (ReplayError.Line number why)
+            → IsRefusal W.contents fault self.old out.old out.new number why }
+        ensures stopped { IfErr result (λ error. error ≢ ReplayError.Write → StopsAt W.contents self.old out.old out.new) }
+        ensures counts { CountsWrites result out.old out.new }
+    {
+        self.answer_group(out)?;
+        Err(self.refusal(fault))
+    }
+
+    /// Stages an event and publishes it.
+    #[tactic(auto, using(crate::proofs::Taking::staged_not, crate::proofs::Taking::published_not))]
+    fn take_event(&mut self, event: Event) -> Result<(), ReplayError>
+        requires published { self.old.writer.staged ≡ [] }
+        ensures published { OnOk result (self.new.writer.staged ≡ []) }
+        ensures taken { OnOk result (TakesEvent self.old.writer.published event self.new.writer.published) }
+        ensures refused { (number : ℕ) → (why : FaultOf) → is_of_the_lines why ≡ true → IsErrOf result (ReplayError.Line number why)
+            → (number ≡ self.old.lines) × RefusesEvent self.old.writer.published event why }
+        ensures unwritten { IfErr result (λ error. error ≢ ReplayError.Write) }
+        ensures rest { (self.new.history ≡ self.old.history) × (self.new.group ≡ self.old.group) × (self.new.lines ≡ self.old.lines) }
+    {
+        if let Err((fault, _)) = self.writer.stage(event) {
+            return Err(unstaged(self.lines, fault));
+        }
+        match self.writer.publish() {
+            Ok(_) => Ok(()),
+            Err(error) => Err(unpublished(self.lines, error)),
+        }
+    }
+
+    /// Puts a review into the group, and answers the group where it is as large as it may be, or the history has no room for
+    /// more.
+    #[tactic(auto, using(crate::proofs::Told::stops_here))]
+    fn take_review<W: Write>(
+        &mut self,
+        request: Request,
+        out: &mut Counted<W>,
+    ) -> Result<(), ReplayError>
+        requires step { IsInStep self.old }
+        ensures step { OnOk result (IsInStep self.new) }
+        ensures taken { OnOk result (TakesReview request self.old self.new) }
+        ensures written { OnOk result (Writes W.contents self.old self.new out.old out.new) }
+        ensures told { (number : ℕ) → (why : FaultOf) → is_of_the_lines why ≡ true → IsErrOf result (ReplayError.Line number why)
+            → IsRefusal W.contents LineFault.AuditFull self.old out.old out.new number why }
+        ensures full { (number : ℕ) → (why : FaultOf) → is_of_the_lines why ≡ true → IsErrOf result (ReplayError.Line number why)
+            → length (sofar_of self.old).entries ≡ most_entries }
+        ensures stopped { IfErr result (λ error. error ≢ ReplayError.Write → StopsAt W.contents self.old out.old out.new) }
+        ensures counts { CountsWrites result out.old out.new }
+    {
+        if self.waiting() == MOST_ENTRIES {
+            return self.refuse(LineFault::AuditFull, out);
+        }
+        self.wait(request)?;
+        if self.group.len() == LARGEST_GROUP || self.waiting() == MOST_ENTRIES {
+            self.answer_group(out)?;
+        }
+        Ok(())
+    }
+
+    /// Puts a review into the group, as the last.
+    fn wait(&mut self, request: Request) -> Result<(), ReplayError>
+        requires step { IsInStep self.old }
+        requires room { length self.old.history + length self.old.group.items < most_entries }
+        ensures taken { OnOk result (TakesReview request self.old self.new) }
+        ensures room { OnOk result (HasRoom self.new) }
+        ensures history { OnOk result (self.new.history ≡ self.old.history) }
+        ensures memory { IfErr result (λ error. error ≡ ReplayError.OutOfMemory) }
+    {
+        self.first = if self.group.is_empty() {
+            self.lines
+        } else {
+            self.first
+        };
+        self.group.push(request)?;
+        Ok(())
+    }
+
+    /// How many reviews were read, those of the group too.
+    fn waiting(&self) -> usize
+        requires { HasRoom self.now }
+        ensures { result ≡ length self.now.history + length self.now.group.items }
+    {
+        self.history.len() + self.group.len()
+    }
+
+    /// Judges the group, records what is decided, and then writes the answers. Before all are recorded, none is written.
+    pub(crate) fn answer_group<W: Write>(&mut self, out: &mut Counted<W>) -> Result<(), ReplayError>
+        requires room { HasRoom self.old }
+        ensures answered { OnOk result (Answered self.old self.new) }
+        ensures written { OnOk result (Appends (W.contents (inner_of out.old)) (W.contents (inner_of out.new))
+            (answers_text (waiting_entries self.old))) }
+        ensures lines { (number : ℕ) → (why : FaultOf) → IsErrOf result (ReplayError.Line number why) → is_of_the_lines why ≡ false }
+        ensures stopped { IfErr result (λ error. error ≢ ReplayError.Write → out.new ≡ out.old) }
+        ensures counts { CountsWrites result out.old out.new }
+    {
+        let text = self.decide_group()?;
+        write_text(text.as_str(), out)
+    }
+
+    /// Judges the group and records what is decided. The text is that of the answers, read from the history.
+    fn decide_group(&mut self) -> Result<String, ReplayError>
+        requires room { HasRoom self.old }
+        ensures answered { OnOk result (Answered self.old self.new) }
+        ensures text { IfOk result (λ text. string_bytes text
+            ≡ answers_text (waiting_entries self.old)) }
+        ensures lines { (number : ℕ) → (why : FaultOf) → IsErrOf result (ReplayError.Line number why) → is_of_the_lines why ≡ false }
+        ensures unwritten { IfErr result (λ error. error ≢ ReplayError.Write) }
+    {
+        let group = mem::replace(&mut self.group, Vec::new(self.alloc));
+        let mut text = String::new(self.alloc);
+        for request in group {
+            self.decide(request, &mut text)?;
+        }
+        Ok(text)
+    }
+
+    /// Judges one request and records what is decided; then its answer is put behind the text.
+    fn decide(&mut self, request: Request, text: &mut String) -> Result<(), ReplayError>
+        requires { length self.old.history < most_entries }
+        ensures decided { OnOk result
+            (Decided self.old self.new (entry_of self.old.writer.published (length self.old.history) request ∷ [])) }
+        ensures group { self.new.group ≡ self.old.group }
+        ensures text { OnOk result (string_bytes text.new ≡ string_bytes text.old
+            ++ answers_text (entry_of self.old.writer.published (length self.old.history) request ∷ [])) }
+        ensures lines { (number : ℕ) → (why : FaultOf) → IsErrOf result (ReplayError.Line number why) → is_of_the_lines why ≡ false }
+        ensures unwritten { IfErr result (λ error. error ≢ ReplayError.Write) }
+    {
+        let number = self.record(request)?;
+        let line = self.answer_line(number)?;
+        text.push_str(line.as_str())?;
+        Ok(())
+    }
+
+    /// The line that answers an entry's request.
+    fn answer_line(&self, number: usize) -> Result<String, ReplayError>
+        requires { number < length self.now.history }
+        ensures line { IfOk result (λ line. (e : EntryOf) → slice_get self.now.history number ≡ Some e → string_bytes line ≡ answer_line e) }
+        ensures memory { IfErr result (λ error. error ≡ ReplayError.OutOfMemory) }
+    {
+        let entry = self.history.at(number);
+        let mut answer = answer_text(
+            self.alloc,
+            entry.request.admission.get().uid.as_str(),
+            &entry.verdict,
+        )?;
+        answer.push('\n')?;
+        Ok(answer)
+    }
+
+    /// Judges one request at the published log and records what is decided, under the next number.
+    fn record(&mut self, request: Request) -> Result<usize, ReplayError>
+        requires { length self.old.history < most_entries }
+        ensures decided { OnOk result
+            (Decided self.old self.new (entry_of self.old.writer.published (length self.old.history) request ∷ [])) }
+        ensures number { IfOk result (λ number. number ≡ length self.old.history) }
+        ensures group { self.new.group ≡ self.old.group }
+        ensures lines { (number : ℕ) → (why : FaultOf) → IsErrOf result (ReplayError.Line number why) → is_of_the_lines why ≡ false }
+        ensures unwritten { IfErr result (λ error. error ≢ ReplayError.Write) }
+    {
+        let snapshot = self.writer.snapshot();
+        let log = snapshot.share_log()?;
+        let verdict = match snapshot.judge(self.alloc, &request, &mut self.matchers) {
+            Ok(verdict) => verdict,
+            Err(error) => return Err(unjudged(self.first, error)),
+        };
+        let entry = Entry {
+            call: self.history.len() as u64,
+            log,
+            request,
+            verdict,
+            worker: 0,
+        };
+        match self.history.append(entry) {
+            Ok(number) => Ok(number),
+            Err((AuditFault::AuditFull, _)) => unreachable!(),
+            Err((AuditFault::OutOfMemory, _)) => Err(ReplayError::OutOfMemory),
+        }
+    }
+
+    /// Writes the audit where it is wanted, and flushes.
+    #[tactic(auto, using(crate::proofs::Told::appends_kept))]
+    pub(crate) fn finish<W: Write>(
+        &self,
+        audit: bool,
+        out: &mut Counted<W>,
+    ) -> Result<(), ReplayError>
+        ensures written { OnOk result
+            (Appends (W.contents (inner_of out.old)) (W.contents (inner_of out.new)) (audit_where audit self.now.history)) }
+        ensures stopped { IfErr result (λ error. error ≢ ReplayError.Write → (audit ≡ true) × ((n : ℕ)
+            × Appends (W.contents (inner_of out.old)) (W.contents (inner_of out.new)) (audit_lines (take n self.now.history)))) }
+        ensures no_line { (number : ℕ) → (why : FaultOf) → IsErrOf result (ReplayError.Line number why) → ⊥ }
+        ensures counts { CountsWrites result out.old out.new }
+    {
+        if audit {
+            self.write_audit(out)?;
+        }
+        flush(out)
+    }
+
+    /// Writes a line for each entry of the history, by call.
+    fn write_audit<W: Write>(&self, out: &mut Counted<W>) -> Result<(), ReplayError>
+        ensures written { OnOk result
+            (Appends (W.contents (inner_of out.old)) (W.contents (inner_of out.new)) (audit_lines self.now.history)) }
+        ensures stopped { IfErr result (λ error. error ≢ ReplayError.Write → (n : ℕ)
+            × Appends (W.contents (inner_of out.old)) (W.contents (inner_of out.new)) (audit_lines (take n self.now.history))) }
+        ensures no_line { (number : ℕ) → (why : FaultOf) → IsErrOf result (ReplayError.Line number why) → ⊥ }
+        ensures counts { CountsWrites result out.old out.new }
+    {
+        for number in 0..self.history.len() {
+            let line = self.audit_line(number)?;
+            write_text(line.as_str(), out)?;
+        }
+        Ok(())
+    }
+
+    /// The line that the audit has for an entry.
+    fn audit_line(&self, number: usize) -> Result<String, ReplayError>
+        requires { number < length self.now.history }
+        ensures line { IfOk result (λ line. (e : EntryOf) → slice_get self.now.history number ≡ Some e → string_bytes line ≡ audit_line e) }
+        ensures memory { IfErr result (λ error. error ≡ ReplayError.OutOfMemory) }
+    {
+        let entry = self.history.at(number);
+        let mut line = audit_text(self.alloc, entry)?;
+        line.push('\n')?;
+        Ok(line)
+    }
+}
+
+/// Writes a text whole.
+fn write_text<W: Write>(text: &str, out: &mut Counted<W>) -> Result<(), ReplayError>
+    ensures written { OnOk result (Appends (W.contents (inner_of out.old)) (W.contents (inner_of out.new)) text.now) }
+    ensures write { IfErr result (λ error. error ≡ ReplayError.Write) }
+    ensures counts { CountsWrites result out.old out.new }
+{
+    match out.write_all(text.as_bytes()) {
+        Ok(()) => Ok(()),
+        Err(_) => Err(ReplayError::Write),
+    }
+}
+
+fn flush<W: Write>(out: &mut Counted<W>) -> Result<(), ReplayError>
+    ensures kept { Keeps (W.contents (inner_of out.old)) (W.contents (inner_of out.new)) }
+    ensures write { IfErr result (λ error. error ≡ ReplayError.Write) }
+    ensures counts { CountsWrites result out.old out.new }
+{
+    match out.flush() {
+        Ok(()) => Ok(()),
+        Err(_) => Err(ReplayError::Write),
+    }
+}
+
+/// Why a group of reviews is not judged, which is told at its first line.
+fn unjudged(first: u64, error: JudgeError) -> ReplayError
+    ensures lines { (number : ℕ) → (why : FaultOf) → result ≡ ReplayError.Line number why → is_of_the_lines why ≡ false }
+    ensures unwritten { result ≢ ReplayError.Write }
+{
+    match error {
+        JudgeError::Pattern => ReplayError::Line {
+            line: first,
+            fault: LineFault::Pattern,
+        },
+        JudgeError::OutOfMemory => ReplayError::OutOfMemory,
+    }
+}
