@@ -3,11 +3,11 @@
 process included. It runs the program that `./vap` built, 200 times, and prints the least time and the one in the middle."""
 import json
 import statistics
-import subprocess
 import sys
 import tempfile
-import time
 from pathlib import Path
+
+from timed import timed
 
 TOP = Path(__file__).resolve().parent.parent
 PROGRAM = TOP / "crates/vap/out/vap"
@@ -41,11 +41,7 @@ def main():
     with tempfile.NamedTemporaryFile("w", suffix=".json") as file:
         file.write(text)
         file.flush()
-        times = []
-        for _ in range(RUNS):
-            begin = time.perf_counter()
-            ran = subprocess.run([PROGRAM, "check", file.name], capture_output=True)
-            times.append(time.perf_counter() - begin)
+        times, ran = timed([PROGRAM, "check", file.name], RUNS)
     print(ran.stdout.decode(), end="")
     print(f"least {min(times) * 1000:.2f} ms, in the middle {statistics.median(times) * 1000:.2f} ms")
     return ran.returncode

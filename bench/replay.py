@@ -4,11 +4,11 @@ runs the program that `./vap` built three times, and prints the reviews of a sec
 import json
 import os
 import resource
-import subprocess
 import sys
 import tempfile
-import time
 from pathlib import Path
+
+from timed import timed
 
 TOP = Path(__file__).resolve().parent.parent
 PROGRAM = TOP / "crates/vap/out/vap"
@@ -80,11 +80,7 @@ def main():
         for line in lines():
             file.write(json.dumps(line, separators=(",", ":")) + "\n")
         file.flush()
-        times = []
-        for _ in range(RUNS):
-            begin = time.perf_counter()
-            ran = subprocess.run([PROGRAM, "replay", file.name], capture_output=True)
-            times.append(time.perf_counter() - begin)
+        times, ran = timed([PROGRAM, "replay", file.name], RUNS)
         size = os.path.getsize(file.name)
     answers = [json.loads(line) for line in ran.stdout.splitlines()]
     denied = sum(not answer["allowed"] for answer in answers)
