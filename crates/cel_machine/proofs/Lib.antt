@@ -1,4 +1,5 @@
 pub mod Gathering
+pub mod Innermost
 pub mod Meters
 pub mod Running
 pub mod Values

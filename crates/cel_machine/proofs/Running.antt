@@ -1,18 +1,18 @@
 -- The run of an accepted image.
 use Rattle.std.proofs.Common.{◌≡◌, ℕ, ◌+◌, ◌-◌, ◌^◌, ◌<◌, ◌≤◌, min, true, List}
-use Rattle.std.proofs.Common.{[], length, Some, refl, sym, ap, ◌∙◌, subst, arith}
+use Rattle.std.proofs.Common.{[], ◌∷◌, length, Some, refl, sym, ap, ◌∙◌, subst, arith}
 use Rattle.std.specs.Prelude.{slice_get}
 use Rattle.cel_code.specs.declared.instr.Instr.{Instr}
 use Rattle.cel_code.specs.declared.image.Image.{Image}
 use Rattle.cel_operators.specs.Outcomes.{Outcome, slots_fit}
 use Rattle.cel_code.specs.Machine.{Frame, State, on, Next, Goes, Ends, Stuck, act, act_at, step, inputs_of, Gets, Stays, Run}
 use Rattle.cel_machine.specs.declared.step.Move.{Move}
-use Rattle.cel_machine.specs.declared.step.Move.TheVariants.{GoesTo, EndsWith, IsStuckHere}
+use Rattle.cel_machine.specs.declared.step.Move.TheVariants.{GoesTo, IsOver, IsStuckHere}
 use Rattle.cel_verify.specs.StackTypes.{Fits}
 use Rattle.cel_verify.specs.Paths.{charge_at, path_cost, path_steps}
 use Rattle.cel_verify.specs.Typed.{total, GoesOn}
 use Rattle.cel_verify.specs.Accepted.{IsAccepted, budget}
-use Rattle.cel_machine.specs.Follow.{metered, next_of}
+use Rattle.cel_machine.specs.Follow.{metered, next_of, end_of, top_of}
 use Rattle.cel_verify.specs.Depths.{greatest_depth, greatest_nesting}
 use Rattle.cel_verify.proofs.StepsFit.{steps_fit}
 use Rattle.cel_verify.proofs.Depths.{never_more, never_more_loops}
@@ -29,6 +29,16 @@ stepped image slots at i stack stack' frames frames' m h e = ap (λ o. metered (
 pub begun : (image : Image) (slots : List Outcome) (stack : List Outcome) (frames : List Frame) → stack ≡ [] → frames ≡ []
     → Gets image slots (on 0 [] []) (on 0 stack frames) 0 0
 begun image slots stack frames e f = rw (e, f) (Stays refl refl refl)
+
+-- a run that is over ends with what is on top
+over : (stack : List Outcome) (frames : List Frame) (x : Outcome) → top_of stack ≡ Some x → end_of stack frames ≡ Ends x
+over [] frames x e = cc
+over (y ∷ stack) frames x e = cc
+
+-- something is there, where the end is no place to be stuck
+some_top : (stack : List Outcome) (frames : List Frame) → (end_of stack frames ≡ Stuck → ⊥) → 0 < length stack
+some_top [] frames h = absurd (h refl)
+some_top (y ∷ stack) frames h = omega arith
 
 -- where the run is
 pub record IsAt (image : Image) (at charged steps : ℕ) : Type 0 where
@@ -113,19 +123,29 @@ module _ (p image : Image) (slots : List Outcome) (accepted : IsAccepted p) (is 
           let h = subst (λ i. Gets i slots (on 0 [] []) (on to stack' frames') (charged + charge) (steps + 1)) is (goes charge to q) in
           subst (λ i. IsAt i to (charged + charge) (steps + 1)) (sym is) (state_at (on to stack' frames') (charged + charge) (steps + 1) h)
 
-      pub finishes : (x : Outcome) → m ≡ EndsWith x → Run p slots x charged (steps + 1)
-      finishes x q =
+      -- the step, where the run is over
+      ended : (x : Outcome) → m ≡ IsOver → top_of stack' ≡ Some x → step image slots (on at stack frames) ≡ Ends x
+      ended x q t = moved IsOver q ∙ over stack' frames' x t
+
+      pub finishes : (x : Outcome) → m ≡ IsOver → top_of stack' ≡ Some x → Run p slots x charged (steps + 1)
+      finishes x q t =
           let run : Run image slots x charged (steps + 1) =
-          record { last = on at stack frames; before = steps; gets = g; ends = moved (EndsWith x) q; count = refl } in
+          record { last = on at stack frames; before = steps; gets = g; ends = ended x q t; count = refl } in
           subst (λ i. Run i slots x charged (steps + 1)) is run
 
-      pub outcome_fits : (x : Outcome) → m ≡ EndsWith x → Fits x p.result
-      outcome_fits x q =
+      pub outcome_fits : (x : Outcome) → m ≡ IsOver → top_of stack' ≡ Some x → Fits x p.result
+      outcome_fits x q t =
           let w = runs_within p slots accepted.sound filled in
           w.outcome (on at stack frames) charged steps x gets
-          (subst (λ i. step i slots (on at stack frames) ≡ Ends x) is (moved (EndsWith x) q))
+          (subst (λ i. step i slots (on at stack frames) ≡ Ends x) is (ended x q t))
+
+      never_stuck : step image slots (on at stack frames) ≡ Stuck → ⊥
+      never_stuck h =
+          let w = runs_within p slots accepted.sound filled in
+          w.never (on at stack frames) charged steps gets (subst (λ i. step i slots (on at stack frames) ≡ Stuck) is h)
 
       pub not_stuck : m ≡ IsStuckHere → ⊥
-      not_stuck q =
-          let w = runs_within p slots accepted.sound filled in
-          w.never (on at stack frames) charged steps gets (subst (λ i. step i slots (on at stack frames) ≡ Stuck) is (moved IsStuckHere q))
+      not_stuck q = never_stuck (moved IsStuckHere q)
+
+      pub has_top : m ≡ IsOver → 0 < length stack'
+      has_top q = some_top stack' frames' (λ e. never_stuck (moved IsOver q ∙ e))

@@ -1,7 +1,12 @@
-ghost use Rattle.std.specs.Prelude.{◌≡◌, ◌∷◌, [], reverse, slice_get, option_copied, IfOk, MatchOption};
+ghost use Rattle.std.specs.Prelude.{◌≡◌, ◌∷◌, [], List, None, Some, reverse, slice_get, option_copied, IfOk, MatchBool, MatchOption};
+ghost use Rattle.cel_operators.specs.Outcomes.{Outcome};
 ghost use Rattle.cel_machine.specs.Room.{HasFrameRoom};
+ghost use Rattle.cel_machine.specs.Follow.{advanced, next_in, turned_in};
 
 use crate::frame::Frame;
+use crate::operand::Operand;
+use crate::turning::Turned;
+use cel_value::CelError;
 use std::alloc::{AllocError, Global};
 use std::marker::Model;
 
@@ -45,9 +50,7 @@ impl<'a> Frames<'a> {
         ensures items { self.new.items ≡ frame.entry ∷ self.old.items }
         ensures room { self.new.room ≡ self.old.room }
     {
-        let Ok(()) = self.items.push(frame) else {
-            unreachable!();
-        };
+        self.items.push_reserved(frame);
     }
 
     pub fn pop(&mut self) -> Option<Frame<'a>>
@@ -56,6 +59,33 @@ impl<'a> Frames<'a> {
         ensures room { self.new.room ≡ self.old.room }
     {
         self.items.pop()
+    }
+
+    /// The innermost loop is at its next item, if there is one.
+    pub fn advance(&mut self) -> bool
+        ensures items { MatchBool result (advanced self.old.items ≡ Some self.new.items) (advanced self.old.items ≡ None) }
+        ensures room { self.new.room ≡ self.old.room }
+    {
+        let Some(frame) = self.items.last_mut() else {
+            return false;
+        };
+        frame.advance()
+    }
+
+    /// The innermost loop's turn at its item, by what its body gave there.
+    pub fn turn(
+        &mut self,
+        alloc: Global,
+        x: Result<Operand<'_>, CelError>,
+    ) -> Result<Turned, AllocError>
+        ensures turned { IfOk result (λ t. (stack : List Outcome) → next_in (x.entry ∷ stack) self.old.items
+            ≡ turned_in t stack self.new.items) }
+        ensures room { self.new.room ≡ self.old.room }
+    {
+        let Some(frame) = self.items.last_mut() else {
+            return Ok(Turned::IsStuck);
+        };
+        frame.turn(alloc, x)
     }
 
     /// The open loop by the number of loops between: 0 is the innermost.

@@ -7,6 +7,7 @@ ghost use Rattle.cel_machine.specs.Room.{HasRoom};
 ghost use Rattle.cel_machine.specs.Follow.{LeadsTo};
 ghost use Rattle.cel_apply.specs.Counted.{counted};
 
+use crate::fault::RunFault;
 use crate::stack::Stack;
 use crate::step::{Move, finish};
 use cel_operators::Made;
@@ -15,12 +16,7 @@ use plain::Items;
 use std::alloc::{AllocError, Global};
 
 /// The list of so many items on the stack, the last one on top, or the leftmost error.
-pub fn list(
-    alloc: Global,
-    count: usize,
-    at: usize,
-    stack: &mut Stack<'_>,
-) -> Result<Move, AllocError>
+pub fn list(alloc: Global, count: usize, at: usize, stack: &mut Stack<'_>) -> Result<Move, RunFault>
     requires at { at + 1 < 2 ^ 64 }
     requires room { HasRoom stack.old }
     ensures acts { IfOk result (λ m. LeadsTo (listed (taken_off count [] stack.old.items) at) m stack.new.items) }

@@ -2,11 +2,13 @@
 
 ghost use Rattle.std.specs.Prelude.{◌≡◌, ◌+◌, ◌<◌, ◌^◌, List, Some, Ok, IfOk, slice_get};
 ghost use Rattle.cel_operators.specs.Outcomes.{Outcome};
-ghost use Rattle.cel_code.specs.Machine.{item_of, slot, opened, gone_on};
+ghost use Rattle.cel_code.specs.Machine.{item_of, slot, opened};
 ghost use Rattle.cel_machine.specs.Ranges.{range_items};
 ghost use Rattle.cel_machine.specs.Room.{HasRoom, HasFrameRoom};
 ghost use Rattle.cel_machine.specs.Follow.{Follows, Turns, loop_of, item_in, when_in, side_in, next_in};
+ghost use Rattle.cel_machine.specs.Follow.{mapped_in, gone_in, finished_in, closed_in};
 
+use crate::fault::RunFault;
 use crate::frame::Frame;
 use crate::frames::Frames;
 use crate::operand::{own, read};
@@ -16,7 +18,7 @@ use crate::step::Move;
 use crate::turning::{Turned, nothing_yet, result_of};
 use cel_apply::truth;
 use cel_parse::Loop;
-use cel_value::CelError;
+use cel_value::{CelError, Value};
 use std::alloc::{AllocError, Global};
 
 /// The item at which an open loop is.
@@ -26,7 +28,7 @@ pub fn local<'a>(
     at: usize,
     stack: &mut Stack<'a>,
     frames: &Frames<'a>,
-) -> Result<Move, AllocError>
+) -> Result<Move, RunFault>
     requires at { at + 1 < 2 ^ 64 }
     requires room { HasRoom stack.old }
     ensures acts { IfOk result (λ m. Follows (slot (item_of (slice_get frames.now.items number)) at stack.old.items frames.now.items)
@@ -98,17 +100,12 @@ fn open_over<'a>(
 /// The next item of the innermost loop.
 pub fn item(at: usize, frames: &mut Frames<'_>) -> Move
     requires at { at + 1 < 2 ^ 64 }
-    requires frame_room { HasFrameRoom frames.old }
     ensures acts { (stack : List Outcome) → Follows (item_in at stack frames.old.items) result stack frames.new.items }
     ensures frame_room { frames.new.room ≡ frames.old.room }
 {
-    let Some(mut frame) = frames.pop() else {
-        return Move::IsStuckHere;
-    };
-    if !frame.advance() {
+    if !frames.advance() {
         return Move::IsStuckHere;
     }
-    frames.push(frame);
     Move::GoesTo(1, at + 1)
 }
 
@@ -116,7 +113,6 @@ pub fn item(at: usize, frames: &mut Frames<'_>) -> Move
 pub fn when<'a>(at: usize, stack: &mut Stack<'a>, frames: &mut Frames<'a>) -> Move
     requires at { at + 1 < 2 ^ 64 }
     requires room { HasRoom stack.old }
-    requires frame_room { HasFrameRoom frames.old }
     ensures acts { Follows (when_in at stack.old.items frames.old.items) result stack.new.items frames.new.items }
     ensures room { stack.new.room ≡ stack.old.room }
     ensures frame_room { frames.new.room ≡ frames.old.room }
@@ -136,25 +132,37 @@ fn test<'a>(
 ) -> Move
     requires at { at + 1 < 2 ^ 64 }
     requires room { HasRoom stack.old }
-    requires frame_room { HasFrameRoom frames.old }
     ensures acts { Follows (side_in side at stack.old.items frames.old.items) result stack.new.items frames.new.items }
     ensures room { stack.new.room ≡ stack.old.room }
     ensures frame_room { frames.new.room ≡ frames.old.room }
 {
-    let Some(frame) = frames.pop() else {
+    let Some(frame) = frames.get(0) else {
         return Move::IsStuckHere;
     };
-    match (frame.mode(), side) {
-        (Loop::Map, Some(Ok(true))) => {
-            frames.push(frame);
-            Move::GoesTo(0, at + 1)
-        }
-        (Loop::Map, Some(Ok(false))) => go_on(frame, stack, frames),
-        (Loop::Map, Some(Err(error))) => {
-            stack.push(Err(error));
-            Move::GoesTo(0, frame.exit())
-        }
+    match frame.mode() {
+        Loop::Map => test_in_map(side, at, stack, frames),
         _ => Move::IsStuckHere,
+    }
+}
+
+// What the predicate of a `map` gave.
+fn test_in_map<'a>(
+    side: Option<Result<bool, CelError>>,
+    at: usize,
+    stack: &mut Stack<'a>,
+    frames: &mut Frames<'a>,
+) -> Move
+    requires at { at + 1 < 2 ^ 64 }
+    requires room { HasRoom stack.old }
+    ensures acts { Follows (mapped_in side at stack.old.items frames.old.items) result stack.new.items frames.new.items }
+    ensures room { stack.new.room ≡ stack.old.room }
+    ensures frame_room { frames.new.room ≡ frames.old.room }
+{
+    match side {
+        Some(Ok(true)) => Move::GoesTo(0, at + 1),
+        Some(Ok(false)) => go_on(stack, frames),
+        Some(Err(error)) => close(Err(error), stack, frames),
+        None => Move::IsStuckHere,
     }
 }
 
@@ -163,9 +171,8 @@ pub fn next<'a>(
     alloc: Global,
     stack: &mut Stack<'a>,
     frames: &mut Frames<'a>,
-) -> Result<Move, AllocError>
+) -> Result<Move, RunFault>
     requires room { HasRoom stack.old }
-    requires frame_room { HasFrameRoom frames.old }
     ensures acts { IfOk result (λ m. Follows (next_in stack.old.items frames.old.items) m stack.new.items frames.new.items) }
     ensures room { stack.new.room ≡ stack.old.room }
     ensures frame_room { frames.new.room ≡ frames.old.room }
@@ -173,52 +180,73 @@ pub fn next<'a>(
     let Some(x) = stack.pop() else {
         return Ok(Move::IsStuckHere);
     };
-    let Some(mut frame) = frames.pop() else {
-        return Ok(Move::IsStuckHere);
-    };
-    let turned = frame.turn(alloc, x);
-    close(turned, frame, stack, frames)
+    behind(frames.turn(alloc, x), stack, frames)
 }
 
 // Behind a turn: the loop ends, or goes on with what it has gathered.
-fn close<'a>(
+fn behind<'a>(
     turned: Result<Turned, AllocError>,
-    frame: Frame<'a>,
     stack: &mut Stack<'a>,
     frames: &mut Frames<'a>,
-) -> Result<Move, AllocError>
+) -> Result<Move, RunFault>
     requires room { HasRoom stack.old }
-    requires frame_room { HasFrameRoom frames.old }
-    ensures acts { IfOk result (λ m. Turns turned frame.entry stack.old.items frames.old.items m stack.new.items frames.new.items) }
+    ensures acts { IfOk result (λ m. Turns turned stack.old.items frames.old.items m stack.new.items frames.new.items) }
     ensures room { stack.new.room ≡ stack.old.room }
     ensures frame_room { frames.new.room ≡ frames.old.room }
 {
     match turned {
-        Ok(Turned::GoesOn) => Ok(go_on(frame, stack, frames)),
-        Ok(Turned::Closes(outcome)) => {
-            stack.push(own(outcome));
-            Ok(Move::GoesTo(0, frame.exit()))
-        }
+        Ok(Turned::GoesOn) => Ok(go_on(stack, frames)),
+        Ok(Turned::Closes(outcome)) => Ok(close(outcome, stack, frames)),
         Ok(Turned::IsStuck) => Ok(Move::IsStuckHere),
-        Err(error) => Err(error),
+        Err(error) => Err(RunFault::from(error)),
     }
 }
 
 // To the next item, or out of the loop with its result where none is left.
-fn go_on<'a>(frame: Frame<'a>, stack: &mut Stack<'a>, frames: &mut Frames<'a>) -> Move
+fn go_on<'a>(stack: &mut Stack<'a>, frames: &mut Frames<'a>) -> Move
     requires room { HasRoom stack.old }
-    requires frame_room { HasFrameRoom frames.old }
-    ensures acts { Follows (gone_on frame.entry frame.entry.left frame.entry.gathered stack.old.items frames.old.items)
-        result stack.new.items frames.new.items }
+    ensures acts { Follows (gone_in stack.old.items frames.old.items) result stack.new.items frames.new.items }
     ensures room { stack.new.room ≡ stack.old.room }
     ensures frame_room { frames.new.room ≡ frames.old.room }
 {
+    let Some(frame) = frames.get(0) else {
+        return Move::IsStuckHere;
+    };
     if frame.has_left() {
-        let again = frame.again();
-        frames.push(frame);
-        return Move::GoesTo(0, again);
+        return Move::GoesTo(0, frame.again());
     }
+    finish_loop(stack, frames)
+}
+
+// Out of the loop with its result.
+fn finish_loop<'a>(stack: &mut Stack<'a>, frames: &mut Frames<'a>) -> Move
+    requires room { HasRoom stack.old }
+    ensures acts { Follows (finished_in stack.old.items frames.old.items) result stack.new.items frames.new.items }
+    ensures room { stack.new.room ≡ stack.old.room }
+    ensures frame_room { frames.new.room ≡ frames.old.room }
+{
+    let Some(frame) = frames.pop() else {
+        return Move::IsStuckHere;
+    };
     let exit = frame.exit();
     stack.push(own(frame.into_outcome()));
     Move::GoesTo(0, exit)
+}
+
+// Out of the loop with this.
+fn close<'a>(
+    outcome: Result<Value, CelError>,
+    stack: &mut Stack<'a>,
+    frames: &mut Frames<'a>,
+) -> Move
+    requires room { HasRoom stack.old }
+    ensures acts { Follows (closed_in outcome stack.old.items frames.old.items) result stack.new.items frames.new.items }
+    ensures room { stack.new.room ≡ stack.old.room }
+    ensures frame_room { frames.new.room ≡ frames.old.room }
+{
+    let Some(frame) = frames.pop() else {
+        return Move::IsStuckHere;
+    };
+    stack.push(own(outcome));
+    Move::GoesTo(0, frame.exit())
 }

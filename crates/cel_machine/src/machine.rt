@@ -1,19 +1,22 @@
-ghost use Rattle.std.specs.Prelude.{◌≡◌, ◌≤◌, true, IfOk};
+ghost use Rattle.std.specs.Prelude.{◌≡◌, ◌<◌, ◌≤◌, true, Some, IfOk, length};
 ghost use Rattle.cel_operators.specs.Outcomes.{slots_fit};
 ghost use Rattle.cel_code.specs.Machine.{Run as IsRun};
 ghost use Rattle.cel_verify.specs.StackTypes.{Fits};
 ghost use Rattle.cel_verify.specs.Paths.{path_cost, path_steps};
 ghost use Rattle.cel_verify.specs.Accepted.{budget};
+ghost use Rattle.cel_machine.specs.Follow.{top_of};
 
 use crate::ended::Run;
 use crate::fault::RunFault;
 use crate::frames::Frames;
+use crate::operand::outcome_of;
 use crate::slots::Slots;
 use crate::stack::Stack;
 use crate::step::{Move, step};
 use cel_patterns::Matchers;
+use cel_value::{CelError, Value};
 use cel_verify::Program;
-use std::alloc::Global;
+use std::alloc::{AllocError, Global};
 
 /// Runs a program where its slots hold these. The run is the definition's; it ends within as many steps as the longest
 /// route has, for no more than the dearest route and no more than the budget, with an outcome of the image's type.
@@ -60,7 +63,8 @@ pub fn run<'a>(
                 steps += 1;
                 at = to;
             }
-            Move::EndsWith(outcome) => {
+            Move::IsOver => {
+                let outcome = taken(alloc, &mut stack)?;
                 return Ok(Run {
                     outcome,
                     charged,
@@ -71,4 +75,15 @@ pub fn run<'a>(
         }
     }
     unreachable!()
+}
+
+// The outcome of a run that is over, off the stack.
+fn taken(alloc: Global, stack: &mut Stack<'_>) -> Result<Result<Value, CelError>, AllocError>
+    requires { 0 < length stack.old.items }
+    ensures { IfOk result (λ x. top_of stack.old.items ≡ Some x) }
+{
+    let Some(x) = stack.pop() else {
+        unreachable!();
+    };
+    outcome_of(alloc, x)
 }

@@ -48,9 +48,7 @@ impl<'a> Stack<'a> {
         ensures items { self.new.items ≡ item.entry ∷ self.old.items }
         ensures room { self.new.room ≡ self.old.room }
     {
-        let Ok(()) = self.items.push(item) else {
-            unreachable!();
-        };
+        self.items.push_reserved(item);
     }
 
     pub fn pop(&mut self) -> Option<Result<Operand<'a>, CelError>>

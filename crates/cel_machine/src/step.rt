@@ -1,13 +1,13 @@
-ghost use Rattle.std.specs.Prelude.{◌≡◌, ◌+◌, ◌<◌, ◌^◌, IfOk, Some, slice_get, option_map};
-ghost use Rattle.cel_operators.specs.Operators.{row};
+ghost use Rattle.std.specs.Prelude.{◌≡◌, ◌+◌, ◌<◌, ◌^◌, [], IfOk, Some, slice_get, option_map};
+ghost use Rattle.cel_operators.specs.Operators.{row, operator_of};
 ghost use Rattle.cel_operators.specs.Wants.{side_of};
 ghost use Rattle.cel_code.specs.Machine.{Frame, act, inputs_of, push, constant as constant_of, slot as slot_of, operate_by};
-ghost use Rattle.cel_code.specs.Machine.{made as made_next, join as sides_joined};
+ghost use Rattle.cel_code.specs.Machine.{made as made_next, join as sides_joined, mapped, taken_off};
 ghost use Rattle.cel_machine.specs.Found.{made_by};
 ghost use Rattle.cel_apply.specs.Lent.{lent};
 ghost use Rattle.cel_machine.specs.Room.{HasRoom, HasFrameRoom};
 ghost use Rattle.cel_machine.specs.Follow.{Follows, LeadsTo, Comes, Finishes, metered_one, metered_two};
-ghost use Rattle.cel_machine.specs.Follow.{test_of, join_of, sides_of, branch_of};
+ghost use Rattle.cel_machine.specs.Follow.{test_of, join_of, sides_of, branch_of, end_of};
 
 use crate::fault::RunFault;
 use crate::frames::Frames;
@@ -15,7 +15,7 @@ use crate::indexing::{Found, index_list, index_map};
 use crate::listing::list;
 use crate::looping::{item, local, next, open_loop, when};
 use crate::mapping::map;
-use crate::operand::{Operand, outcome_of, own, read};
+use crate::operand::{Operand, own, read};
 use crate::parts::lend;
 use crate::slots::Slots;
 use crate::stack::Stack;
@@ -28,11 +28,12 @@ use cel_value::{CelError, Value};
 use std::alloc::{AllocError, Global};
 
 /// Where one instruction leads.
-#[derive(Drop)]
+#[derive(Clone, Copy)]
 pub enum Move {
     /// To an instruction, for a charge.
     GoesTo(u64, usize),
-    EndsWith(Result<Value, CelError>),
+    /// Nowhere: the run is over, and its outcome is on top.
+    IsOver,
     IsStuckHere,
 }
 
@@ -56,35 +57,50 @@ pub fn step<'a>(
     ensures room { stack.new.room ≡ stack.old.room }
     ensures frame_room { frames.new.room ≡ frames.old.room }
 {
-    match instr {
-        Instr::Const(number) => Ok(constant(image, number, at, stack)),
-        Instr::Slot(number) => Ok(slot(slots, number, at, stack)),
-        Instr::Local(number) => Ok(local(alloc, number, at, stack, frames)?),
-        Instr::Op(code) => match Operator::from_code(code) {
-            Some(op) => Ok(operate(alloc, op, at, stack)?),
-            None => Ok(Move::IsStuckHere),
-        },
-        Instr::WithText(op, number) => match text_at(image, number) {
+    let moved = match instr {
+        Instr::Const(number) => constant(image, number, at, stack),
+        Instr::Slot(number) => slot(slots, number, at, stack),
+        Instr::Local(number) => return local(alloc, number, at, stack, frames),
+        Instr::Op(code) => return operator(alloc, code, at, stack),
+        Instr::WithText(op, number) => return match text_at(image, number) {
             Some(text) => operate_with(alloc, op, text, at, stack, matchers),
             None => Ok(Move::IsStuckHere),
         },
-        Instr::List(count) => Ok(list(alloc, count, at, stack)?),
-        Instr::Map(count) => Ok(map(alloc, count, at, stack)?),
-        Instr::AndTest(to) => Ok(test(stack, false, to, at)),
-        Instr::OrTest(to) => Ok(test(stack, true, to, at)),
-        Instr::And => Ok(join(stack, true, at)),
-        Instr::Or => Ok(join(stack, false, at)),
-        Instr::Cond(if_false, if_error) => Ok(branch(stack, if_false, if_error, at)),
-        Instr::Jump(to) => Ok(Move::GoesTo(0, to)),
-        Instr::Loop(mode, exit) => Ok(open_loop(alloc, mode, exit, at, stack, frames)),
-        Instr::Item => Ok(item(at, frames)),
-        Instr::When => Ok(when(at, stack, frames)),
-        Instr::Next => Ok(next(alloc, stack, frames)?),
-        Instr::End => Ok(match stack.pop() {
-            Some(x) => Move::EndsWith(outcome_of(alloc, x)?),
-            None => Move::IsStuckHere,
-        }),
+        Instr::List(count) => return list(alloc, count, at, stack),
+        Instr::Map(count) => return made_map(alloc, count, at, stack),
+        Instr::AndTest(to) => test(stack, false, to, at),
+        Instr::OrTest(to) => test(stack, true, to, at),
+        Instr::And => join(stack, true, at),
+        Instr::Or => join(stack, false, at),
+        Instr::Cond(if_false, if_error) => branch(stack, if_false, if_error, at),
+        Instr::Jump(to) => Move::GoesTo(0, to),
+        Instr::Loop(mode, exit) => open_loop(alloc, mode, exit, at, stack, frames),
+        Instr::Item => item(at, frames),
+        Instr::When => when(at, stack, frames),
+        Instr::Next => return next(alloc, stack, frames),
+        Instr::End => end(stack),
+    };
+    Ok(moved)
+}
+
+// The end of the run, with the top as its outcome.
+fn end(stack: &Stack<'_>) -> Move
+    ensures { LeadsTo (end_of stack.now.items) result stack.now.items }
+{
+    match stack.top() {
+        Some(_) => Move::IsOver,
+        None => Move::IsStuckHere,
     }
+}
+
+// A map, for which memory alone may be wanting.
+fn made_map(alloc: Global, count: usize, at: usize, stack: &mut Stack<'_>) -> Result<Move, RunFault>
+    requires at { at + 1 < 2 ^ 64 }
+    requires room { HasRoom stack.old }
+    ensures acts { IfOk result (λ m. LeadsTo (mapped (taken_off (count + count) [] stack.old.items) at) m stack.new.items) }
+    ensures room { stack.new.room ≡ stack.old.room }
+{
+    Ok(map(alloc, count, at, stack)?)
 }
 
 fn constant<'a>(image: &'a Image, number: usize, at: usize, stack: &mut Stack<'a>) -> Move
@@ -111,6 +127,19 @@ fn slot<'a>(slots: &'a Slots<'_>, number: usize, at: usize, stack: &mut Stack<'a
     };
     stack.push(lend(held));
     Move::GoesTo(1, at + 1)
+}
+
+// The operator of a number.
+fn operator(alloc: Global, code: usize, at: usize, stack: &mut Stack<'_>) -> Result<Move, RunFault>
+    requires at { at + 1 < 2 ^ 64 }
+    requires room { HasRoom stack.old }
+    ensures acts { IfOk result (λ m. LeadsTo (operate_by (operator_of code) at stack.old.items) m stack.new.items) }
+    ensures room { stack.new.room ≡ stack.old.room }
+{
+    match Operator::from_code(code) {
+        Some(op) => Ok(operate(alloc, op, at, stack)?),
+        None => Ok(Move::IsStuckHere),
+    }
 }
 
 fn operate(

@@ -2,7 +2,7 @@ use Rattle.std.proofs.Common.{◌+◌, sym, ap, ◌∙◌, arith}
 use Rattle.cel_verify.specs.Paths.{path_cost, path_steps}
 use Rattle.cel_verify.specs.Depths.{greatest_depth, greatest_nesting}
 use Rattle.cel_verify.proofs.Walking.{no_end}
-use Rattle.cel_machine.proofs.Running.{begun, here, deep, nested, goes, there, outcome_fits, not_stuck}
+use Rattle.cel_machine.proofs.Running.{begun, here, deep, nested, goes, there, outcome_fits, has_top, not_stuck}
 use Rattle.cel_machine.proofs.machine.run.Goals as goal
 
 pub loop-instr-init : goal.loop-instr-init
@@ -87,33 +87,33 @@ overflow_add-result c =
     let h = run l.at l.stack.items l.frames.items l.charged l.steps l.invariant.0 in
     omega (arith, h.few)
 
-pub returns-in-EndsWith-clause-fits : goal.returns-in-EndsWith-clause-fits
-returns-in-EndsWith-clause-fits c =
+pub returns-in-IsOver-clause-fits : goal.returns-in-IsOver-clause-fits
+returns-in-IsOver-clause-fits c =
     let l = c.loop-instr in
     let i = c.image-image in
     let run = outcome_fits c.args.program.now i.result.now c.args.slots.now i.ensures.accepted i.ensures.image c.requires in
     let turn = run l.at l.stack.items l.frames.items l.charged l.steps l.invariant.0 c.in-Some.instr.now c.in_ok-charge.field-0 in
     let after = turn c.step.new.stack.items c.step.new.frames.items (sym c.in-Some.ensures.value) c.in_ok-charge.ensures.acts in
-    after c.in-EndsWith.outcome c.in-EndsWith.is
+    after c.in_ok-outcome-in-IsOver.outcome c.in-IsOver.is c.in_ok-outcome-in-IsOver.ensures
 
-pub returns-in-EndsWith-clause-steps : goal.returns-in-EndsWith-clause-steps
-returns-in-EndsWith-clause-steps c =
+pub returns-in-IsOver-clause-steps : goal.returns-in-IsOver-clause-steps
+returns-in-IsOver-clause-steps c =
     let l = c.loop-instr in
     let i = c.image-image in
     let run = here c.args.program.now i.result.now c.args.slots.now i.ensures.accepted i.ensures.image c.requires in
     let h = run l.at l.stack.items l.frames.items l.charged l.steps l.invariant.0 in
     omega (arith, h.within, ap path_steps i.ensures.image)
 
-pub returns-in-EndsWith-clause-charged : goal.returns-in-EndsWith-clause-charged
-returns-in-EndsWith-clause-charged c =
+pub returns-in-IsOver-clause-charged : goal.returns-in-IsOver-clause-charged
+returns-in-IsOver-clause-charged c =
     let l = c.loop-instr in
     let i = c.image-image in
     let run = here c.args.program.now i.result.now c.args.slots.now i.ensures.accepted i.ensures.image c.requires in
     let h = run l.at l.stack.items l.frames.items l.charged l.steps l.invariant.0 in
     omega (arith, h.cost, ap path_cost i.ensures.image)
 
-pub returns-in-EndsWith-clause-within_budget : goal.returns-in-EndsWith-clause-within_budget
-returns-in-EndsWith-clause-within_budget c =
+pub returns-in-IsOver-clause-within_budget : goal.returns-in-IsOver-clause-within_budget
+returns-in-IsOver-clause-within_budget c =
     let l = c.loop-instr in
     let i = c.image-image in
     let run = here c.args.program.now i.result.now c.args.slots.now i.ensures.accepted i.ensures.image c.requires in
@@ -136,3 +136,12 @@ unreachable-requires-2 c =
     let run = here c.args.program.now i.result.now c.args.slots.now i.ensures.accepted i.ensures.image c.requires in
     let h = run l.at l.stack.items l.frames.items l.charged l.steps l.invariant.0 in
     no_end i.result.now.code l.at h.inside (sym c.in_default.ensures.value)
+
+pub taken-requires : goal.taken-requires
+taken-requires c =
+    let l = c.loop-instr in
+    let i = c.image-image in
+    let run = has_top c.args.program.now i.result.now c.args.slots.now i.ensures.accepted i.ensures.image c.requires in
+    let turn = run l.at l.stack.items l.frames.items l.charged l.steps l.invariant.0 c.in-Some.instr.now c.in_ok-charge.field-0 in
+    let after = turn c.step.new.stack.items c.step.new.frames.items (sym c.in-Some.ensures.value) c.in_ok-charge.ensures.acts in
+    after c.in-IsOver.is

@@ -1,0 +1,73 @@
+-- The innermost loop, which is the last of those that stand open.
+use Rattle.std.proofs.Common.{◌≡◌, ℕ, zero, suc, Bool, true, false, List, [], ◌∷◌, ◌++◌, length, take, Option, Some, None, Result, Ok, Err, IfOk, MatchBool, refl, sym, ap, ◌∙◌, arith, slice_index_or, slice_set}
+use Rattle.std.specs.Prelude.{reverse}
+use Rattle.std.specs.Option.{option_map}
+use Rattle.std.proofs.lemmas.List.{reverse-append}
+use Rattle.cel_value.specs.declared.value.Value.{Value}
+use Rattle.cel_operators.specs.Outcomes.{Outcome}
+use Rattle.cel_check.specs.Loops.{turn}
+use Rattle.cel_check.specs.declared.accumulator.Accumulator.{Accumulator}
+use Rattle.cel_code.specs.Machine.{Frame, on, Goes, gone_on, turned as turn_done}
+use Rattle.cel_machine.specs.declared.turning.Turned.{Turned}
+use Rattle.cel_machine.specs.declared.turning.Turned.TheVariants as turned
+use Rattle.cel_machine.specs.Ranges.{taking, with_gathered}
+use Rattle.cel_machine.specs.Turns.{turn_by}
+use Rattle.cel_machine.specs.Follow.{advanced, next_in, turned_in}
+
+-- the last of a list, and another one in its place
+last_is : {A : Type 0} (xs : List A) (i : ℕ) (d : A) → suc i ≡ length xs → xs ≡ take i xs ++ slice_index_or xs i d ∷ []
+last_is [] i d e = absurd (omega arith)
+last_is (x ∷ []) zero d e = refl
+last_is (x ∷ []) (suc i) d e = absurd (omega arith)
+last_is (x ∷ z ∷ zs) zero d e = absurd (omega arith)
+last_is (x ∷ z ∷ zs) (suc i) d e = ap (λ l. x ∷ l) (last_is (z ∷ zs) i d (omega arith))
+
+last_set : {A : Type 0} (xs : List A) (i : ℕ) (y : A) → suc i ≡ length xs → slice_set xs i y ≡ take i xs ++ y ∷ []
+last_set [] i y e = absurd (omega arith)
+last_set (x ∷ []) zero y e = refl
+last_set (x ∷ []) (suc i) y e = absurd (omega arith)
+last_set (x ∷ z ∷ zs) zero y e = absurd (omega arith)
+last_set (x ∷ z ∷ zs) (suc i) y e = ap (λ l. x ∷ l) (last_set (z ∷ zs) i y (omega arith))
+
+-- turned round, it is the first
+innermost : {A : Type 0} (xs : List A) (i : ℕ) (f : A) → suc i ≡ length xs → f ≡ slice_index_or xs i f → reverse xs ≡ f ∷ reverse (take i xs)
+innermost xs i f e h =
+    ap reverse (last_is xs i f e) ∙ ap (λ x. reverse (take i xs ++ x ∷ [])) (sym h) ∙ reverse-append (take i xs) (f ∷ [])
+
+innermost_set : {A : Type 0} (xs : List A) (i : ℕ) (g : A) → suc i ≡ length xs → reverse (slice_set xs i g) ≡ g ∷ reverse (take i xs)
+innermost_set xs i g e = ap reverse (last_set xs i g e) ∙ reverse-append (take i xs) (g ∷ [])
+
+-- the innermost loop where it stands, at its next item
+pub advancing : (r : Bool) (xs : List Frame) (i : ℕ) (f g : Frame) → suc i ≡ length xs → f ≡ slice_index_or xs i f
+    → MatchBool r (taking f f.left ≡ Some g) (f.left ≡ [])
+    → MatchBool r (advanced (reverse xs) ≡ Some (reverse (slice_set xs i g))) (advanced (reverse xs) ≡ None)
+advancing true xs i f g e h a =
+    ap advanced (innermost xs i f e h) ∙ ap (λ t. option_map (λ k. k ∷ reverse (take i xs)) t) a
+    ∙ ap (λ l. Some l) (sym (innermost_set xs i g e))
+advancing false xs i f g e h a =
+    ap advanced (innermost xs i f e h) ∙ ap (λ l. option_map (λ k. k ∷ reverse (take i xs)) (taking f l)) a
+
+gone_same : (f : Frame) (a : Accumulator) (vs : List Value) (stack : List Outcome) (rest : List Frame)
+    → gone_on (with_gathered a f) vs a stack rest ≡ gone_on f vs a stack rest
+gone_same f a [] stack rest = refl
+gone_same f a (v ∷ vs) stack rest = refl
+
+-- what a turn does, by the loop with what it has gathered
+told : (t : Turned) (f g : Frame) (stack : List Outcome) (rest : List Frame) → g ≡ with_gathered g.gathered f
+    → turn_done f (turn_by t g.gathered) stack rest ≡ turned_in t stack (g ∷ rest)
+told turned.IsStuck f g stack rest e = refl
+told turned.GoesOn f g stack rest e =
+    sym (gone_same f g.gathered f.left stack rest) ∙ sym (ap (λ (h : Frame). gone_on h h.left h.gathered stack rest) e)
+told (turned.Closes x) f g stack rest e = sym (ap (λ (h : Frame). Goes 0 (on h.exit (x ∷ stack) rest)) e)
+
+-- a turn of the innermost loop where it stands
+pub turning : {E : Type 0} (r : Result Turned E) (xs : List Frame) (i : ℕ) (f g : Frame) (x : Outcome) → suc i ≡ length xs
+    → f ≡ slice_index_or xs i f → IfOk r (λ t. turn_by t g.gathered ≡ turn f.mode f.item f.gathered (Some x))
+    → g ≡ with_gathered g.gathered f
+    → IfOk r (λ t. (stack : List Outcome) → next_in (x ∷ stack) (reverse xs) ≡ turned_in t stack (reverse (slice_set xs i g)))
+turning (Ok t) xs i f g x e h d k = λ stack.
+    ap (λ fs. next_in (x ∷ stack) fs) (innermost xs i f e h)
+    ∙ ap (λ u. turn_done f u stack (reverse (take i xs))) (sym d)
+    ∙ told t f g stack (reverse (take i xs)) k
+    ∙ ap (λ fs. turned_in t stack fs) (sym (innermost_set xs i g e))
+turning (Err y) xs i f g x e h d k = d
