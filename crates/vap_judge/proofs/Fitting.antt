@@ -59,7 +59,8 @@ pub can_judge_there : (c : Case) (p : BoundPolicy) (s : PolicySpec) (pair : Pair
     → IsHeldAt (type_at c.kind) c.held → IsReadyAt c.set c.kind p → CanJudge c s.param_kind (types_of c s.param_kind) pair
 can_judge_there c p s pair same e held ready =
     let params : ParamsType = params_type (kinds_of c.set) p.policy.spec.param_kind in
-    let there : IsReadyBy (types_at (type_at c.kind)) params (Some pair) = subst (IsReadyBy (types_at (type_at c.kind)) params) e ready in
+    let there : IsReadyBy (types_at (type_at c.kind)) params (Some pair) =
+    subst (IsReadyBy (types_at (type_at c.kind)) params) e ready.runs in
     subst (λ (x : PolicySpec). CanJudge c x.param_kind (types_of c x.param_kind) pair) (sym same)
     (can_judge c p.policy.spec.param_kind pair held there.0 there.1)
 

@@ -1,4 +1,4 @@
 pub mod Fitting
-pub mod Kept
+pub mod KeptParams
 pub mod Named
 pub mod WorkedRows

@@ -1,6 +1,6 @@
 //! Policies, bindings and params, one after the other.
 
-ghost use Rattle.std.specs.Prelude.{◌≡◌, ◌≤◌, length, Some, Ok, true, List, IfOk, OnOk};
+ghost use Rattle.std.specs.Prelude.{◌≡◌, ◌≤◌, Some, Ok, true, List, filter, IfOk, OnOk};
 ghost use Rattle.std.specs.List.{All};
 ghost use Rattle.std.specs.Option.{option_copied};
 ghost use Rattle.cel_operators.specs.Outcomes.{slots_fit};
@@ -12,6 +12,7 @@ ghost use Rattle.vap_fit.specs.Names.{fit_fault_text};
 ghost use Rattle.vap_programs.specs.Names.{pair_fault_name};
 ghost use Rattle.vap_programs.specs.Pairs.{most, price_of};
 ghost use Rattle.vap_programs.specs.Ready.{IsReady};
+ghost use Rattle.vap_set.specs.Fitted.{params_of};
 ghost use Rattle.vap_set.specs.Kinds.{kind_of_params};
 ghost use Rattle.vap_set.specs.Ready.{AreFew, HasFew, IsReadyAt, type_at};
 ghost use Rattle.vap_set.specs.Sets.{kinds_of, policies_of};
@@ -19,18 +20,18 @@ ghost use Rattle.vap_slots.specs.Held.{IsHeldAt, slots_of};
 ghost use Rattle.vap_judge.specs.Cases.{case_of};
 ghost use Rattle.vap_judge.specs.Findings.{no_findings, with_failure, with_run};
 ghost use Rattle.vap_judge.specs.Judging.{both_match, misconfigured, verdict_at, verdict_by, verdict_of, verdict_with};
-ghost use Rattle.vap_judge.specs.Judging.{with_all, with_binding, with_bindings, with_kind, with_pair, with_param, with_params};
-ghost use Rattle.vap_judge.specs.Judging.{with_policies, with_reference, with_space, without_params};
-ghost use Rattle.vap_judge.specs.Params.{params_in};
+ghost use Rattle.vap_judge.specs.Judging.{with_all, with_binding, with_bindings, with_kind, with_pair, with_params};
+ghost use Rattle.vap_judge.specs.Judging.{with_policies, with_reference, with_seen, with_space, without_params};
+ghost use Rattle.vap_judge.specs.Params.{is_param, params_in};
 ghost use Rattle.vap_judge.specs.Places.{kind_at};
-ghost use Rattle.vap_judge.specs.Ready.{CanJudge, CanRun, CanRunWith, Grows, HasRoom, IsCase, of_binding, of_policy, of_set};
+ghost use Rattle.vap_judge.specs.Ready.{AreAllOf, CanJudge, CanRun, CanRunWith, Grows, HasRoom, IsCase, of_binding, of_policy, of_set};
 ghost use Rattle.vap_judge.specs.Shown.{findings_of, rule_of as lent_rule};
 ghost use Rattle.vap_judge.specs.Spaces.{lent_space};
 
 use crate::case::Case;
 use crate::findings::{Findings, Rule, fail};
 use crate::judge_error::JudgeError;
-use crate::params::{Space, params_in, space_of};
+use crate::params::{Space, has_param, is_param, space_of};
 use crate::places::{is_exempt, kind_at};
 use crate::running::run_at;
 use cel_machine::Matchers;
@@ -39,77 +40,67 @@ use plain::{Keyed, Shared, Text};
 use std::alloc::{AllocError, Global};
 use vap_answer::{Verdict, unfit_verdict, verdict_of};
 use vap_bindings::{Binding, NotFoundAction, ParamRef};
-use vap_fit::{FitError, FitFault, fit};
+use vap_fit::FitFault;
 use vap_kinds::Kind;
 use vap_match::matches;
 use vap_policies::ParamKind;
 use vap_programs::{Pair, PairFault, Programs};
-use vap_read::Object;
 use vap_request::Request;
-use vap_set::{BoundPolicy, PolicySet, kind_of_params};
+use vap_set::{BoundPolicy, KindParams, Param, PolicySet, kind_of_params};
 use vap_slots::{Held, held_at};
 
 /// Judges a policy at one param.
-#[tactic(auto, unfolding(crate::specs::Judging::with_param))]
 fn judge_param(
     alloc: Global,
     case: &Case<'_>,
     rule: &Rule<'_>,
     programs: &Programs,
-    cel_type: &CelType,
-    object: &Object,
+    param: &Param,
     matchers: &mut Matchers,
     findings: &mut Findings,
 ) -> Result<(), JudgeError>
     ghost types: { List CelType }
-    requires ready { CanRun (case_of case.now) (type.Nullable cel_type.now) types programs.now }
+    requires ready { IsReady types programs.now }
+    requires within { price_of programs.now ≤ most }
+    requires fit { IfOk param.now.outcome (λ v. slots_fit types (slots_of case.now.held.now v) ≡ true) }
     requires room { HasRoom findings.old.charged 1 }
     ensures found { OnOk result (findings_of findings.new
-        ≡ with_param (case_of case.now) (lent_rule rule.now) programs.now cel_type.now object.now (findings_of findings.old)) }
+        ≡ with_seen (case_of case.now) (lent_rule rule.now) programs.now param.now.outcome (findings_of findings.old)) }
     ensures grows { OnOk result (Grows findings.old.charged findings.new.charged 1) }
 {
-    match fit(alloc, object.document.json(), cel_type, "params") {
-        Ok(params) => run_at(
-            alloc, rule, programs, case.held, &params, matchers, findings,
-        ),
-        Err(FitError::Fault(fault)) => {
+    match &param.outcome {
+        Ok(value) => run_at(alloc, rule, programs, case.held, value, matchers, findings),
+        Err(fault) => {
             let message = format!(in alloc; "{fault}")?;
             fail(alloc, rule, message.as_str(), findings)?;
             Ok(())
         }
-        Err(FitError::OutOfMemory) => Err(JudgeError::OutOfMemory),
     }
 }
 
+/// Judges a policy at those of the objects of a kind that are its params.
 fn judge_params(
     alloc: Global,
     case: &Case<'_>,
     rule: &Rule<'_>,
     programs: &Programs,
-    cel_type: &CelType,
-    objects: &[Shared<Object>],
+    params: &KindParams,
+    reference: &ParamRef,
+    space: Space<'_>,
     matchers: &mut Matchers,
     findings: &mut Findings,
 ) -> Result<(), JudgeError>
     ghost types: { List CelType }
-    requires ready { CanRun (case_of case.now) (type.Nullable cel_type.now) types programs.now }
-    requires few { length objects.now ≤ of_binding }
+    requires ready { CanRun (case_of case.now) (type.Nullable params.now.cel_type) types programs.now }
     requires room { HasRoom findings.old.charged of_binding }
-    ensures found { OnOk result (findings_of findings.new
-        ≡ with_params (case_of case.now) (lent_rule rule.now) programs.now cel_type.now objects.now (findings_of findings.old)) }
+    ensures found { OnOk result (findings_of findings.new ≡ with_params (case_of case.now) (lent_rule rule.now) programs.now
+        params.now.cel_type (filter (is_param (lent_space space.entry) reference.now) params.now.objects) (findings_of findings.old)) }
     ensures grows { OnOk result (Grows findings.old.charged findings.new.charged of_binding) }
 {
-    for object in objects {
-        judge_param(
-            alloc,
-            case,
-            rule,
-            programs,
-            cel_type,
-            object.get(),
-            matchers,
-            findings,
-        )?;
+    for param in params.params() {
+        if is_param(space, reference, param.object.get()) {
+            judge_param(alloc, case, rule, programs, param, matchers, findings)?;
+        }
     }
     Ok(())
 }
@@ -130,67 +121,35 @@ fn miss(
     }
 }
 
-/// Judges a policy at the params that there are.
-fn judge_all(
-    alloc: Global,
-    case: &Case<'_>,
-    rule: &Rule<'_>,
-    programs: &Programs,
-    cel_type: &CelType,
-    action: NotFoundAction,
-    objects: &[Shared<Object>],
-    matchers: &mut Matchers,
-    findings: &mut Findings,
-) -> Result<(), JudgeError>
-    ghost types: { List CelType }
-    requires ready { CanRun (case_of case.now) (type.Nullable cel_type.now) types programs.now }
-    requires few { length objects.now ≤ of_binding }
-    requires room { HasRoom findings.old.charged of_binding }
-    ensures found { OnOk result (findings_of findings.new
-        ≡ with_all (case_of case.now) (lent_rule rule.now) programs.now cel_type.now action objects.now (findings_of findings.old)) }
-    ensures grows { OnOk result (Grows findings.old.charged findings.new.charged of_binding) }
-{
-    match objects {
-        [] => Ok(miss(alloc, rule, action, findings)?),
-        [_, ..] => judge_params(
-            alloc, case, rule, programs, cel_type, objects, matchers, findings,
-        ),
-    }
-}
-
 /// Judges a policy at the params in a place that is right for their kind.
 fn judge_there(
     alloc: Global,
     case: &Case<'_>,
     rule: &Rule<'_>,
     programs: &Programs,
-    cel_type: &CelType,
-    kind: &ParamKind,
+    params: &KindParams,
     reference: &ParamRef,
     space: Space<'_>,
     matchers: &mut Matchers,
     findings: &mut Findings,
 ) -> Result<(), JudgeError>
     ghost types: { List CelType }
-    requires ready { CanRun (case_of case.now) (type.Nullable cel_type.now) types programs.now }
+    requires ready { CanRun (case_of case.now) (type.Nullable params.now.cel_type) types programs.now }
+    requires params { AreAllOf case.now.set.now params.now }
     requires room { HasRoom findings.old.charged of_binding }
-    ensures found { OnOk result (findings_of findings.new ≡ with_all (case_of case.now) (lent_rule rule.now) programs.now cel_type.now
-        reference.now.parameter_not_found_action (params_in (lent_space space.entry) kind.now reference.now case.now.set.now.objects)
-        (findings_of findings.old)) }
+    ensures found { OnOk result (findings_of findings.new ≡ with_all (case_of case.now) (lent_rule rule.now) programs.now
+        params.now.cel_type reference.now.parameter_not_found_action
+        (params_in (lent_space space.entry) params.now.kind reference.now case.now.set.now.objects) (findings_of findings.old)) }
     ensures grows { OnOk result (Grows findings.old.charged findings.new.charged of_binding) }
 {
-    let objects = params_in(alloc, space, kind, reference, case.set.objects())?;
-    judge_all(
-        alloc,
-        case,
-        rule,
-        programs,
-        cel_type,
-        reference.parameter_not_found_action,
-        objects.as_slice(),
-        matchers,
-        findings,
-    )
+    if has_param(space, reference, params) {
+        judge_params(
+            alloc, case, rule, programs, params, reference, space, matchers, findings,
+        )
+    } else {
+        let action = reference.parameter_not_found_action;
+        Ok(miss(alloc, rule, action, findings)?)
+    }
 }
 
 /// Judges a policy at the params in a place.
@@ -199,18 +158,18 @@ fn judge_space(
     case: &Case<'_>,
     rule: &Rule<'_>,
     programs: &Programs,
-    cel_type: &CelType,
-    kind: &ParamKind,
+    params: &KindParams,
     reference: &ParamRef,
     space: Space<'_>,
     matchers: &mut Matchers,
     findings: &mut Findings,
 ) -> Result<(), JudgeError>
     ghost types: { List CelType }
-    requires ready { CanRun (case_of case.now) (type.Nullable cel_type.now) types programs.now }
+    requires ready { CanRun (case_of case.now) (type.Nullable params.now.cel_type) types programs.now }
+    requires params { AreAllOf case.now.set.now params.now }
     requires room { HasRoom findings.old.charged of_binding }
-    ensures found { OnOk result (findings_of findings.new ≡ with_space (case_of case.now) (lent_rule rule.now) programs.now cel_type.now
-        kind.now reference.now (lent_space space.entry) (findings_of findings.old)) }
+    ensures found { OnOk result (findings_of findings.new ≡ with_space (case_of case.now) (lent_rule rule.now) programs.now
+        params.now.cel_type params.now.kind reference.now (lent_space space.entry) (findings_of findings.old)) }
     ensures grows { OnOk result (Grows findings.old.charged findings.new.charged of_binding) }
 {
     match space {
@@ -219,8 +178,7 @@ fn judge_space(
             case,
             rule,
             programs,
-            cel_type,
-            kind,
+            params,
             reference,
             Space::Everywhere,
             matchers,
@@ -231,8 +189,7 @@ fn judge_space(
             case,
             rule,
             programs,
-            cel_type,
-            kind,
+            params,
             reference,
             Space::Within(namespace),
             matchers,
@@ -249,12 +206,14 @@ fn judge_kind(
     rule: &Rule<'_>,
     programs: &Programs,
     kind: &ParamKind,
+    params: &Option<Shared<KindParams>>,
     reference: &ParamRef,
     matchers: &mut Matchers,
     findings: &mut Findings,
 ) -> Result<(), JudgeError>
     ghost types: { List CelType }
     requires ready { CanRunWith (case_of case.now) (Some kind.now) types programs.now }
+    requires params { params.now ≡ params_of (kinds_of case.now.set.now) case.now.set.now.objects (Some kind.now) }
     requires room { HasRoom findings.old.charged of_binding }
     ensures found { OnOk result (findings_of findings.new ≡ with_kind (case_of case.now) (lent_rule rule.now) programs.now
         kind.now reference.now (kind_of_params (kinds_of case.now.set.now) kind.now) (findings_of findings.old)) }
@@ -263,13 +222,21 @@ fn judge_kind(
     let Some(known) = kind_of_params(case.set.kinds(), kind) else {
         return Ok(());
     };
-    let Some(cel_type) = &known.object_type else {
+    let Some(params) = params else {
         return Ok(());
     };
     let requested = case.request.admission.get().namespace.as_str();
     let space = space_of(known.namespaced, reference.namespace.as_str(), requested);
     judge_space(
-        alloc, case, rule, programs, cel_type, kind, reference, space, matchers, findings,
+        alloc,
+        case,
+        rule,
+        programs,
+        params.get(),
+        reference,
+        space,
+        matchers,
+        findings,
     )
 }
 
@@ -302,12 +269,14 @@ fn judge_bound(
     rule: &Rule<'_>,
     programs: &Programs,
     kind: &ParamKind,
+    params: &Option<Shared<KindParams>>,
     reference: &Option<ParamRef>,
     matchers: &mut Matchers,
     findings: &mut Findings,
 ) -> Result<(), JudgeError>
     ghost types: { List CelType }
     requires ready { CanRunWith (case_of case.now) (Some kind.now) types programs.now }
+    requires params { params.now ≡ params_of (kinds_of case.now.set.now) case.now.set.now.objects (Some kind.now) }
     requires room { HasRoom findings.old.charged of_binding }
     ensures found { OnOk result (findings_of findings.new ≡ with_reference (case_of case.now) (lent_rule rule.now) programs.now
         (Some kind.now) reference.now (findings_of findings.old)) }
@@ -315,7 +284,7 @@ fn judge_bound(
 {
     match reference {
         Some(reference) => judge_kind(
-            alloc, case, rule, programs, kind, reference, matchers, findings,
+            alloc, case, rule, programs, kind, params, reference, matchers, findings,
         ),
         None => judge_null(alloc, case, rule, programs, matchers, findings),
     }
@@ -328,12 +297,14 @@ fn judge_reference(
     rule: &Rule<'_>,
     programs: &Programs,
     kind: &Option<ParamKind>,
+    params: &Option<Shared<KindParams>>,
     reference: &Option<ParamRef>,
     matchers: &mut Matchers,
     findings: &mut Findings,
 ) -> Result<(), JudgeError>
     ghost types: { List CelType }
     requires ready { CanRunWith (case_of case.now) kind.now types programs.now }
+    requires params { params.now ≡ params_of (kinds_of case.now.set.now) case.now.set.now.objects kind.now }
     requires room { HasRoom findings.old.charged of_binding }
     ensures found { OnOk result (findings_of findings.new ≡ with_reference (case_of case.now) (lent_rule rule.now) programs.now
         kind.now reference.now (findings_of findings.old)) }
@@ -341,7 +312,7 @@ fn judge_reference(
 {
     match kind {
         Some(kind) => judge_bound(
-            alloc, case, rule, programs, kind, reference, matchers, findings,
+            alloc, case, rule, programs, kind, params, reference, matchers, findings,
         ),
         None => judge_null(alloc, case, rule, programs, matchers, findings),
     }
@@ -377,12 +348,14 @@ fn judge_pair(
     rule: &Rule<'_>,
     pair: &Pair,
     kind: &Option<ParamKind>,
+    params: &Option<Shared<KindParams>>,
     reference: &Option<ParamRef>,
     matchers: &mut Matchers,
     findings: &mut Findings,
 ) -> Result<(), JudgeError>
     ghost types: { List CelType }
     requires ready { CanJudge (case_of case.now) kind.now types pair.now }
+    requires params { params.now ≡ params_of (kinds_of case.now.set.now) case.now.set.now.objects kind.now }
     requires room { HasRoom findings.old.charged of_binding }
     ensures found { OnOk result (findings_of findings.new ≡ with_pair (case_of case.now) (lent_rule rule.now) pair.now
         kind.now reference.now (findings_of findings.old)) }
@@ -391,7 +364,7 @@ fn judge_pair(
     match pair {
         Pair::Misconfigured(fault) => Ok(misconfigure(alloc, rule, fault, findings)?),
         Pair::Runs(programs) => judge_reference(
-            alloc, case, rule, programs, kind, reference, matchers, findings,
+            alloc, case, rule, programs, kind, params, reference, matchers, findings,
         ),
     }
 }
@@ -446,6 +419,7 @@ fn judge_binding(
             &rule,
             pair,
             &spec.param_kind,
+            &policy.params,
             &bound.param_ref,
             matchers,
             findings,

@@ -1,16 +1,14 @@
 //! Which objects are the params of a policy under a binding.
 
-ghost use Rattle.std.specs.Prelude.{◌≡◌, ◌≤◌, length, IfOk};
-ghost use Rattle.vap_judge.specs.Params.{is_chosen, is_in, is_param, params_in, space_of};
+ghost use Rattle.std.specs.Prelude.{◌≡◌};
+ghost use Rattle.std.specs.List.{list_any};
+ghost use Rattle.vap_judge.specs.Params.{is_chosen, is_in, is_param, space_of};
 ghost use Rattle.vap_judge.specs.Spaces.{lent_space};
 
-use plain::Shared;
-use std::alloc::{AllocError, Global};
 use vap_bindings::ParamRef;
-use vap_objects::Objects;
-use vap_policies::ParamKind;
 use vap_read::Object;
 use vap_select::{labels_of, selects};
+use vap_set::KindParams;
 
 /// Where params are looked for.
 #[derive(Clone, Copy)]
@@ -64,29 +62,21 @@ fn is_chosen(reference: &ParamRef, object: &Object) -> bool
     }
 }
 
-fn is_param(space: Space<'_>, reference: &ParamRef, object: &Object) -> bool
+/// Whether an object is a param.
+pub fn is_param(space: Space<'_>, reference: &ParamRef, object: &Object) -> bool
     ensures { result ≡ is_param (lent_space space.entry) reference.now object.now }
 {
     is_in(space, object.key.namespace.as_str()) && is_chosen(reference, object)
 }
 
-/// The params, by namespace, then by name.
-pub fn params_in(
-    alloc: Global,
-    space: Space<'_>,
-    kind: &ParamKind,
-    reference: &ParamRef,
-    objects: &Objects,
-) -> Result<Vec<Shared<Object>>, AllocError>
-    ensures exact { IfOk result (λ found. found.items ≡ params_in (lent_space space.entry) kind.now reference.now objects.now) }
-    ensures few { IfOk result (λ found. length found.items ≤ 4096) }
+/// Whether one of the objects of a kind is a param.
+pub fn has_param(space: Space<'_>, reference: &ParamRef, params: &KindParams) -> bool
+    ensures { result ≡ list_any (is_param (lent_space space.entry) reference.now) params.now.objects }
 {
-    let all = objects.of_kind(alloc, kind.api_version.as_str(), kind.kind.as_str())?;
-    let mut found = Vec::new(alloc);
-    for object in all.as_slice() {
-        if is_param(space, reference, object.get()) {
-            found.push(object.share()?)?;
+    for param in params.params() {
+        if is_param(space, reference, param.object.get()) {
+            return true;
         }
     }
-    Ok(found)
+    false
 }

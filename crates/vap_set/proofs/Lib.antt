@@ -2,3 +2,4 @@ pub mod Slashes
 pub mod Firsts
 pub mod Standing
 pub mod ParamKinds
+pub mod Behind

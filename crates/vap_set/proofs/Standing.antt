@@ -10,6 +10,7 @@ use Rattle.std.proofs.lemmas.List.Elements.{All-from_recursion}
 use Rattle.plain.specs.declared.text.Keyed.{Keyed}
 use Rattle.vap_bindings.specs.declared.binding.Binding.{Binding}
 use Rattle.vap_kinds.specs.declared.kind.Kind.{Kind}
+use Rattle.vap_objects.specs.Cluster.{Cluster}
 use Rattle.vap_objects.specs.Listed.{bindings_in, bindings_of, definitions_in, if_bound, policies_in}
 use Rattle.vap_policies.specs.declared.policy.Policy.{Policy}
 use Rattle.vap_policies.specs.declared.policy.PolicySpec.{PolicySpec}
@@ -91,18 +92,23 @@ found_ready ready within choice kinds p k (e ∷ es) first all =
 
 one_ready : PairsAreReady → PairsAreWithin → (b : Built) (bindings : List (Keyed Binding)) (p : Keyed Policy) (k : Option Kind)
     → AllByRecursion (IsFirst (kinds_of b)) (kinds_of b) → IsOneOf (kinds_of b) k
-    → IsReadyAt b k (bound_of b.choice (kinds_of b) bindings p)
-one_ready ready within b bindings p None firsts first = (
-  ready b.choice.refused (types_at (type_or_opaque None)) (params_type (kinds_of b) p.value.spec.param_kind) p.value.spec,
-  within b.choice.refused (types_at (type_or_opaque None)) (params_type (kinds_of b) p.value.spec.param_kind) p.value.spec,
-)
-one_ready ready within b bindings p (Some k) firsts first =
-    found_ready ready within b.choice (kinds_of b) p.value.spec k (pairs_of b.choice (kinds_of b) p.value.spec) first
-    (all_put b.choice (kinds_of b) p.value.spec (kinds_of b) [] firsts tt)
+    → IsReadyAt b k (bound_of b.choice (kinds_of b) b.objects bindings p)
+one_ready ready within b bindings p None firsts first = record {
+  params = refl;
+  runs = (
+    ready b.choice.refused (types_at (type_or_opaque None)) (params_type (kinds_of b) p.value.spec.param_kind) p.value.spec,
+    within b.choice.refused (types_at (type_or_opaque None)) (params_type (kinds_of b) p.value.spec.param_kind) p.value.spec,
+  );
+}
+one_ready ready within b bindings p (Some k) firsts first = record {
+  params = refl;
+  runs = found_ready ready within b.choice (kinds_of b) p.value.spec k (pairs_of b.choice (kinds_of b) p.value.spec) first
+      (all_put b.choice (kinds_of b) p.value.spec (kinds_of b) [] firsts tt);
+}
 
 each_ready : PairsAreReady → PairsAreWithin → (b : Built) (bindings : List (Keyed Binding)) (ps : List (Keyed Policy)) (k : Option Kind)
     → AllByRecursion (IsFirst (kinds_of b)) (kinds_of b) → IsOneOf (kinds_of b) k
-    → AllByRecursion (IsReadyAt b k) (map (bound_of b.choice (kinds_of b) bindings) ps)
+    → AllByRecursion (IsReadyAt b k) (map (bound_of b.choice (kinds_of b) b.objects bindings) ps)
 each_ready ready within b bindings [] k firsts first = tt
 each_ready ready within b bindings (p ∷ ps) k firsts first =
     (one_ready ready within b bindings p k firsts first, each_ready ready within b bindings ps k firsts first)
@@ -131,25 +137,27 @@ no_more name [] = omega arith
 no_more name (b ∷ bs) =
     omega (arith, length-append (if_bound name b) (bindings_of name bs), at_most_one name b, no_more name bs)
 
-few_each : (choice : Choice) (kinds : List Kind) (bindings : List (Keyed Binding)) (ps : List (Keyed Policy)) → length bindings ≤ 256
-    → AllByRecursion HasFew (map (bound_of choice kinds bindings) ps)
-few_each choice kinds bindings [] few = tt
-few_each choice kinds bindings (p ∷ ps) few =
-    (omega (arith, no_more p.key bindings, few), few_each choice kinds bindings ps few)
+few_each : (choice : Choice) (kinds : List Kind) (objects : Cluster) (bindings : List (Keyed Binding)) (ps : List (Keyed Policy))
+    → length bindings ≤ 256 → AllByRecursion HasFew (map (bound_of choice kinds objects bindings) ps)
+few_each choice kinds objects bindings [] few = tt
+few_each choice kinds objects bindings (p ∷ ps) few =
+    (omega (arith, no_more p.key bindings, few), few_each choice kinds objects bindings ps few)
 
 -- few policies and few bindings make a set of few
-pub few_bound : (choice : Choice) (kinds : List Kind) (bindings : List (Keyed Binding)) (ps : List (Keyed Policy))
-    → length bindings ≤ 256 → length ps ≤ 256 → AreFew (map (bound_of choice kinds bindings) ps)
-few_bound choice kinds bindings ps few_bindings few = (
-  omega (arith, length-map ps (bound_of choice kinds bindings), few),
-  All-from_recursion HasFew (map (bound_of choice kinds bindings) ps) (few_each choice kinds bindings ps few_bindings),
+pub few_bound : (choice : Choice) (kinds : List Kind) (objects : Cluster) (bindings : List (Keyed Binding)) (ps : List (Keyed Policy))
+    → length bindings ≤ 256 → length ps ≤ 256 → AreFew (map (bound_of choice kinds objects bindings) ps)
+few_bound choice kinds objects bindings ps few_bindings few = (
+  omega (arith, length-map ps (bound_of choice kinds objects bindings), few),
+  All-from_recursion HasFew (map (bound_of choice kinds objects bindings) ps) (few_each choice kinds objects bindings ps few_bindings),
 )
 
 -- policies are bound by what is the same
-pub bound_same : {a choice : Choice} {k kinds : List Kind} {b bindings : List (Keyed Binding)} {p policies : List (Keyed Policy)}
-    → a ≡ choice → k ≡ kinds → b ≡ bindings → p ≡ policies → map (bound_of a k b) p ≡ map (bound_of choice kinds bindings) policies
-bound_same {a} {choice} {k} {kinds} {b} {bindings} {p} {policies} one two three four =
-    ap (λ (x : Choice). map (bound_of x k b) p) one
-    ∙ ap (λ (x : List Kind). map (bound_of choice x b) p) two
-    ∙ ap (λ (x : List (Keyed Binding)). map (bound_of choice kinds x) p) three
-    ∙ ap (λ (x : List (Keyed Policy)). map (bound_of choice kinds bindings) x) four
+pub bound_same : {a choice : Choice} {k kinds : List Kind} {o objects : Cluster} {b bindings : List (Keyed Binding)}
+    {p policies : List (Keyed Policy)} → a ≡ choice → k ≡ kinds → o ≡ objects → b ≡ bindings → p ≡ policies
+    → map (bound_of a k o b) p ≡ map (bound_of choice kinds objects bindings) policies
+bound_same {a} {choice} {k} {kinds} {o} {objects} {b} {bindings} {p} {policies} one two three four five =
+    ap (λ (x : Choice). map (bound_of x k o b) p) one
+    ∙ ap (λ (x : List Kind). map (bound_of choice x o b) p) two
+    ∙ ap (λ (x : Cluster). map (bound_of choice kinds x b) p) three
+    ∙ ap (λ (x : List (Keyed Binding)). map (bound_of choice kinds objects x) p) four
+    ∙ ap (λ (x : List (Keyed Policy)). map (bound_of choice kinds objects bindings) x) five

@@ -1,4 +1,6 @@
 pub mod Kinds
+pub mod Fitted
+pub mod Seen
 pub mod Sets
 pub mod Ready
 pub mod Unverified

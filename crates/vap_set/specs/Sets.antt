@@ -16,6 +16,7 @@ use Rattle.vap_policies.specs.declared.policy.PolicySpec.{PolicySpec}
 use Rattle.vap_programs.specs.Pairs.{pair_of}
 use Rattle.vap_programs.specs.declared.programs.Pair.{Pair}
 use Rattle.vap_programs.specs.declared.programs.Pair.TheVariants as pair
+use Rattle.vap_set.specs.Fitted.{params_of}
 use Rattle.vap_set.specs.Kinds.{is_named_by, params_type, type_or_opaque, types_at}
 use Rattle.vap_set.specs.declared.bound.BoundPolicy.{BoundPolicy}
 use Rattle.vap_set.specs.declared.bound.KindPair.{KindPair}
@@ -84,19 +85,20 @@ pairs_of choice kinds p = with_kinds choice kinds p kinds []
 abbrev pub other_of : Choice → List Kind → PolicySpec → Pair
 other_of choice kinds p = pair_of choice.refused (types_at (type_or_opaque None)) (params_type kinds p.param_kind) p
 
--- a policy with its bindings, and what it is at each kind
-abbrev pub bound_of : Choice → List Kind → List (Keyed Binding) → Keyed Policy → BoundPolicy
-bound_of choice kinds bindings p = record {
+-- a policy with its bindings, its params, and what it is at each kind
+abbrev pub bound_of : Choice → List Kind → Cluster → List (Keyed Binding) → Keyed Policy → BoundPolicy
+bound_of choice kinds objects bindings p = record {
   name = p.key;
   policy = p.value;
   bindings = bindings_of p.key bindings;
+  params = params_of kinds objects p.value.spec.param_kind;
   pairs = pairs_of choice kinds p.value.spec;
   other = other_of choice kinds p.value.spec;
 }
 
 -- the policies of a set by name, with what each is at each kind
 abbrev pub policies_of : Built → List BoundPolicy
-policies_of b = map (bound_of b.choice (kinds_of b) (bindings_in b.objects.objects)) (policies_in b.objects.objects)
+policies_of b = map (bound_of b.choice (kinds_of b) b.objects (bindings_in b.objects.objects)) (policies_in b.objects.objects)
 
 -- what stands of a policy at a kind
 abbrev pub is_pair_of : Kind → KindPair → Bool

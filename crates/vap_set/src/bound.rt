@@ -4,7 +4,8 @@ ghost use Rattle.std.specs.Prelude.{◌≡◌, Some};
 ghost use Rattle.std.specs.Option.{option_copied};
 ghost use Rattle.vap_set.specs.Sets.{is_pair_of, pair_in};
 
-use plain::{Items, Keyed, Text};
+use crate::fitting::KindParams;
+use plain::{Items, Keyed, Shared, Text};
 use vap_bindings::Binding;
 use vap_kinds::Kind;
 use vap_policies::Policy;
@@ -19,12 +20,14 @@ pub struct KindPair {
     pub pair: Pair,
 }
 
-/// A policy with its bindings by name, and what it is at each kind.
+/// A policy with its bindings by name, its params, and what it is at each kind.
 #[derive(Drop)]
 pub struct BoundPolicy {
     pub name: Text,
     pub policy: Policy,
     pub bindings: Items<Keyed<Binding>>,
+    /// The objects of the kind that it names, if that is known.
+    pub params: Option<Shared<KindParams>>,
     /// At the known kinds that it names.
     pub pairs: Items<KindPair>,
     /// At the kinds that are not known.

@@ -77,6 +77,7 @@ impl PolicySet {
             alloc,
             choice.get(),
             kinds.as_slice(),
+            objects,
             bindings.as_slice(),
             policies.as_slice(),
         )?;
@@ -109,10 +110,10 @@ impl PolicySet {
         self.kinds.as_slice()
     }
 
-    /// The policies by name, with what each is at each kind.
+    /// The policies by name, with their params and what each is at each kind.
     pub fn policies(&self) -> &[BoundPolicy]
         ensures exact { result.now ≡ policies_of self.now }
-        // At each kind what runs may be run where names have their types there.
+        // The params of each are those of its kind, and at each kind what runs may be run where names have their types there.
         ensures ready { AreReady self.now }
         ensures few { AreFew result.now }
     {

@@ -5,4 +5,4 @@ use Rattle.vap_judge.proofs.judging.judge_reference.Goals as goal
 pub judge_null-requires : goal.judge_null-requires
 judge_null-requires g c =
     let r = c.requires.0 in
-    (r.ready, (r.within, (null_fit (case_of c.args.case.now) c.args.kind.now g.types c.args.programs.now r, c.requires.1)))
+    (r.ready, (r.within, (null_fit (case_of c.args.case.now) c.args.kind.now g.types c.args.programs.now r, c.requires.1.1)))

@@ -19,7 +19,7 @@ invariant_of-result c =
     let few_policies =
     subst (λ (x : List (Keyed Policy)). length x ≤ 256) (sym c.as_slice-4.ensures) c.in_ok-policies.ensures.few in (
       kinds,
-      c.in_ok-policies-2.ensures.bound ∙ bound_same c.get.ensures (c.as_slice-2.ensures ∙ kinds) bindings policies,
+      c.in_ok-policies-2.ensures.bound ∙ bound_same c.get.ensures (c.as_slice-2.ensures ∙ kinds) copied bindings policies,
       subst AreFew (sym c.in_ok-policies-2.ensures.bound)
-          (few_bound c.get.result.now c.as_slice-2.result.now _ _ few_bindings few_policies),
+          (few_bound c.get.result.now c.as_slice-2.result.now c.args.objects.now _ _ few_bindings few_policies),
     )
