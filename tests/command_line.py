@@ -53,12 +53,22 @@ ROWS = [
     (["check", "--help"], 0, None, b""),
 ]
 
+# Where the items of the rule's schema stand in its file, and a file of three properties, the last two without a type.
+IN_ITEMS = b"schema.properties.spec.properties.items"
+SECOND_FAULT = b"""{"schema": {"type": "object", "properties": {"c": {}, "b": {}, "a": {"type": "integer"}}}, "expression": "1"}"""
+
 # What stands on standard input of `check -`, the status, the standard output, and what standard error holds.
 FILES = [
     (RULE.read_bytes(), 0, RULE_LINES, b""),
     (RULE.read_bytes().replace(b"abc", b"abcdefghijkl"), 1, b"estimate 904\nvalue false\ncharged 15\n", b""),
     (RULE.read_bytes().replace(b'"ab"', b"1"), 1, b"estimate 904\nrefused: WrongKind\n", b"object.spec.items[0]"),
     (RULE.read_bytes().replace(b"size(x)", b"length(x)"), 1, b"refused: NoOverload at 25\n", b" " * 25 + b"^\n"),
+    (RULE.read_bytes().replace(b'"type": "string"', b'"type": "text"'), 1, b"refused: BadKeyword\n", IN_ITEMS + b".items.type: "),
+    (RULE.read_bytes().replace(b"50", b'"50"'), 1, b"refused: BadKeyword\n", IN_ITEMS + b".items.maxLength: "),
+    (RULE.read_bytes().replace(b'"type": "array",', b""), 1, b"refused: NoType\n", IN_ITEMS + b": "),
+    (RULE.read_bytes().replace(b'"schema": {', b'"schema": {"$ref": "", '), 1, b"refused: BadKeyword\n", b"schema.$ref: "),
+    (b'{"schema": [], "expression": "1"}', 1, b"refused: BadKeyword\n", b"schema: "),
+    (SECOND_FAULT, 1, b"refused: NoType\n", b"schema.properties.b: "),
     (b" " * 1_048_576, 1, b"refused: BadJson\n", b"schema"),
     (b" " * 1_048_577, 1, b"refused: TooLong\n", b"1048576"),
 ]

@@ -12,7 +12,7 @@ ghost use Rattle.vap_cli.specs.declared.status.Status.TheVariants.{Fault};
 
 use crate::failure::CheckFailure;
 use crate::judgement::Judgement;
-use crate::made::{Made, expression_in, made_in};
+use crate::made::{Made, made_in};
 use crate::object::judged;
 use crate::reading::{bytes_of, document_of};
 use crate::refusal::FileRefusal;
@@ -47,7 +47,7 @@ pub fn check_to<R: Read, W: Write>(
     let bytes = bytes_of(alloc, file)?;
     match document_of(alloc, bytes.as_slice())? {
         Ok(json) => check_document(alloc, &json, out),
-        Err(why) => refuse(alloc, why, "", out),
+        Err(why) => refuse(alloc, why, &Json::Null, out),
     }
 }
 
@@ -66,7 +66,7 @@ fn check_document<W: Write>(
 {
     match made_in(alloc, json)? {
         Ok(made) => check_made(alloc, &made, json.get("object"), out),
-        Err(why) => refuse(alloc, why, expression_in(json).unwrap_or(""), out),
+        Err(why) => refuse(alloc, why, json, out),
     }
 }
 
@@ -141,7 +141,7 @@ fn tell<W: Write>(
 fn refuse<W: Write>(
     alloc: Global,
     why: FileRefusal,
-    expression: &str,
+    document: &Json,
     out: &mut Counted<W>,
 ) -> Result<Ended, CheckFailure>
     requires { failures_of out.old < 2 ^ 64 - 1 }
@@ -152,7 +152,7 @@ fn refuse<W: Write>(
     ensures write { IsErrOf result failure.Write → failures_of out.new ≡ failures_of out.old + 1 }
 {
     let line = why.line(alloc)?;
-    let note = why.note(alloc, expression)?;
+    let note = why.note(alloc, document)?;
     write_lines(line.as_str(), out)?;
     Ok(Ended {
         status: Status::Fault,

@@ -3,7 +3,10 @@
 ghost use Rattle.std.specs.Prelude.{◌≡◌, IfOk, string_bytes};
 ghost use Rattle.vap_check.specs.Report.{refused_line};
 
+use crate::made::expression_in;
 use cel_expression::Refusal as TextRefusal;
+use schema_path::fault_place;
+use serde_json::Value as Json;
 use std::alloc::{AllocError, Global};
 use vap_cli::{Refusal, refusal_note};
 use vap_schema::SchemaFault;
@@ -38,8 +41,8 @@ impl FileRefusal {
         }
     }
 
-    /// What stands on standard error, for people.
-    pub fn note(&self, alloc: Global, expression: &str) -> Result<String, AllocError> {
+    /// What stands on standard error for a file of this document, for people.
+    pub fn note(&self, alloc: Global, document: &Json) -> Result<String, AllocError> {
         match *self {
             FileRefusal::TooLong => String::from_str(
                 alloc,
@@ -49,11 +52,39 @@ impl FileRefusal {
                 alloc,
                 "The file is to be a JSON object with a `schema`, an `expression` that is a text, and perhaps an `object`.\n",
             ),
-            FileRefusal::Schema(fault) => format!(in alloc; "The schema is refused: {fault}.\n"),
-            FileRefusal::Text(why) => refusal_note(alloc, expression, &Refusal::Text(why)),
+            FileRefusal::Schema(fault) => schema_note(alloc, document, fault),
+            FileRefusal::Text(why) => {
+                refusal_note(alloc, text_in(document), &Refusal::Text(why))
+            }
             FileRefusal::Unverified { at } => {
-                refusal_note(alloc, expression, &Refusal::Unverified { at })
+                refusal_note(alloc, text_in(document), &Refusal::Unverified { at })
             }
         }
     }
+}
+
+// The text of a document's expression, empty where there is none.
+fn text_in(document: &Json) -> &str {
+    expression_in(document).unwrap_or("")
+}
+
+// The fault of a document's schema behind its path in the document.
+fn schema_note(alloc: Global, document: &Json, fault: SchemaFault) -> Result<String, AllocError> {
+    let path = match document.get("schema") {
+        Some(schema) => path_in(alloc, schema)?,
+        None => String::new(alloc),
+    };
+    format!(in alloc; "schema{}: {fault}.\n", path.as_str())
+}
+
+// The path from a schema to its first fault, empty where that is its own.
+fn path_in(alloc: Global, schema: &Json) -> Result<String, AllocError> {
+    let mut text = String::new(alloc);
+    if let Some(place) = fault_place(alloc, schema)? {
+        for name in place.path.iter() {
+            text.push_str(".")?;
+            text.push_str(name)?;
+        }
+    }
+    Ok(text)
 }

@@ -1,0 +1,153 @@
+//! The place of the first fault of a schema. It takes no memory until a fault is told.
+
+ghost use Rattle.std.specs.Prelude.{◌≡◌, IfOk, Err, map};
+ghost use Rattle.serde_json.specs.View.{view, members_view};
+ghost use Rattle.vap_schema.specs.Schemas.{object_type_of};
+ghost use Rattle.schema_path.specs.Places.{Found, under, schema_place, members_place, entry_place, document_place};
+ghost use Rattle.schema_path.specs.Places.{own_fault_place};
+ghost use Rattle.schema_path.specs.Inside.{inside_place};
+ghost use Rattle.schema_path.specs.Answers.{IsPlace, IsPlaceBackwards, IsFaultOf, backwards};
+
+use crate::inside::{Inside, nested_inside, root_inside};
+use crate::keywords::OwnFault;
+use serde_json::{Map, Value as Json};
+use std::alloc::{AllocError, Global};
+use vap_schema::SchemaFault;
+
+/// A fault of a schema, and the names of keywords and properties that lead to it, as `properties`, `spec`, `type`.
+#[derive(Drop)]
+pub struct FaultPlace<'a> {
+    pub fault: SchemaFault,
+    pub path: Vec<&'a str>,
+}
+
+/// The first fault of a document that is to be the schema of a kind, with its place; none where it is one.
+pub fn fault_place(alloc: Global, schema: &Json) -> Result<Option<FaultPlace<'_>>, AllocError>
+    ensures place { IfOk result (IsPlace (document_place (view schema.now))) }
+    ensures fault { IfOk result (IsFaultOf (object_type_of (view schema.now))) }
+{
+    match place_in_root(alloc, schema)? {
+        Some(place) => Ok(Some(turned(place))),
+        None => Ok(None),
+    }
+}
+
+/// The place with its path from the outermost name on.
+fn turned(place: FaultPlace<'_>) -> FaultPlace<'_>
+    ensures fault { result.fault ≡ place.entry.fault }
+    ensures path { map (λ name. name.now) result.path.items ≡ backwards place.entry.path.items }
+{
+    let FaultPlace { fault, mut path } = place;
+    path.reverse();
+    FaultPlace { fault, path }
+}
+
+/// The place in a root. Here and below a path goes from the innermost name on.
+fn place_in_root(alloc: Global, schema: &Json) -> Result<Option<FaultPlace<'_>>, AllocError>
+    ensures { IfOk result (IsPlaceBackwards (document_place (view schema.now))) }
+{
+    match root_inside(schema) {
+        Ok(inside) => place_inside(99, alloc, inside),
+        Err(own) => own_place(alloc, own),
+    }
+}
+
+/// The place in a schema that is no root, where so many may stand inside each other.
+#[cycle(place_in)]
+fn place_in(levels: u32, alloc: Global, schema: &Json) -> Result<Option<FaultPlace<'_>>, AllocError>
+    ensures { IfOk result (IsPlaceBackwards (schema_place levels (view schema.now))) }
+{
+    if levels == 0 {
+        return own_place(alloc, OwnFault::Schema(SchemaFault::TooDeep));
+    }
+    match nested_inside(schema) {
+        Ok(inside) => place_inside(levels - 1, alloc, inside),
+        Err(own) => own_place(alloc, own),
+    }
+}
+
+/// The place in what stands inside a schema.
+#[cycle(place_in)]
+fn place_inside<'a>(
+    levels: u32,
+    alloc: Global,
+    inside: Inside<'a>,
+) -> Result<Option<FaultPlace<'a>>, AllocError>
+    ensures { IfOk result (IsPlaceBackwards (inside_place (schema_place levels) inside.entry)) }
+{
+    match inside {
+        Inside::Nothing => Ok(None),
+        Inside::Items(items) => under("items", place_in(levels, alloc, items)),
+        Inside::Properties(properties) => {
+            under("properties", place_among(levels, alloc, properties))
+        }
+        Inside::Entry(entry) => {
+            under("additionalProperties", place_in_entry(levels, alloc, entry))
+        }
+    }
+}
+
+#[cycle(place_in)]
+fn place_in_entry(
+    levels: u32,
+    alloc: Global,
+    entry: &Json,
+) -> Result<Option<FaultPlace<'_>>, AllocError>
+    ensures { IfOk result (IsPlaceBackwards (entry_place (schema_place levels) (view entry.now))) }
+{
+    match entry {
+        Json::Bool(_) => Ok(None),
+        _ => place_in(levels, alloc, entry),
+    }
+}
+
+/// The place in the first property that has a fault.
+#[cycle(place_in)]
+fn place_among(
+    levels: u32,
+    alloc: Global,
+    properties: &Map<String, Json>,
+) -> Result<Option<FaultPlace<'_>>, AllocError>
+    ensures { IfOk result (IsPlaceBackwards (members_place (schema_place levels) (members_view properties.now.entries))) }
+{
+    for (name, schema) in properties.iter() {
+        let found = under(name.as_str(), place_in(levels, alloc, schema))?;
+        if found.is_some() {
+            return Ok(found);
+        }
+    }
+    Ok(None)
+}
+
+/// The place one name further out.
+fn under<'a>(
+    name: &'a str,
+    found: Result<Option<FaultPlace<'a>>, AllocError>,
+) -> Result<Option<FaultPlace<'a>>, AllocError>
+    ensures { (want : Found) → IfOk found.entry (IsPlaceBackwards want) → IfOk result (IsPlaceBackwards (under name.now want)) }
+{
+    match found? {
+        Some(mut place) => {
+            place.path.push(name)?;
+            Ok(Some(place))
+        }
+        None => Ok(None),
+    }
+}
+
+/// The place of a schema's own fault.
+fn own_place<'a>(alloc: Global, own: OwnFault) -> Result<Option<FaultPlace<'a>>, AllocError>
+    ensures { IfOk result (IsPlaceBackwards (Err (own_fault_place own))) }
+{
+    let mut path = Vec::new(alloc);
+    match own {
+        OwnFault::Schema(fault) => Ok(Some(FaultPlace { fault, path })),
+        OwnFault::Keyword(name) => {
+            path.push(name)?;
+            Ok(Some(FaultPlace {
+                fault: SchemaFault::BadKeyword,
+                path,
+            }))
+        }
+    }
+}
