@@ -1,18 +1,23 @@
 #!/usr/bin/env python3
-"""Measures `vap replay` of a stream of 20 policies with their bindings, 200 objects and 50,000 reviews. It makes the stream,
-runs the program that `./vap` built three times, and prints the reviews of a second, the best run, and the most memory."""
+"""Measures `vap replay` of a stream of 20 policies with their bindings, 200 objects and 50,000 reviews, and where the time of
+a review goes. It makes the stream and runs on it the program that `./vap` built and, by turns with it, one that has serde_json
+parse the same lines; then one that measures the stages of reviews. `bench/run replay` builds these two and gives their paths."""
+import itertools
 import json
 import os
-import resource
+import statistics
+import subprocess
 import sys
 import tempfile
 from pathlib import Path
 
-from timed import timed
+from timed import measured
 
 TOP = Path(__file__).resolve().parent.parent
 PROGRAM = TOP / "crates/vap/out/vap"
-POLICIES, OBJECTS, REVIEWS, RUNS = 20, 200, 50_000, 3
+POLICIES, OBJECTS, REVIEWS, RUNS = 20, 200, 50_000, 7
+# How many reviews `vap replay` judges together, one that is allowed, and one that 13 of the policies deny.
+GROUP_SIZE, ALLOWED, DENIED = 1_024, 5, 103
 GROUP = "admissionregistration.k8s.io/v1"
 SPEC = {
     "replicas": {"type": "integer"},
@@ -64,31 +69,79 @@ def review(number):
     return {"apiVersion": "admission.k8s.io/v1", "kind": "AdmissionReview", "request": request}
 
 
-def lines():
-    """The lines of the stream."""
+def events():
+    """The events of the stream, which come before its reviews."""
     yield definition()
     for number in range(POLICIES):
         yield from policy(number)
     for number in range(OBJECTS):
         yield added({"apiVersion": "v1", "kind": "ConfigMap", "metadata": {"name": f"map{number}", "namespace": "shop"}})
-    for number in range(REVIEWS):
-        yield review(number)
+
+
+def write(path, values):
+    """Writes values to a file, one a line."""
+    with open(path, "w") as file:
+        for value in values:
+            file.write(json.dumps(value, separators=(",", ":")) + "\n")
+
+
+def tell(what, runs):
+    """Prints what runs took, of each review of the stream."""
+    seconds = [run.seconds for run in runs]
+    least, middle, processor = min(seconds), statistics.median(seconds), min(run.processor for run in runs)
+    memory = max(run.memory for run in runs)
+    print(f"{what}: {REVIEWS / least:,.0f} reviews a second at best, {REVIEWS / middle:,.0f} in the middle;", end=" ")
+    print(f"{least / REVIEWS * 1e6:.1f} and {middle / REVIEWS * 1e6:.1f} microseconds each,", end=" ")
+    print(f"{processor / REVIEWS * 1e6:.1f} of the processor at best; {memory / 1024:,.1f} MB at most", flush=True)
+
+
+def tell_answers(folder, status):
+    """Prints what the answers are."""
+    with open(folder / "answers") as file:
+        answers = [json.loads(line) for line in file]
+    denied = sum(not answer["allowed"] for answer in answers)
+    size = os.path.getsize(folder / "stream")
+    print(f"{size:,} bytes, {len(answers):,} answers, {denied:,} denied, status {status}")
+
+
+def measure_streams(folder, parser):
+    """Replays the stream and its events alone, and has it parsed, by turns."""
+    stream = folder / "stream"
+    words = {
+        "lines alone": [parser, stream, "read"],
+        "serde_json": [parser, stream, "parse"],
+        "serde_json, all kept": [parser, stream, "keep"],
+        "vap replay, the events alone": [PROGRAM, "replay", folder / "events"],
+        "vap replay": [PROGRAM, "replay", stream],
+    }
+    runs = {what: [] for what in words}
+    for _ in range(RUNS):
+        for what in words:
+            with open(folder / "answers", "w") as output:
+                run, status = measured(words[what], output)
+            runs[what].append(run)
+    tell_answers(folder, status)
+    for what in words:
+        tell(what, runs[what])
+
+
+def measure_stages(folder, stages):
+    """Measures the stages of one review that is allowed, of one that is denied, and of a group."""
+    for numbers in ([ALLOWED], [DENIED], range(GROUP_SIZE)):
+        write(folder / "reviews", map(review, numbers))
+        subprocess.run([stages, folder / "events", folder / "reviews"], check=True)
 
 
 def main():
-    with tempfile.NamedTemporaryFile("w", suffix=".jsonl") as file:
-        for line in lines():
-            file.write(json.dumps(line, separators=(",", ":")) + "\n")
-        file.flush()
-        times, ran = timed([PROGRAM, "replay", file.name], RUNS)
-        size = os.path.getsize(file.name)
-    answers = [json.loads(line) for line in ran.stdout.splitlines()]
-    denied = sum(not answer["allowed"] for answer in answers)
-    print(f"{size:,} bytes, {len(answers):,} answers, {denied:,} denied, status {ran.returncode}")
-    memory = resource.getrusage(resource.RUSAGE_CHILDREN).ru_maxrss
-    best = min(times)
-    print(f"{best:.2f} s, {len(answers) / best:,.0f} reviews a second, {memory / 1024:,.0f} MB at most")
-    return ran.returncode
+    parser, stages = sys.argv[1:]
+    with tempfile.TemporaryDirectory() as name:
+        folder = Path(name)
+        write(folder / "stream", itertools.chain(events(), map(review, range(REVIEWS))))
+        write(folder / "events", events())
+        measure_streams(folder, parser)
+        print("load", *os.getloadavg(), flush=True)
+        measure_stages(folder, stages)
+        print("load", *os.getloadavg())
 
 
-sys.exit(main())
+main()
