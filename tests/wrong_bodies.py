@@ -5,8 +5,9 @@
 crate it proves these functions alone and what they call. An edit is refused where the prover refuses a goal of the very
 function that it stands in: what a function has to prove speaks of its own body and of the contracts of what it calls, so
 the other edits of the batch, which change bodies alone, have no part in it. (Of a function whose own goals are proved, and
-that lacks a proof for what it calls alone, a check says 'no proof', and not 'not proved'.) An edit that changes no single
-function's body, and one whose function is not refused so, is tried alone over the whole crate, as `rt must-fail` does.
+that lacks a proof for what it calls alone, a check says 'no proof', and not 'not proved'. Of functions that call one another
+the goal has to be named, which begins with its function's name.) An edit that changes no single function's body, and one
+whose function is not refused so, is tried alone over the whole crate, as `rt must-fail` does.
 
 With names of crates it tries theirs alone. The last line is 'N passed, M failed'.
 """
@@ -145,11 +146,12 @@ class Edit:
 
     @property
     def unit(self):
-        """What is proved at once: a function, or a cycle of functions that call one another."""
-        if self.place_in_source is None:
-            return None
-        module, owner, name, cycle = self.place_in_source
-        return ("cycle", cycle) if cycle else (module, owner, name)
+        """The function that it changes, or None."""
+        return self.place_in_source
+
+    @property
+    def is_in_cycle(self):
+        return bool(self.place_in_source[3])
 
     @property
     def path(self):
@@ -158,11 +160,16 @@ class Edit:
         return "::".join(it for it in (module, owner, name) if it)
 
     def is_own(self, line):
-        """Whether a line of a check tells an error in what is to be proved of the function."""
+        """Whether a line of a check tells an error in what is to be proved of the function, or of the cycle that it is in."""
         module, owner, name, cycle = self.place_in_source
         own = "/".join(it for it in (module.replace("::", "/"), owner, name) if it)
         is_told = re.match(rf"(\./)?proofs/({own}|(.*/)?\+{cycle or name})/.*: error: ", line)
         return bool(is_told) and "was not admitted" not in line
+
+    def is_named(self, text):
+        """Whether a text names a goal of the function: in a cycle the goals of each function begin with its name."""
+        _, _, name, cycle = self.place_in_source
+        return not cycle or f"`{name}-" in text
 
     def changes(self, folder):
         """Each file that it changes, with where in it which text begins, and what takes its place."""
@@ -214,12 +221,17 @@ class Checked:
                     return True
         return False
 
-    def refuses(self, edit):
-        """Whether it refuses a goal of the function that an edit changes, which has an answer or is searched for."""
+    def refuses(self, edit, by_itself):
+        """Whether it refuses a goal of the function that an edit changes, which has an answer or is searched for. Where other
+        functions of its cycle may be changed too, the goal has to be named."""
         words = self.functions.get(edit.path, "")
         if words.startswith("no proof: expected answers in "):
-            return "`search` did not prove " in words
-        return words == "not proved" or words.startswith("not proved;") and any(edit.is_own(line) for line in self.lines)
+            _, is_searched, goals = words.partition("`search` did not prove ")
+            return bool(is_searched) and (by_itself or edit.is_named(goals))
+        own = [line for line in self.lines if edit.is_own(line)]
+        if by_itself or not edit.is_in_cycle:
+            return words == "not proved" or words.startswith("not proved;") and bool(own)
+        return words.startswith("not proved") and any(edit.is_named(line.split(": error: ", 1)[1].split(": ", 1)[0]) for line in own)
 
 
 def told(checked):
@@ -262,7 +274,7 @@ class Trial:
         """Those of a batch of edits, one of a function each, that a check of all of them does not refuse."""
         checked = self.check(batch, [edit.path for edit in batch], kept)
         is_judged = checked.status == 1 and not checked.is_unread()
-        refused = [edit for edit in batch if is_judged and checked.refuses(edit)]
+        refused = [edit for edit in batch if is_judged and checked.refuses(edit, len(batch) == 1)]
         self.results |= {str(edit): None for edit in refused}
         return [edit for edit in batch if edit not in refused]
 
