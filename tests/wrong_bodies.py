@@ -190,7 +190,7 @@ def apply(edits, folder):
 
 
 class Checked:
-    """What a check said: its status, its last line, and of each function what became of it."""
+    """What a check said: its status, its lines, and of each function what became of it, with the notes on that."""
 
     def __init__(self, crate, edits, paths, kept):
         with tempfile.TemporaryDirectory(prefix="wrong-bodies-") as room:
@@ -206,11 +206,16 @@ class Checked:
             self.lines = ran.stdout.read().rstrip("\n").split("\n")
             _, status, used = os.wait4(ran.pid, 0)
         self.status, self.seconds = os.waitstatus_to_exitcode(status), used.ru_utime + used.ru_stime
-        self.functions = {}
+        self.functions, self.notes = {}, {}
+        notes = []
         for line in self.lines:
             match = VERDICT.match(line)
             if match:
-                self.functions[match["function"].split("::", 1)[-1]] = match["words"]
+                function = match["function"].split("::", 1)[-1]
+                self.functions[function], self.notes[function] = match["words"], notes
+                notes = []
+            elif line.startswith("note: "):
+                notes.append(line)
 
     def is_unread(self):
         """Whether the prover could not read a text of src/ or specs/, where an edit that makes a statement false reads well."""
@@ -231,7 +236,8 @@ class Checked:
         own = [line for line in self.lines if edit.is_own(line)]
         if by_itself or not edit.is_in_cycle:
             return words == "not proved" or words.startswith("not proved;") and bool(own)
-        return words.startswith("not proved") and any(edit.is_named(line.split(": error: ", 1)[1].split(": ", 1)[0]) for line in own)
+        told = [line.split(": error: ", 1)[1].split(": ", 1)[0] for line in own] + self.notes[edit.path]
+        return words.startswith("not proved") and any(edit.is_named(goal) for goal in told)
 
 
 def told(checked):
