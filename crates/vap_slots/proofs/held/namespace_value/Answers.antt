@@ -13,3 +13,6 @@ returns-then-is_cluster-clause-fits c = null_fits _
 
 pub returns-clause-fits : goal.returns-clause-fits
 returns-clause-fits c = null_fits _
+
+pub returns-in-Some-clause-exact : goal.returns-in-Some-clause-exact
+returns-in-Some-clause-exact c = search rules
