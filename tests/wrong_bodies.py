@@ -228,7 +228,7 @@ def out_of_cycle(text, name):
     """Of a proof file of a cycle what is of one of its functions, as that function would have it alone: the names of its goals without
     its own in front, and without the theorem of the cycle."""
     head, *blocks = re.split(r"\n\n+", text.rstrip("\n"))
-    of_function = rf"(?m)(?:^|(?<=^pub )|(?<=^abbrev pub )|(?<=goal\.))(invariant-|decreases-|)(?:\w+::)?{name}-"
+    of_function = rf"(?m)(?:^|(?<=^pub )|(?<=^abbrev pub )|(?<=goal\.))(invariant-|decreases-|iterator-|)(?:\w+::)?{name}-"
     kept = []
     for block in blocks:
         is_of_one = re.search(r"(?m)^(abbrev )?pub ", block)
