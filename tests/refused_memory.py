@@ -3,8 +3,8 @@
 
 The program is run on the first expression, on one with loops and on vectors of each answer, and then must give its right answer, or end
 with status 4 and nothing on standard output; and so are `check` and `replay` on their examples, which may have written
-whole lines of their answer before. Of crates/value_rows, crates/match_rows, crates/judge_rows and
-crates/replay_rows the tests of TESTS are run, which take 'out of memory' for an answer and no other wrong one.
+whole lines of their answer before. Of crates/rows the tests of TESTS are run, which take 'out of memory' for an answer and no
+other wrong one.
 
 Then the allocations of crates/rows' tests of what is lent are counted: that ten runs more of the same expressions take as
 many, of as many bytes, where the slots hold much as where they hold little. The last line is 'N passed, M failed', each refused allocation
@@ -21,23 +21,19 @@ from pathlib import Path
 
 TOP = Path(__file__).resolve().parent.parent
 PROGRAM = TOP / "crates/vap/out/vap"
-ROWS = TOP / "crates/value_rows/out/value_rows_tests"
-MATCH_ROWS = TOP / "crates/match_rows/out/match_rows_tests"
-JUDGE_ROWS = TOP / "crates/judge_rows/out/judge_rows_tests"
-REPLAY_ROWS = TOP / "crates/replay_rows/out/replay_rows_tests"
-UPPER_ROWS = TOP / "crates/rows/out/rows_tests"
+ROWS = TOP / "crates/rows/out/rows_tests"
 FIRST = "1 + 2 * 3 == 7 && !(4 < 3)"
 LOOPS = "[[1, 2], [3]].map(r, r.filter(c, {'a': c}.exists(k, k == 'a') && c != 2))"
 TESTS = [
-    (ROWS, "containers::containers_grow_or_are_out_of_memory"),
-    (ROWS, "values::copies_and_joins_are_made_or_out_of_memory"),
-    (ROWS, "schemas::a_document_is_fitted_or_out_of_memory"),
-    (ROWS, "patterns::patterns_are_found_or_out_of_memory"),
-    (MATCH_ROWS, "memory::a_review_is_matched_or_out_of_memory"),
-    (MATCH_ROWS, "events::lines_are_read_or_out_of_memory"),
-    (MATCH_ROWS, "objects::objects_are_held_or_out_of_memory"),
-    (JUDGE_ROWS, "answers::a_verdict_is_made_or_out_of_memory"),
-    (REPLAY_ROWS, "lines::lines_are_read_or_out_of_memory"),
+    "basics::containers::containers_grow_or_are_out_of_memory",
+    "basics::values::copies_and_joins_are_made_or_out_of_memory",
+    "basics::schemas::a_document_is_fitted_or_out_of_memory",
+    "basics::patterns::patterns_are_found_or_out_of_memory",
+    "matching::memory::a_review_is_matched_or_out_of_memory",
+    "matching::events::lines_are_read_or_out_of_memory",
+    "matching::objects::objects_are_held_or_out_of_memory",
+    "verdicts::answers::a_verdict_is_made_or_out_of_memory",
+    "replays::lines::lines_are_read_or_out_of_memory",
 ]
 VECTORS = 50
 MOST = 100_000
@@ -96,9 +92,9 @@ def cases():
         is_well = lambda status, out, well=well: (status, out) in (well, (4, b""))
         yield line["expression"], [PROGRAM, "eval", "--", line["expression"]], well, is_well
     yield from commands()
-    for rows, test in TESTS:
+    for test in TESTS:
         is_well = lambda status, out: status == 0 and b"test result: ok" in out
-        yield test, [rows, test], None, is_well
+        yield test, [ROWS, test], None, is_well
 
 
 def sweep(library, name, words, well, is_well):
@@ -119,7 +115,7 @@ def sweep(library, name, words, well, is_well):
 def counted(library, test):
     """How many allocations a test of crates/rows makes, and of how many bytes together."""
     environment = {"LD_PRELOAD": str(library), "COUNTED": "1"}
-    ran = subprocess.run([UPPER_ROWS, test], env=environment, stdin=subprocess.DEVNULL, capture_output=True, timeout=60)
+    ran = subprocess.run([ROWS, test], env=environment, stdin=subprocess.DEVNULL, capture_output=True, timeout=60)
     if ran.returncode or b"test result: ok" not in ran.stdout:
         raise SystemExit(f"{test}: status {ran.returncode}, {ran.stdout!r}")
     return [int(word) for word in ran.stderr.split()[-2:]]
@@ -127,8 +123,8 @@ def counted(library, test):
 
 def taken(library, held):
     """What the further runs of the same expressions take where slots hold little or much: allocations and bytes."""
-    once = counted(library, f"lent::{held}_is_read_once")
-    often = counted(library, f"lent::{held}_is_read_often")
+    once = counted(library, f"expressions::lent::{held}_is_read_once")
+    often = counted(library, f"expressions::lent::{held}_is_read_often")
     return [more - less for more, less in zip(often, once)]
 
 

@@ -1,33 +1,21 @@
-//! The rows that the other crates' public calls must keep, from trees on. There is no code but tests, so no crate is
-//! proved a second time with its own.
+//! The rows that the public calls of all libraries must keep. There is no code but tests, so no crate is proved a second time
+//! with its own.
 //!
-//! A table is a constant, and a test hands it to [`asked::hold`]. So a test is proved in a second or two, however many
-//! rows its table has.
+//! A table is a constant, and a test hands it to [`asked::hold`]. So a test is proved in a second or two, however many rows its
+//! table has.
 #![tactic(auto)]
 
 #[cfg(test)]
 mod asked;
 #[cfg(test)]
-mod checking;
+mod basics;
 #[cfg(test)]
-mod evaluation;
+mod expressions;
 #[cfg(test)]
-mod images;
+mod matching;
 #[cfg(test)]
-mod kinds;
+mod notation;
 #[cfg(test)]
-mod lent;
+mod replays;
 #[cfg(test)]
-mod loops;
-#[cfg(test)]
-mod operands;
-#[cfg(test)]
-mod overloads;
-#[cfg(test)]
-mod patterns;
-#[cfg(test)]
-mod programs;
-#[cfg(test)]
-mod slots;
-#[cfg(test)]
-mod trees;
+mod verdicts;

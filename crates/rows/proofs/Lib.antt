@@ -1,0 +1,2 @@
+pub mod EventsCross
+pub mod VerdictsCross

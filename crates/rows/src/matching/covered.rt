@@ -1,0 +1,386 @@
+//! Which requests rules cover. Each sign was worked out by hand.
+
+use crate::asked::hold;
+use crate::matching::asked::Asked;
+use crate::matching::read::{json, match_refusal, review, review_refusal, sign};
+use std::alloc::{AllocError, Global};
+use vap_match::{Request, Rules, covers};
+
+/// The sign of rules at a request, or the rules' fault.
+fn cover_sign(alloc: Global, rules: &str, request: &Request) -> Result<&'static str, AllocError> {
+    match Rules::from_json(alloc, &json(alloc, rules)?) {
+        Ok(rules) => Ok(sign(covers(&rules, request))),
+        Err(error) => match_refusal(error),
+    }
+}
+
+fn cover_signs(alloc: Global, request: &Request) -> Result<String, AllocError> {
+    let mut out = String::new(alloc);
+    for rules in &RULES {
+        out.push_str(cover_sign(alloc, rules, request)?)?;
+    }
+    Ok(out)
+}
+
+/// Which rules cover a request of these members.
+pub fn covered(alloc: Global, row: &str) -> Result<String, AllocError> {
+    match Request::from_json(alloc, review(alloc, row)?) {
+        Ok(request) => cover_signs(alloc, &request),
+        Err(error) => review_refusal(alloc, error),
+    }
+}
+
+/// Rules, of which each request below has a sign.
+const RULES: [&str; 20] = [
+    r#"{"resourceRules":[{"operations":["*"],"apiGroups":["*"],"apiVersions":["*"],
+        "resources":["*/*"]}]}"#,
+    r#"{"resourceRules":[{"operations":["*"],"apiGroups":["*"],"apiVersions":["*"],"resources":["*"]}]}"#,
+    r#"{"resourceRules":[{"operations":["CREATE"],"apiGroups":[""],"apiVersions":["v1"],
+        "resources":["pods"]}]}"#,
+    r#"{"resourceRules":[{"operations":["*"],"apiGroups":[""],"apiVersions":["*"],
+        "resources":["pods/*"]}]}"#,
+    r#"{"resourceRules":[{"operations":["UPDATE"],"apiGroups":["*"],"apiVersions":["*"],
+        "resources":["*/scale"]}]}"#,
+    r#"{"resourceRules":[{"operations":["*"],"apiGroups":[""],"apiVersions":["v1"],
+        "resources":["pods/log","services"]}]}"#,
+    r#"{"resourceRules":[{"operations":["CREATE","UPDATE"],"apiGroups":["apps"],"apiVersions":["v1",
+        "v1beta1"],"resources":["deployments","deployments/scale"]}]}"#,
+    r#"{"resourceRules":[{"operations":["*"],"apiGroups":["*"],"apiVersions":["*"],"resources":["*/*"],
+        "scope":"Cluster"}]}"#,
+    r#"{"resourceRules":[{"operations":["*"],"apiGroups":["*"],"apiVersions":["*"],"resources":["*/*"],
+        "scope":"Namespaced"}]}"#,
+    r#"{"resourceRules":[{"operations":["UPDATE","DELETE"],"apiGroups":["*"],"apiVersions":["v1"],
+        "resources":["*/*"],"scope":"*"}]}"#,
+    r#"{"resourceRules":[{"operations":["*"],"apiGroups":["*"],"apiVersions":["*"],"resources":["*/*"],
+        "resourceNames":["a","b"]}]}"#,
+    r#"{"resourceRules":[{"operations":["CONNECT"],"apiGroups":[""],"apiVersions":["v1"],
+        "resources":["pods/exec"],"resourceNames":[]}]}"#,
+    r#"{"resourceRules":[{"operations":["*"],"apiGroups":["*"],"apiVersions":["*"],
+        "resources":["*/*"]}],"excludeResourceRules":[{"operations":["*"],"apiGroups":[""],
+        "apiVersions":["*"],"resources":["pods/*"]}]}"#,
+    r#"{"resourceRules":[{"operations":["*"],"apiGroups":[""],"apiVersions":["*"],"resources":["*"]}],
+        "excludeResourceRules":[{"operations":["DELETE"],"apiGroups":[""],"apiVersions":["v1"],
+        "resources":["pods"],"scope":"Namespaced","resourceNames":["a"]}]}"#,
+    r#"{"excludeResourceRules":[{"operations":["*"],"apiGroups":["apps"],"apiVersions":["*"],
+        "resources":["*"]}]}"#,
+    r#"{}"#,
+    r#"{"resourceRules":[{"operations":["CREATE"],"apiGroups":[""],"apiVersions":["v1"],
+        "resources":["pods"]},{"operations":["DELETE"],"apiGroups":["apps"],"apiVersions":["v1"],
+        "resources":["deployments"]}]}"#,
+    r#"{"resourceRules":[{"operations":["*"],"apiGroups":[""],"apiVersions":["v1"],
+        "resources":["namespaces"],"scope":"Namespaced"}]}"#,
+    r#"{"resourceRules":[{"operations":["*"],"apiGroups":["ex.io"],"apiVersions":["v1","v2"],
+        "resources":["*"],"scope":"Namespaced","resourceNames":["x"]}]}"#,
+    r#"{"resourceRules":[{"operations":["*"],"apiGroups":["*"],"apiVersions":["*"],
+        "resources":["*/*"]}],"excludeResourceRules":[{"operations":["*"],"apiGroups":["none"],
+        "apiVersions":["*"],"resources":["*/*"]},{"operations":["*"],"apiGroups":["*"],
+        "apiVersions":["*"],"resources":["*/*"]}]}"#,
+];
+
+/// Requests, and which of the rules cover them, in their order.
+const COVERED: [(&str, &str); 62] = [
+    (
+        r#""operation":"CREATE","resource":{"group":"","version":"v1","resource":"pods"},"namespace":"d",
+        "name":"a""#,
+        "++++....+.+..++++...",
+    ),
+    (
+        r#""operation":"CREATE","resource":{"group":"","version":"v1","resource":"pods"},"namespace":"d""#,
+        "++++....+....++++...",
+    ),
+    (
+        r#""operation":"UPDATE","resource":{"group":"","version":"v1","resource":"pods"},"namespace":"d",
+        "name":"a""#,
+        "++.+....+++..+++....",
+    ),
+    (
+        r#""operation":"DELETE","resource":{"group":"","version":"v1","resource":"pods"},"namespace":"d",
+        "name":"a""#,
+        "++.+....+++...++....",
+    ),
+    (
+        r#""operation":"DELETE","resource":{"group":"","version":"v1","resource":"pods"},"namespace":"d",
+        "name":"c""#,
+        "++.+....++...+++....",
+    ),
+    (
+        r#""operation":"DELETE","resource":{"group":"","version":"v1","resource":"pods"},"name":"a""#,
+        "++.+...+.++..+++....",
+    ),
+    (
+        r#""operation":"CONNECT","resource":{"group":"","version":"v1","resource":"pods"},
+        "subResource":"exec","namespace":"d","name":"a""#,
+        "+..+....+.++..++....",
+    ),
+    (
+        r#""operation":"CONNECT","resource":{"group":"","version":"v1","resource":"pods"},
+        "subResource":"log","namespace":"d","name":"a""#,
+        "+..+.+..+.+...++....",
+    ),
+    (
+        r#""operation":"CREATE","resource":{"group":"","version":"v1","resource":"pods"},
+        "subResource":"exec","namespace":"d","name":"a""#,
+        "+..+....+.+...++....",
+    ),
+    (
+        r#""operation":"UPDATE","resource":{"group":"","version":"v1","resource":"pods"},
+        "subResource":"status","namespace":"d","name":"a""#,
+        "+..+....+++...++....",
+    ),
+    (
+        r#""operation":"UPDATE","resource":{"group":"","version":"v1","resource":"pods"},
+        "subResource":"scale","namespace":"d","name":"a""#,
+        "+..++...+++...++....",
+    ),
+    (
+        r#""operation":"CREATE","resource":{"group":"","version":"v2","resource":"pods"},"namespace":"d",
+        "name":"a""#,
+        "++.+....+.+..+++....",
+    ),
+    (
+        r#""operation":"CREATE","resource":{"group":"x","version":"v1","resource":"pods"},"namespace":"d",
+        "name":"a""#,
+        "++......+.+.+.++....",
+    ),
+    (
+        r#""operation":"UPDATE","resource":{"group":"x","version":"v1","resource":"pods"},
+        "subResource":"log","namespace":"d","name":"b""#,
+        "+.......+++.+.++....",
+    ),
+    (
+        r#""operation":"UPDATE","resource":{"group":"","version":"v1","resource":"Pods"},"namespace":"d""#,
+        "++......++..++++....",
+    ),
+    (
+        r#""operation":"CREATE","resource":{"group":"","version":"v1","resource":"pod"},"namespace":"d""#,
+        "++......+...++++....",
+    ),
+    (
+        r#""operation":"CREATE","resource":{"group":"","version":"v1","resource":"podss"},"namespace":"d""#,
+        "++......+...++++....",
+    ),
+    (
+        r#""operation":"CREATE","resource":{"group":"","version":"v1","resource":"pods/log"},
+        "namespace":"d""#,
+        "++......+...++++....",
+    ),
+    (
+        r#""operation":"CREATE","resource":{"group":"","version":"v1","resource":"services"},
+        "namespace":"d","name":"b""#,
+        "++...+..+.+.++++....",
+    ),
+    (
+        r#""operation":"DELETE","resource":{"group":"","version":"v1","resource":"services"},
+        "namespace":"d","name":"b""#,
+        "++...+..+++.++++....",
+    ),
+    (
+        r#""operation":"UPDATE","resource":{"group":"","version":"v1","resource":"services"},
+        "subResource":"status","namespace":"d","name":"b""#,
+        "+.......+++.+.++....",
+    ),
+    (
+        r#""operation":"CREATE","resource":{"group":"","version":"v1","resource":"services"},
+        "subResource":"*","namespace":"d","name":"b""#,
+        "+.......+.+.+.++....",
+    ),
+    (
+        r#""operation":"CREATE","resource":{"group":"apps","version":"v1","resource":"deployments"},
+        "namespace":"d","name":"a""#,
+        "++....+.+.+.+..+....",
+    ),
+    (
+        r#""operation":"UPDATE","resource":{"group":"apps","version":"v1","resource":"deployments"},
+        "namespace":"d","name":"a""#,
+        "++....+.+++.+..+....",
+    ),
+    (
+        r#""operation":"DELETE","resource":{"group":"apps","version":"v1","resource":"deployments"},
+        "namespace":"d","name":"a""#,
+        "++......+++.+..++...",
+    ),
+    (
+        r#""operation":"DELETE","resource":{"group":"apps","version":"v1","resource":"deployments"},
+        "namespace":"d","name":"z""#,
+        "++......++..+..++...",
+    ),
+    (
+        r#""operation":"UPDATE","resource":{"group":"apps","version":"v1","resource":"deployments"},
+        "subResource":"scale","namespace":"d","name":"a""#,
+        "+...+.+.+++.+.++....",
+    ),
+    (
+        r#""operation":"CREATE","resource":{"group":"apps","version":"v1","resource":"deployments"},
+        "subResource":"scale","namespace":"d","name":"a""#,
+        "+.....+.+.+.+.++....",
+    ),
+    (
+        r#""operation":"UPDATE","resource":{"group":"apps","version":"v1","resource":"deployments"},
+        "subResource":"status","namespace":"d","name":"a""#,
+        "+.......+++.+.++....",
+    ),
+    (
+        r#""operation":"UPDATE","resource":{"group":"apps","version":"v1beta1","resource":"deployments"},
+        "namespace":"d""#,
+        "++....+.+...+..+....",
+    ),
+    (
+        r#""operation":"UPDATE","resource":{"group":"apps","version":"v2","resource":"deployments"},
+        "namespace":"d""#,
+        "++......+...+..+....",
+    ),
+    (
+        r#""operation":"UPDATE","resource":{"group":"","version":"v1","resource":"deployments"},
+        "namespace":"d""#,
+        "++......++..++++....",
+    ),
+    (
+        r#""operation":"UPDATE","resource":{"group":"apps","version":"v1","resource":"statefulsets"},
+        "subResource":"scale","namespace":"d","name":"s""#,
+        "+...+...++..+.++....",
+    ),
+    (
+        r#""operation":"CREATE","resource":{"group":"apps","version":"v1","resource":"statefulsets"},
+        "namespace":"d","name":"s""#,
+        "++......+...+..+....",
+    ),
+    (
+        r#""operation":"CREATE","resource":{"group":"apps","version":"v1","resource":"statefulsets"},
+        "name":"s""#,
+        "++.....+....+..+....",
+    ),
+    (
+        r#""operation":"CREATE","resource":{"group":"","version":"v1","resource":"namespaces"},"name":"d""#,
+        "++.....+....++++....",
+    ),
+    (
+        r#""operation":"CREATE","resource":{"group":"","version":"v1","resource":"namespaces"},
+        "namespace":"d","name":"d""#,
+        "++.....+....++++....",
+    ),
+    (
+        r#""operation":"UPDATE","resource":{"group":"","version":"v1","resource":"namespaces"},
+        "namespace":"d","name":"a""#,
+        "++.....+.++.++++....",
+    ),
+    (
+        r#""operation":"DELETE","resource":{"group":"","version":"v1","resource":"namespaces"},"name":"d""#,
+        "++.....+.+..++++....",
+    ),
+    (
+        r#""operation":"UPDATE","resource":{"group":"","version":"v1","resource":"namespaces"},
+        "subResource":"status","namespace":"d","name":"d""#,
+        "+......+.+..+.++....",
+    ),
+    (
+        r#""operation":"UPDATE","resource":{"group":"","version":"v1","resource":"namespaces"},
+        "subResource":"finalize","namespace":"d","name":"d""#,
+        "+......+.+..+.++....",
+    ),
+    (
+        r#""operation":"CREATE","resource":{"group":"x","version":"v1","resource":"namespaces"},"name":"d""#,
+        "++.....+....+.++....",
+    ),
+    (
+        r#""operation":"CREATE","resource":{"group":"x","version":"v1","resource":"namespaces"},
+        "namespace":"d","name":"d""#,
+        "++......+...+.++....",
+    ),
+    (
+        r#""operation":"DELETE","resource":{"group":"x","version":"v1","resource":"namespaces"},
+        "namespace":"d","name":"a""#,
+        "++......+++.+.++....",
+    ),
+    (
+        r#""operation":"CREATE","resource":{"group":"","version":"v2","resource":"namespaces"},
+        "namespace":"d","name":"b""#,
+        "++.....+..+.++++....",
+    ),
+    (
+        r#""operation":"CREATE","resource":{"group":"rbac","version":"v1","resource":"clusterroles"},
+        "name":"r""#,
+        "++.....+....+.++....",
+    ),
+    (
+        r#""operation":"DELETE","resource":{"group":"rbac","version":"v1","resource":"clusterroles"},
+        "name":"a""#,
+        "++.....+.++.+.++....",
+    ),
+    (
+        r#""operation":"UPDATE","resource":{"group":"","version":"v1","resource":"nodes"},"name":"n""#,
+        "++.....+.+..++++....",
+    ),
+    (
+        r#""operation":"UPDATE","resource":{"group":"","version":"v1","resource":"nodes"},
+        "subResource":"scale","name":"n""#,
+        "+...+..+.+..+.++....",
+    ),
+    (
+        r#""operation":"CREATE","resource":{"group":"ex.io","version":"v1","resource":"apps"},
+        "namespace":"d","name":"x""#,
+        "++......+...+.++..+.",
+    ),
+    (
+        r#""operation":"CREATE","resource":{"group":"ex.io","version":"v2","resource":"apps"},
+        "namespace":"d","name":"x""#,
+        "++......+...+.++..+.",
+    ),
+    (
+        r#""operation":"CREATE","resource":{"group":"ex.io","version":"v3","resource":"apps"},
+        "namespace":"d","name":"x""#,
+        "++......+...+.++....",
+    ),
+    (
+        r#""operation":"CREATE","resource":{"group":"ex.io","version":"v1","resource":"apps"},"name":"x""#,
+        "++.....+....+.++....",
+    ),
+    (
+        r#""operation":"DELETE","resource":{"group":"ex.io","version":"v1","resource":"apps"},
+        "namespace":"d","name":"y""#,
+        "++......++..+.++....",
+    ),
+    (
+        r#""operation":"UPDATE","resource":{"group":"ex.io","version":"v1","resource":"apps"},
+        "subResource":"scale","namespace":"d","name":"x""#,
+        "+...+...++..+.++....",
+    ),
+    (
+        r#""operation":"CREATE","resource":{"group":"EX.io","version":"v1","resource":"apps"},
+        "namespace":"d","name":"x""#,
+        "++......+...+.++....",
+    ),
+    (
+        r#""operation":"EVICT","resource":{"group":"","version":"v1","resource":"pods"},"namespace":"d",
+        "name":"a""#,
+        "++.+....+.+..+++....",
+    ),
+    (
+        r#""operation":"","resource":{"group":"","version":"v1","resource":"pods"},"namespace":"d",
+        "name":"a""#,
+        "++.+....+.+..+++....",
+    ),
+    (
+        r#""operation":"*","resource":{"group":"","version":"v1","resource":"pods"},"namespace":"d",
+        "name":"a""#,
+        "++.+....+.+..+++....",
+    ),
+    (
+        r#""operation":"create","resource":{"group":"","version":"v1","resource":"pods"},"namespace":"d",
+        "name":"a""#,
+        "++.+....+.+..+++....",
+    ),
+    (
+        r#""operation":"CREATE","resource":{"group":"","version":"","resource":""}"#,
+        "++.....+....++++....",
+    ),
+    (
+        r#""operation":"CREATE","resource":{"group":"none","version":"v1","resource":"things"},
+        "namespace":"d","name":"a""#,
+        "++......+.+.+.++....",
+    ),
+];
+
+#[test]
+fn rules_cover_requests(rt: HostRuntime) {
+    hold(&rt, Asked::Covered, &COVERED);
+}

@@ -1,0 +1,92 @@
+//! Which labels selectors select. Each sign was worked out by hand.
+
+use crate::asked::hold;
+use crate::matching::asked::Asked;
+use crate::matching::read::{json, match_refusal, sign};
+use std::alloc::{AllocError, Global};
+use vap_match::{Labels, Selector, labels_of, selects};
+
+/// The sign of a selector at labels, or the selector's fault.
+fn select_sign(
+    alloc: Global,
+    selector: &str,
+    labels: &Labels<'_>,
+) -> Result<&'static str, AllocError> {
+    match Selector::from_json(alloc, &json(alloc, selector)?) {
+        Ok(selector) => Ok(sign(selects(&selector, labels))),
+        Err(error) => match_refusal(error),
+    }
+}
+
+fn select_signs(alloc: Global, labels: &Labels<'_>) -> Result<String, AllocError> {
+    let mut out = String::new(alloc);
+    for selector in &SELECTORS {
+        out.push_str(select_sign(alloc, selector, labels)?)?;
+    }
+    Ok(out)
+}
+
+/// Which selectors select the labels of an object.
+pub fn selected(alloc: Global, row: &str) -> Result<String, AllocError> {
+    select_signs(alloc, &labels_of(&json(alloc, row)?))
+}
+
+/// Selectors, of which each object below has a sign.
+const SELECTORS: [&str; 12] = [
+    r#"{}"#,
+    r#"{"matchLabels":{}}"#,
+    r#"{"matchLabels":{"a":"b"}}"#,
+    r#"{"matchLabels":{"a":"b","c":""}}"#,
+    r#"{"matchExpressions":[{"key":"a","operator":"In","values":["b","c"]}]}"#,
+    r#"{"matchExpressions":[{"key":"a","operator":"NotIn","values":["b"]}]}"#,
+    r#"{"matchExpressions":[{"key":"a","operator":"Exists"}]}"#,
+    r#"{"matchExpressions":[{"key":"a","operator":"DoesNotExist","values":[]}]}"#,
+    r#"{"matchLabels":{"a":"b"},"matchExpressions":[{"key":"c","operator":"Exists"},{"key":"d",
+        "operator":"NotIn","values":["e"]}]}"#,
+    r#"{"matchExpressions":[{"key":"c","operator":"In","values":[""]}]}"#,
+    r#"{"matchExpressions":[{"key":"","operator":"DoesNotExist"}]}"#,
+    r#"{"matchLabels":{"A":"b"}}"#,
+];
+
+/// Objects, and which of the selectors select their labels, in their order.
+const SELECTED: [(&str, &str); 16] = [
+    (r#"{}"#, "++...+.+..+."),
+    (r#"{"metadata":{}}"#, "++...+.+..+."),
+    (r#"{"metadata":{"labels":{}}}"#, "++...+.+..+."),
+    (r#"{"metadata":{"labels":{"a":"b"}}}"#, "+++.+.+...+."),
+    (r#"{"metadata":{"labels":{"a":"c"}}}"#, "++..+++...+."),
+    (
+        r#"{"metadata":{"labels":{"a":"b","c":""}}}"#,
+        "+++++.+.+++.",
+    ),
+    (
+        r#"{"metadata":{"labels":{"a":"d","c":"x"}}}"#,
+        "++...++...+.",
+    ),
+    (
+        r#"{"metadata":{"labels":{"a":"b","c":"x","d":"e"}}}"#,
+        "+++.+.+...+.",
+    ),
+    (
+        r#"{"metadata":{"labels":{"a":"b","c":"x","d":"f"}}}"#,
+        "+++.+.+.+.+.",
+    ),
+    (r#"{"metadata":{"labels":{"a":5}}}"#, "++...+.+..+."),
+    (
+        r#"{"metadata":{"labels":{"a":null,"c":""}}}"#,
+        "++...+.+.++.",
+    ),
+    (r#"{"metadata":{"labels":["a"]}}"#, "++...+.+..+."),
+    (r#"{"metadata":{"labels":"a"}}"#, "++...+.+..+."),
+    (r#"{"metadata":[{"labels":{"a":"b"}}]}"#, "++...+.+..+."),
+    (r#"{"labels":{"a":"b"}}"#, "++...+.+..+."),
+    (
+        r#"{"metadata":{"labels":{"":"b","A":"b"}}}"#,
+        "++...+.+...+",
+    ),
+];
+
+#[test]
+fn selectors_select_labels(rt: HostRuntime) {
+    hold(&rt, Asked::Selected, &SELECTED);
+}

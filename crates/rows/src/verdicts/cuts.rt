@@ -1,0 +1,89 @@
+//! How values are cut, and that what is joined is not.
+
+use crate::verdicts::asked::{Asked, hold};
+use crate::verdicts::found::note;
+use std::alloc::{AllocError, Global};
+use vap_answer::{Note, Verdict, cut, verdict_of};
+
+/// What is left of a text within so many bytes.
+pub fn within(alloc: Global, text: &str, most: usize) -> Result<String, AllocError> {
+    String::from_str(alloc, cut(text, most))
+}
+
+/// A note of a text so many times, and then a letter.
+fn long_note(alloc: Global, unit: &str, times: usize, letter: &str) -> Result<Note, AllocError> {
+    let mut value = unit.repeat(alloc, times)?;
+    value.push_str(letter)?;
+    note(alloc, "p", "k", value.as_str())
+}
+
+fn length_of(verdict: &Verdict) -> usize {
+    match verdict.annotations.get().get("p/k") {
+        Some(text) => text.as_str().len(),
+        None => 0,
+    }
+}
+
+fn length_with(alloc: Global, notes: Vec<Note>) -> Result<usize, AllocError> {
+    let none = Vec::new(alloc);
+    let verdict = verdict_of(alloc, none.as_slice(), notes.as_slice(), 0, 0)?;
+    Ok(length_of(&verdict))
+}
+
+/// How many bytes an annotation has with two values that differ in their last letter alone.
+pub fn kept(alloc: Global, unit: &str, row: &str) -> Result<String, AllocError> {
+    let times = row.parse::<usize>().unwrap_or(0);
+    let mut notes = Vec::new(alloc);
+    notes.push(long_note(alloc, unit, times, "b")?)?;
+    notes.push(long_note(alloc, unit, times, "c")?)?;
+    format!(in alloc; "{}", length_with(alloc, notes)?)
+}
+
+/// Texts, and what is left of them within 4 bytes.
+const CUT: [(&str, &str); 12] = [
+    ("", ""),
+    ("a", "a"),
+    ("abcd", "abcd"),
+    ("abcde", "abcd"),
+    ("éé", "éé"),
+    ("ééé", "éé"),
+    ("aéé", "aé"),
+    ("aaaé", "aaa"),
+    ("a€", "a€"),
+    ("aa€", "aa"),
+    ("𝄞", "𝄞"),
+    ("a𝄞", "a"),
+];
+
+/// Texts, and what is left of them within no bytes at all.
+const CUT_TO_NOTHING: [(&str, &str); 3] = [("", ""), ("a", ""), ("é", "")];
+
+/// How many letters of one byte a value has before its last letter, and how long the annotation is.
+const KEPT: [(&str, &str); 6] = [
+    ("0", "4"),
+    ("1", "6"),
+    ("10238", "20480"),
+    ("10239", "20482"),
+    ("10240", "10240"),
+    ("20000", "10240"),
+];
+
+/// The same for letters of three bytes.
+const KEPT_OF_THREE: [(&str, &str); 4] = [
+    ("3412", "20476"),
+    ("3413", "20482"),
+    ("3414", "10239"),
+    ("4000", "10239"),
+];
+
+#[test]
+fn texts_are_cut_behind_whole_characters(rt: HostRuntime) {
+    hold(&rt, Asked::Cut(4), &CUT);
+    hold(&rt, Asked::Cut(0), &CUT_TO_NOTHING);
+}
+
+#[test]
+fn values_are_cut_before_they_are_compared(rt: HostRuntime) {
+    hold(&rt, Asked::Kept("a"), &KEPT);
+    hold(&rt, Asked::Kept("€"), &KEPT_OF_THREE);
+}
