@@ -1,6 +1,6 @@
 //! Open loops.
 
-ghost use Rattle.std.specs.Prelude.{◌≡◌, ◌+◌, ◌<◌, ◌^◌, [], length, IfOk, MatchBool, Some};
+ghost use Rattle.std.specs.Prelude.{◌≡◌, ◌+◌, ◌<◌, ◌^◌, [], length, IfOk, IfSome, MatchBool, Some};
 ghost use Rattle.cel_check.specs.Loops.{turn as turn_of, result_of as result_of_loop};
 ghost use Rattle.cel_machine.specs.Ranges.{range_items, opened_over, taking, with_gathered};
 ghost use Rattle.cel_machine.specs.Turns.{turn_by};
@@ -101,6 +101,13 @@ impl<'a> Frame<'a> {
         ensures { IfOk result (λ item. item ≡ self.now.item) }
     {
         self.range.item(alloc, self.taken.saturating_sub(1))
+    }
+
+    /// The item at which it is, if it is lent.
+    pub fn lent_item(&self) -> Option<&'a Value>
+        ensures { IfSome result (λ item. item.now ≡ self.now.item) }
+    {
+        self.range.lent_item(self.taken.saturating_sub(1))
     }
 
     /// On to the next item, if one is left.

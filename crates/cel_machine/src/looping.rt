@@ -5,13 +5,13 @@ ghost use Rattle.cel_operators.specs.Outcomes.{Outcome};
 ghost use Rattle.cel_code.specs.Machine.{item_of, slot, opened};
 ghost use Rattle.cel_machine.specs.Ranges.{range_items};
 ghost use Rattle.cel_machine.specs.Room.{HasRoom, HasFrameRoom};
-ghost use Rattle.cel_machine.specs.Follow.{Follows, Turns, loop_of, item_in, when_in, side_in, next_in};
+ghost use Rattle.cel_machine.specs.Follow.{Follows, LeadsTo, Turns, loop_of, item_in, when_in, side_in, next_in};
 ghost use Rattle.cel_machine.specs.Follow.{mapped_in, gone_in, finished_in, closed_in};
 
 use crate::fault::RunFault;
 use crate::frame::Frame;
 use crate::frames::Frames;
-use crate::operand::{own, read};
+use crate::operand::{Operand, own, read};
 use crate::range::{Range, ranged};
 use crate::stack::Stack;
 use crate::step::Move;
@@ -38,6 +38,27 @@ pub fn local<'a>(
     let Some(frame) = frames.get(number) else {
         return Ok(Move::IsStuckHere);
     };
+    match frame.lent_item() {
+        Some(item) => {
+            stack.push(Ok(Operand::lent(item)));
+            Ok(Move::GoesTo(1, at + 1))
+        }
+        None => copied(alloc, frame, at, stack),
+    }
+}
+
+// The item at which a loop is, which may be a copy.
+fn copied<'a>(
+    alloc: Global,
+    frame: &Frame<'a>,
+    at: usize,
+    stack: &mut Stack<'a>,
+) -> Result<Move, RunFault>
+    requires at { at + 1 < 2 ^ 64 }
+    requires room { HasRoom stack.old }
+    ensures acts { IfOk result (λ m. LeadsTo (slot (Some (Ok frame.now.item)) at stack.old.items) m stack.new.items) }
+    ensures room { stack.new.room ≡ stack.old.room }
+{
     stack.push(Ok(frame.item(alloc)?));
     Ok(Move::GoesTo(1, at + 1))
 }

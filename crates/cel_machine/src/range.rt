@@ -1,6 +1,6 @@
 //! What loops go over.
 
-ghost use Rattle.std.specs.Prelude.{◌≡◌, ◌<◌, Some, Ok, length, slice_get, IfOk, option_copied};
+ghost use Rattle.std.specs.Prelude.{◌≡◌, ◌<◌, Some, Ok, length, slice_get, IfOk, IfSome, option_copied};
 ghost use Rattle.cel_operators.specs.declared.operands.Want.TheVariants.{Ranged};
 ghost use Rattle.cel_operators.specs.Wants.{taken, keys_of};
 ghost use Rattle.cel_apply.specs.Kinds.{seen_by};
@@ -42,6 +42,16 @@ impl<'a> Range<'a> {
             unreachable!();
         };
         Ok(item)
+    }
+
+    /// The item at a place, if it is lent.
+    pub fn lent_item(&self, place: usize) -> Option<&'a Value>
+        ensures { IfSome result (λ item. item.now ≡ item_at (range_items self.now) place) }
+    {
+        match self {
+            Range::Lent(items) => items.get(place),
+            _ => None,
+        }
     }
 
     fn found(&self, alloc: Global, place: usize) -> Result<Option<Operand<'a>>, AllocError>

@@ -1,5 +1,5 @@
-ghost use Rattle.std.specs.Prelude.{◌≡◌, ◌∷◌, [], IfOk, MatchOption, option_map};
-ghost use Rattle.cel_machine.specs.Follow.{top_of};
+ghost use Rattle.std.specs.Prelude.{◌≡◌, ◌∷◌, ◌<◌, [], IfOk, MatchOption, length, option_map, reverse};
+ghost use Rattle.cel_machine.specs.Follow.{below_top, below_two, top_of};
 ghost use Rattle.cel_apply.specs.Lent.{lent};
 ghost use Rattle.cel_machine.specs.Room.{HasRoom};
 
@@ -57,6 +57,32 @@ impl<'a> Stack<'a> {
         ensures room { self.new.room ≡ self.old.room }
     {
         self.items.pop()
+    }
+
+    /// Lets go of the top, if there is one.
+    pub fn drop_top(&mut self)
+        ensures items { self.new.items ≡ below_top self.old.items }
+        ensures room { self.new.room ≡ self.old.room }
+    {
+        self.pop();
+    }
+
+    /// An operand in place of the two on top: this takes no memory.
+    pub fn put_over_two(&mut self, item: Result<Operand<'a>, CelError>)
+        requires room { HasRoom self.old }
+        ensures items { self.new.items ≡ item.entry ∷ below_two self.old.items }
+        ensures room { self.new.room ≡ self.old.room }
+    {
+        self.drop_top();
+        self.drop_top();
+        self.items.push_reserved(item);
+    }
+
+    /// The operands, the bottom first.
+    pub fn as_slice(&self) -> &[Result<Operand<'a>, CelError>]
+        ensures { self.now.items ≡ reverse result.now }
+    {
+        self.items.as_slice()
     }
 
     pub fn top(&self) -> Option<Result<&Value, CelError>>

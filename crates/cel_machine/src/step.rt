@@ -1,4 +1,4 @@
-ghost use Rattle.std.specs.Prelude.{◌≡◌, ◌+◌, ◌<◌, ◌^◌, [], IfOk, Some, slice_get, option_map};
+ghost use Rattle.std.specs.Prelude.{◌≡◌, ◌+◌, ◌<◌, ◌^◌, [], IfOk, Some, slice_get, option_map, reverse};
 ghost use Rattle.cel_operators.specs.Operators.{row, operator_of};
 ghost use Rattle.cel_operators.specs.Wants.{side_of};
 ghost use Rattle.cel_code.specs.Machine.{Frame, act, inputs_of, push, constant as constant_of, slot as slot_of, operate_by};
@@ -6,7 +6,7 @@ ghost use Rattle.cel_code.specs.Machine.{made as made_next, join as sides_joined
 ghost use Rattle.cel_machine.specs.Found.{made_by};
 ghost use Rattle.cel_apply.specs.Lent.{lent};
 ghost use Rattle.cel_machine.specs.Room.{HasRoom, HasFrameRoom};
-ghost use Rattle.cel_machine.specs.Follow.{Follows, LeadsTo, Comes, Finishes, metered_one, metered_two};
+ghost use Rattle.cel_machine.specs.Follow.{Follows, LeadsTo, Comes, Finishes, metered_one, metered_two, made_of_two};
 ghost use Rattle.cel_machine.specs.Follow.{test_of, join_of, sides_of, branch_of, end_of};
 
 use crate::fault::RunFault;
@@ -187,6 +187,24 @@ fn operate_two<'a>(
     ensures acts { IfOk result (λ m. Comes (metered_two (row op) at stack.old.items) m stack.new.items) }
     ensures room { stack.new.room ≡ stack.old.room }
 {
+    match op {
+        Operator::IndexList | Operator::IndexMap => index(alloc, op, at, stack),
+        _ => finish_over(made_of_two(alloc, op, stack.as_slice()), op, at, stack),
+    }
+}
+
+// An index, of which what stands in a lent list or map is lent.
+fn index<'a>(
+    alloc: Global,
+    op: Operator,
+    at: usize,
+    stack: &mut Stack<'a>,
+) -> Result<Move, AllocError>
+    requires at { at + 1 < 2 ^ 64 }
+    requires room { HasRoom stack.old }
+    ensures acts { IfOk result (λ m. Comes (metered_two (row op) at stack.old.items) m stack.new.items) }
+    ensures room { stack.new.room ≡ stack.old.room }
+{
     let Some(y) = stack.pop() else {
         return Ok(Move::IsStuckHere);
     };
@@ -197,6 +215,44 @@ fn operate_two<'a>(
         Operator::IndexList => Ok(finish_found(index_list(alloc, x, read(&y))?, at, stack)),
         Operator::IndexMap => Ok(finish_found(index_map(alloc, x, read(&y))?, at, stack)),
         _ => finish(on_two(alloc, op, read(&x), read(&y)), at, stack),
+    }
+}
+
+// What an operator makes of the last two operands, which stay where they are; nothing where there are fewer.
+fn made_of_two(
+    alloc: Global,
+    op: Operator,
+    operands: &[Result<Operand<'_>, CelError>],
+) -> Result<Option<Made>, AllocError>
+    ensures { IfOk result (λ made. made ≡ made_of_two (row op) (reverse operands.now)) }
+{
+    let [.., x, y] = operands else {
+        return Ok(None);
+    };
+    on_two(alloc, op, read(x), read(y))
+}
+
+// On to the next instruction with what was made of the two operands on top, in their place.
+fn finish_over(
+    made: Result<Option<Made>, AllocError>,
+    op: Operator,
+    at: usize,
+    stack: &mut Stack<'_>,
+) -> Result<Move, AllocError>
+    requires at { at + 1 < 2 ^ 64 }
+    requires room { HasRoom stack.old }
+    requires made { IfOk made (λ made. made ≡ made_of_two (row op) stack.old.items) }
+    ensures acts { IfOk result (λ m. Comes (metered_two (row op) at stack.old.items) m stack.new.items) }
+    ensures room { stack.new.room ≡ stack.old.room }
+{
+    match made {
+        Ok(Some(made)) => {
+            let charge = made.charge;
+            stack.put_over_two(own(made.outcome));
+            Ok(Move::GoesTo(charge, at + 1))
+        }
+        Ok(None) => Ok(Move::IsStuckHere),
+        Err(error) => Err(error),
     }
 }
 

@@ -44,24 +44,20 @@ pub(crate) struct Session {
 }
 
 impl Session {
-    #[tactic(auto, using(crate::proofs::Taking::published_not))]
     pub(crate) fn new(alloc: Global) -> Result<Session, ReplayError>
         ensures opening { IfOk result IsOpening }
         ensures lines { (number : ℕ) → (why : FaultOf) → IsErrOf result (ReplayError.Line number why) → is_of_the_lines why ≡ false }
         ensures unwritten { IfErr result (λ error. error ≢ ReplayError.Write) }
     {
-        match open(alloc) {
-            Ok(writer) => Ok(Session {
-                alloc,
-                writer,
-                history: History::new(alloc),
-                group: Vec::new(alloc),
-                matchers: Matchers::new(alloc),
-                lines: 0,
-                first: 0,
-            }),
-            Err(error) => Err(unpublished(0, error)),
-        }
+        Ok(Session {
+            alloc,
+            writer: open(alloc)?,
+            history: History::new(alloc),
+            group: Vec::new(alloc),
+            matchers: Matchers::new(alloc),
+            lines: 0,
+            first: 0,
+        })
     }
 
     /// The refusal of the line that was read last.

@@ -49,7 +49,7 @@ impl Model for PolicySet {
 
 impl PolicySet {
     /// The set of no objects, by the choice that refuses nothing.
-    pub fn empty(alloc: Global) -> Result<PolicySet, BuildError>
+    pub fn empty(alloc: Global) -> Result<PolicySet, AllocError>
         ensures { IfOk result (λ set. set ≡ built_of nothing no_choice) }
     {
         let refused = Shared::new(alloc, Items::from_vec(Vec::new(alloc)))?;

@@ -6,7 +6,7 @@ ghost use Rattle.vap_watch.specs.Places.{HasRoomFor, IsNext, Publishes, at, even
 
 use crate::fault::{PublishError, StageFault};
 use crate::snapshot::{Snapshot, revision_of};
-use std::alloc::Global;
+use std::alloc::{AllocError, Global};
 use std::marker::Model;
 use vap_judge::PolicySet;
 use vap_objects::Objects;
@@ -42,7 +42,7 @@ impl Model for Writer {
 }
 
 /// A writer that published the log of no event, and stages nothing.
-pub fn open(alloc: Global) -> Result<Writer, PublishError>
+pub fn open(alloc: Global) -> Result<Writer, AllocError>
     ensures { IfOk result (λ writer. writer ≡ at [] []) }
 {
     Ok(Writer {
