@@ -12,6 +12,7 @@ use Rattle.cel_operators.specs.declared.operands.Want.TheVariants.{Characters}
 use Rattle.cel_operators.specs.Maps.{Entries, entry_in_front, entries_in, map_of, map_where_texts}
 use Rattle.cel_code.specs.Machine.{Frame, Next, Stuck, taken_off, mapped, made}
 use Rattle.cel_machine.specs.declared.step.Move.{Move}
+use Rattle.cel_machine.specs.declared.position.Position.{Position}
 use Rattle.cel_machine.specs.Follow.{metered, Comes, Finishes, LeadsTo}
 use Rattle.cel_apply.specs.Counted.{counted}
 use Rattle.cel_apply.specs.Pairs.{entry_of, entries_off, in_front, turned}
@@ -53,10 +54,10 @@ mapped_off n at stack o frames e =
     mapped_by (taken_off (n + n) [] stack) at frames ∙ ap (λ q. mapped_of q at frames) (off n [] stack ∙ e)
 
 -- what is answered in memory that was there, where it is known
-pub answered : {E : Type 0} (r : Result (Option Made) E) (o : Option Made) (at : ℕ) (stack after : List Outcome) (m : Move)
-    → IfOk r (λ p. p ≡ o) → Finishes r at stack m after → Comes (made o at stack) m after
-answered (Ok p) o at stack after m e h = subst (λ q. Comes (made q at stack) m after) e h
-answered (Err x) o at stack after m e h = absurd h
+pub answered : {E : Type 0} (r : Result (Option Made) E) (o : Option Made) (at : ℕ) (stack : List Outcome) (m : Move) (there : Position) (after : List Outcome)
+    → IfOk r (λ p. p ≡ o) → Finishes r at stack m there after → Comes (made o at stack) m there after
+answered (Ok p) o at stack m there after e h = subst (λ q. Comes (made q at stack) m there after) e h
+answered (Err x) o at stack m there after e h = absurd h
 
 -- where a key is no text, nothing is taken
 front_none : (k : Option (Result (List ℕ) CelError)) (v : Outcome) → entry_in_front k v None ≡ None
@@ -135,14 +136,14 @@ none_mapped n at stack below None frames h t = mapped_off n at stack None frames
 none_mapped n at stack below (Some es) frames h t = let no : ⊥ = cc in absurd no
 
 -- what was taken makes a map
-pub some_mapped : {E : Type 0} (n at : ℕ) (stack below after : List Outcome) (found : Option (Result (List (Keyed Value)) CelError))
+pub some_mapped : {E : Type 0} (n at : ℕ) (there : Position) (stack below after : List Outcome) (found : Option (Result (List (Keyed Value)) CelError))
     (es : Result (List (Keyed Value)) CelError) (r : Result (Option Made) E) (done : Result Move E) → found ≡ Some es
     → MatchOption found (entries_off n (Some (Ok [])) stack ≡ None) (λ es. entries_off n (Some (Ok [])) stack ≡ Some (turned es, below))
-    → IfOk r (λ m. m ≡ counted (Some (map_of (turned es)))) → IfOk done (λ m. Finishes r at below m after)
-    → IfOk done (λ m. LeadsTo (mapped (taken_off (n + n) [] stack) at) m after)
-some_mapped n at stack below after None es r done h t e d = let no : ⊥ = cc in absurd no
-some_mapped n at stack below after (Some fs) es r (Err x) h t e d = d
-some_mapped n at stack below after (Some fs) es r (Ok m) h t e d = λ frames.
+    → IfOk r (λ m. m ≡ counted (Some (map_of (turned es)))) → IfOk done (λ m. Finishes r at below m there after)
+    → IfOk done (λ m. LeadsTo (mapped (taken_off (n + n) [] stack) at) m there after)
+some_mapped n at there stack below after None es r done h t e d = let no : ⊥ = cc in absurd no
+some_mapped n at there stack below after (Some fs) es r (Err x) h t e d = d
+some_mapped n at there stack below after (Some fs) es r (Ok m) h t e d = λ frames.
     let same : fs ≡ es = cc in
     mapped_off n at stack (Some (turned es, below)) frames (t ∙ ap (λ q. Some (turned q, below)) same)
-    ∙ answered r (counted (Some (map_of (turned es)))) at below after m e d frames
+    ∙ answered r (counted (Some (map_of (turned es)))) at below m there after e d frames

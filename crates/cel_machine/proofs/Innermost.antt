@@ -1,18 +1,21 @@
 -- The innermost loop, which is the last of those that stand open.
-use Rattle.std.proofs.Common.{◌≡◌, ℕ, zero, suc, Bool, true, false, List, [], ◌∷◌, ◌++◌, length, take, Option, Some, None, Result, Ok, Err, IfOk, MatchBool, refl, sym, ap, ◌∙◌, arith, slice_index_or, slice_set}
+use Rattle.std.proofs.Common.{◌≡◌, ℕ, zero, suc, Bool, true, false, List, [], ◌∷◌, ◌++◌, length, take, Option, Some, None, Result, Ok, Err, IfOk, MatchBool, refl, sym, ap, ◌∙◌, subst, arith, slice_index_or, slice_set}
 use Rattle.std.specs.Prelude.{reverse}
 use Rattle.std.specs.Option.{option_map}
 use Rattle.std.proofs.lemmas.List.{reverse-append}
 use Rattle.cel_value.specs.declared.value.Value.{Value}
-use Rattle.cel_operators.specs.Outcomes.{Outcome}
-use Rattle.cel_check.specs.Loops.{turn}
+use Rattle.cel_operators.specs.Outcomes.{Outcome, Side}
+use Rattle.cel_operators.specs.Wants.{side_of}
+use Rattle.cel_parse.specs.declared.expr.Loop.{Loop}
+use Rattle.cel_parse.specs.declared.expr.Loop.TheVariants.{All, Exists, ExistsOne, Filter, Map}
+use Rattle.cel_check.specs.Loops.{GoesOn, turn}
 use Rattle.cel_check.specs.declared.accumulator.Accumulator.{Accumulator}
 use Rattle.cel_code.specs.Machine.{Frame, on, Goes, gone_on, turned as turn_done}
 use Rattle.cel_machine.specs.declared.turning.Turned.{Turned}
 use Rattle.cel_machine.specs.declared.turning.Turned.TheVariants as turned
 use Rattle.cel_machine.specs.Ranges.{taking, with_gathered}
-use Rattle.cel_machine.specs.Turns.{turn_by}
-use Rattle.cel_machine.specs.Follow.{advanced, next_in, turned_in}
+use Rattle.cel_machine.specs.Turns.{passes, turn_by, turn_side}
+use Rattle.cel_machine.specs.Follow.{advanced, below_top, gone_in, next_in, passed_in, top_of, turned_in}
 
 -- the last of a list, and another one in its place
 last_is : {A : Type 0} (xs : List A) (i : ℕ) (d : A) → suc i ≡ length xs → xs ≡ take i xs ++ slice_index_or xs i d ∷ []
@@ -46,6 +49,43 @@ advancing true xs i f g e h a =
     ∙ ap (λ l. Some l) (sym (innermost_set xs i g e))
 advancing false xs i f g e h a =
     ap advanced (innermost xs i f e h) ∙ ap (λ l. option_map (λ k. k ∷ reverse (take i xs)) (taking f l)) a
+
+-- a truth value that changes nothing of what is gathered
+passed_side : (l : Loop) (v : Value) (a : Accumulator) (s : Option Side) → passes l s ≡ true → turn_side l v a s ≡ Some (GoesOn a)
+passed_side All v a None e = cc
+passed_side All v a (Some (Ok true)) e = refl
+passed_side All v a (Some (Ok false)) e = cc
+passed_side All v a (Some (Err x)) e = cc
+passed_side Exists v a None e = cc
+passed_side Exists v a (Some (Ok true)) e = cc
+passed_side Exists v a (Some (Ok false)) e = refl
+passed_side Exists v a (Some (Err x)) e = cc
+passed_side ExistsOne v a None e = cc
+passed_side ExistsOne v a (Some (Ok true)) e = cc
+passed_side ExistsOne v a (Some (Ok false)) e = refl
+passed_side ExistsOne v a (Some (Err x)) e = cc
+passed_side Filter v a None e = cc
+passed_side Filter v a (Some (Ok true)) e = cc
+passed_side Filter v a (Some (Ok false)) e = refl
+passed_side Filter v a (Some (Err x)) e = cc
+passed_side Map v a s e = cc
+
+passed : (l : Loop) (v : Value) (a : Accumulator) (x : Outcome) → passes l (side_of (Some x)) ≡ true → turn l v a (Some x) ≡ Some (GoesOn a)
+passed All v a x e = passed_side All v a (side_of (Some x)) e
+passed Exists v a x e = passed_side Exists v a (side_of (Some x)) e
+passed ExistsOne v a x e = passed_side ExistsOne v a (side_of (Some x)) e
+passed Filter v a x e = passed_side Filter v a (side_of (Some x)) e
+passed Map v a x e = cc
+
+-- where it changes nothing, the innermost loop goes on
+pub passing : (stack : List Outcome) (frames : List Frame) (x : Outcome) → top_of stack ≡ Some x → passed_in (side_of (Some x)) frames ≡ true
+    → next_in stack frames ≡ gone_in (below_top stack) frames
+passing [] frames x t e = cc
+passing (y ∷ stack) [] x t e = cc
+passing (y ∷ stack) (f ∷ frames) x t e =
+    let same : x ≡ y = cc in
+    let goes : passes f.mode (side_of (Some y)) ≡ true = subst (λ z. passes f.mode (side_of (Some z)) ≡ true) same e in
+    ap (λ u. turn_done f u stack frames) (passed f.mode f.item f.gathered y goes)
 
 gone_same : (f : Frame) (a : Accumulator) (vs : List Value) (stack : List Outcome) (rest : List Frame)
     → gone_on (with_gathered a f) vs a stack rest ≡ gone_on f vs a stack rest

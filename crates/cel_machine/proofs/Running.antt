@@ -7,7 +7,9 @@ use Rattle.cel_code.specs.declared.image.Image.{Image}
 use Rattle.cel_operators.specs.Outcomes.{Outcome, slots_fit}
 use Rattle.cel_code.specs.Machine.{Frame, State, on, Next, Goes, Ends, Stuck, act, act_at, step, inputs_of, Gets, Stays, Run}
 use Rattle.cel_machine.specs.declared.step.Move.{Move}
-use Rattle.cel_machine.specs.declared.step.Move.TheVariants.{GoesTo, IsOver, IsStuckHere}
+use Rattle.cel_machine.specs.declared.step.Move.TheVariants.{IsOver, IsStuckHere}
+use Rattle.cel_machine.specs.declared.step.Move.TheVariants as move
+use Rattle.cel_machine.specs.declared.position.Position.{Position}
 use Rattle.cel_verify.specs.StackTypes.{Fits}
 use Rattle.cel_verify.specs.Paths.{charge_at, path_cost, path_steps}
 use Rattle.cel_verify.specs.Typed.{total, GoesOn}
@@ -20,10 +22,10 @@ use Rattle.cel_verify.proofs.Steps.{begins, gets_typed, runs_within, step_goes}
 use Rattle.cel_verify.proofs.Turns.{one_more}
 
 -- what an instruction does, as a step
-stepped : (image : Image) (slots : List Outcome) (at : ℕ) (i : Instr) (stack stack' : List Outcome) (frames frames' : List Frame) (m : Move)
-    → slice_get image.code at ≡ Some i → metered (act (inputs_of image slots) i at stack frames) ≡ next_of m stack' frames'
-    → metered (step image slots (on at stack frames)) ≡ next_of m stack' frames'
-stepped image slots at i stack stack' frames frames' m h e = ap (λ o. metered (act_at (inputs_of image slots) o at stack frames)) h ∙ e
+stepped : (image : Image) (slots : List Outcome) (at : ℕ) (i : Instr) (stack stack' : List Outcome) (frames frames' : List Frame) (m : Move) (there : Position)
+    → slice_get image.code at ≡ Some i → metered (act (inputs_of image slots) i at stack frames) ≡ next_of m there stack' frames'
+    → metered (step image slots (on at stack frames)) ≡ next_of m there stack' frames'
+stepped image slots at i stack stack' frames frames' m there h e = ap (λ o. metered (act_at (inputs_of image slots) o at stack frames)) h ∙ e
 
 -- no step yet, with nothing on the stack and no open loop
 pub begun : (image : Image) (slots : List Outcome) (stack : List Outcome) (frames : List Frame) → stack ≡ [] → frames ≡ []
@@ -104,24 +106,25 @@ module _ (p image : Image) (slots : List Outcome) (accepted : IsAccepted p) (is 
         subst (λ i. length frames ≤ greatest_nesting i) (sym is)
         (never_more_loops p slots accepted.sound filled (on at stack frames) charged steps gets)
 
-    module _ (i : Instr) (m : Move) (stack' : List Outcome) (frames' : List Frame) (hi : slice_get image.code at ≡ Some i)
-        (e : metered (act (inputs_of image slots) i at stack frames) ≡ next_of m stack' frames') where
-      steps_to : step image slots (on at stack frames) ≡ next_of m stack' frames'
-      steps_to = sym metered_is ∙ stepped image slots at i stack stack' frames frames' m hi e
+    module _ (i : Instr) (m : Move) (there : Position) (stack' : List Outcome) (frames' : List Frame) (hi : slice_get image.code at ≡ Some i)
+        (e : metered (act (inputs_of image slots) i at stack frames) ≡ next_of m there stack' frames') where
+      steps_to : step image slots (on at stack frames) ≡ next_of m there stack' frames'
+      steps_to = sym metered_is ∙ stepped image slots at i stack stack' frames frames' m there hi e
 
       -- the step, where the move is known
-      moved : (n : Move) → m ≡ n → step image slots (on at stack frames) ≡ next_of n stack' frames'
-      moved n q = steps_to ∙ ap (λ k. next_of k stack' frames') q
+      moved : (n : Move) → m ≡ n → step image slots (on at stack frames) ≡ next_of n there stack' frames'
+      moved n q = steps_to ∙ ap (λ k. next_of k there stack' frames') q
 
-      pub goes : (charge to : ℕ) → m ≡ GoesTo charge to
-          → Gets image slots (on 0 [] []) (on to stack' frames') (charged + charge) (steps + 1)
-      goes charge to q =
-          one_more image slots (on at stack frames) (on to stack' frames') charge charged steps (moved (GoesTo charge to) q) g
+      pub goes : m ≡ move.GoesOn
+          → Gets image slots (on 0 [] []) (on there.at stack' frames') (charged + there.charge) (steps + 1)
+      goes q =
+          one_more image slots (on at stack frames) (on there.at stack' frames') there.charge charged steps (moved move.GoesOn q) g
 
-      pub there : (charge to : ℕ) → m ≡ GoesTo charge to → IsAt image to (charged + charge) (steps + 1)
-      there charge to q =
-          let h = subst (λ i. Gets i slots (on 0 [] []) (on to stack' frames') (charged + charge) (steps + 1)) is (goes charge to q) in
-          subst (λ i. IsAt i to (charged + charge) (steps + 1)) (sym is) (state_at (on to stack' frames') (charged + charge) (steps + 1) h)
+      pub next : m ≡ move.GoesOn → IsAt image there.at (charged + there.charge) (steps + 1)
+      next q =
+          let s = on there.at stack' frames' in
+          let h = subst (λ i. Gets i slots (on 0 [] []) s (charged + there.charge) (steps + 1)) is (goes q) in
+          subst (λ i. IsAt i there.at (charged + there.charge) (steps + 1)) (sym is) (state_at s (charged + there.charge) (steps + 1) h)
 
       -- the step, where the run is over
       ended : (x : Outcome) → m ≡ IsOver → top_of stack' ≡ Some x → step image slots (on at stack frames) ≡ Ends x

@@ -1,5 +1,5 @@
 -- How the turns of loops follow their definition.
-use Rattle.std.specs.Prelude.{Option, Some, None, option_map}
+use Rattle.std.specs.Prelude.{Bool, true, false, Option, Some, None, Ok, option_map}
 use Rattle.cel_value.specs.declared.value.Value.{Value}
 use Rattle.cel_parse.specs.declared.expr.Loop.{Loop}
 use Rattle.cel_parse.specs.declared.expr.Loop.TheVariants.{All, Exists, ExistsOne, Filter, Map}
@@ -14,6 +14,14 @@ abbrev pub turn_by : Turned → Accumulator → Option Turn
 turn_by (turned.Closes x) a = Some (Closes x)
 turn_by turned.GoesOn a = Some (GoesOn a)
 turn_by turned.IsStuck a = None
+
+-- whether a loop whose body is a predicate goes on from an item with what it has gathered
+abbrev pub passes : Loop → Option Side → Bool
+passes All (Some (Ok true)) = true
+passes Exists (Some (Ok false)) = true
+passes ExistsOne (Some (Ok false)) = true
+passes Filter (Some (Ok false)) = true
+passes _ _ = false
 
 -- the turn of a loop whose body is a predicate; None in `map`
 abbrev pub turn_side : Loop → Value → Accumulator → Option Side → Option Turn

@@ -1,11 +1,11 @@
 ghost use Rattle.std.specs.Prelude.{◌≡◌, ◌∷◌, [], List, None, Some, reverse, slice_get, option_copied, IfOk, MatchBool, MatchOption};
 ghost use Rattle.cel_operators.specs.Outcomes.{Outcome};
 ghost use Rattle.cel_machine.specs.Room.{HasFrameRoom};
-ghost use Rattle.cel_machine.specs.Follow.{advanced, next_in, turned_in};
+ghost use Rattle.cel_machine.specs.Follow.{advanced, next_in, passed_in, turned_in};
 
 use crate::frame::Frame;
 use crate::operand::Operand;
-use crate::turning::Turned;
+use crate::turning::{Turned, passes};
 use cel_value::CelError;
 use std::alloc::{AllocError, Global};
 use std::marker::Model;
@@ -70,6 +70,16 @@ impl<'a> Frames<'a> {
             return false;
         };
         frame.advance()
+    }
+
+    /// Whether the innermost loop goes on from an item with what it has gathered, its body a predicate that gave this there.
+    pub fn passes(&self, side: Option<Result<bool, CelError>>) -> bool
+        ensures { result ≡ passed_in side self.now.items }
+    {
+        match self.items.last() {
+            Some(frame) => passes(frame.mode(), side),
+            None => false,
+        }
     }
 
     /// The innermost loop's turn at its item, by what its body gave there.

@@ -8,6 +8,7 @@
 //! that a run built for later ones.
 #![tactic(auto)]
 
+mod comparing;
 mod ended;
 mod fault;
 mod frame;
@@ -19,6 +20,7 @@ mod machine;
 mod mapping;
 mod operand;
 mod parts;
+mod position;
 mod range;
 mod searching;
 mod slots;

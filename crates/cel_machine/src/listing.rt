@@ -8,6 +8,7 @@ ghost use Rattle.cel_machine.specs.Follow.{LeadsTo};
 ghost use Rattle.cel_apply.specs.Counted.{counted};
 
 use crate::fault::RunFault;
+use crate::position::Position;
 use crate::stack::Stack;
 use crate::step::{Move, finish};
 use cel_operators::Made;
@@ -16,17 +17,22 @@ use plain::Items;
 use std::alloc::{AllocError, Global};
 
 /// The list of so many items on the stack, the last one on top, or the leftmost error.
-pub fn list(alloc: Global, count: usize, at: usize, stack: &mut Stack<'_>) -> Result<Move, RunFault>
-    requires at { at + 1 < 2 ^ 64 }
+pub fn list(
+    alloc: Global,
+    count: usize,
+    position: &mut Position,
+    stack: &mut Stack<'_>,
+) -> Result<Move, RunFault>
+    requires at { position.old.at + 1 < 2 ^ 64 }
     requires room { HasRoom stack.old }
-    ensures acts { IfOk result (λ m. LeadsTo (listed (taken_off count [] stack.old.items) at) m stack.new.items) }
+    ensures acts { IfOk result (λ m. LeadsTo (listed (taken_off count [] stack.old.items) position.old.at) m position.new stack.new.items) }
     ensures room { stack.new.room ≡ stack.old.room }
 {
     let Some(items) = taken_off(alloc, count, stack)? else {
         return Ok(Move::IsStuckHere);
     };
     let made = made_list(alloc, items)?;
-    finish(Ok(Some(made)), at, stack)
+    finish(Ok(Some(made)), position, stack)
 }
 
 // So many operands off the stack, the lowest on top.

@@ -12,6 +12,7 @@ use crate::fault::RunFault;
 use crate::frame::Frame;
 use crate::frames::Frames;
 use crate::operand::{Operand, own, read};
+use crate::position::Position;
 use crate::range::{Range, ranged};
 use crate::stack::Stack;
 use crate::step::Move;
@@ -25,14 +26,15 @@ use std::alloc::{AllocError, Global};
 pub fn local<'a>(
     alloc: Global,
     number: usize,
-    at: usize,
+    position: &mut Position,
     stack: &mut Stack<'a>,
     frames: &Frames<'a>,
 ) -> Result<Move, RunFault>
-    requires at { at + 1 < 2 ^ 64 }
+    requires at { position.old.at + 1 < 2 ^ 64 }
     requires room { HasRoom stack.old }
-    ensures acts { IfOk result (λ m. Follows (slot (item_of (slice_get frames.now.items number)) at stack.old.items frames.now.items)
-        m stack.new.items frames.now.items) }
+    ensures acts { IfOk result (λ m. Follows
+        (slot (item_of (slice_get frames.now.items number)) position.old.at stack.old.items frames.now.items)
+        m position.new stack.new.items frames.now.items) }
     ensures room { stack.new.room ≡ stack.old.room }
 {
     let Some(frame) = frames.get(number) else {
@@ -41,9 +43,9 @@ pub fn local<'a>(
     match frame.lent_item() {
         Some(item) => {
             stack.push(Ok(Operand::lent(item)));
-            Ok(Move::GoesTo(1, at + 1))
+            Ok(position.go_on(1))
         }
-        None => copied(alloc, frame, at, stack),
+        None => copied(alloc, frame, position, stack),
     }
 }
 
@@ -51,16 +53,17 @@ pub fn local<'a>(
 fn copied<'a>(
     alloc: Global,
     frame: &Frame<'a>,
-    at: usize,
+    position: &mut Position,
     stack: &mut Stack<'a>,
 ) -> Result<Move, RunFault>
-    requires at { at + 1 < 2 ^ 64 }
+    requires at { position.old.at + 1 < 2 ^ 64 }
     requires room { HasRoom stack.old }
-    ensures acts { IfOk result (λ m. LeadsTo (slot (Some (Ok frame.now.item)) at stack.old.items) m stack.new.items) }
+    ensures acts { IfOk result (λ m. LeadsTo (slot (Some (Ok frame.now.item)) position.old.at stack.old.items)
+        m position.new stack.new.items) }
     ensures room { stack.new.room ≡ stack.old.room }
 {
     stack.push(Ok(frame.item(alloc)?));
-    Ok(Move::GoesTo(1, at + 1))
+    Ok(position.go_on(1))
 }
 
 /// A loop over what is on top: it is opened, or its error or the result of no items goes where it leads.
@@ -68,14 +71,15 @@ pub fn open_loop<'a>(
     alloc: Global,
     mode: Loop,
     exit: usize,
-    at: usize,
+    position: &mut Position,
     stack: &mut Stack<'a>,
     frames: &mut Frames<'a>,
 ) -> Move
-    requires at { at + 1 < 2 ^ 64 }
+    requires at { position.old.at + 1 < 2 ^ 64 }
     requires room { HasRoom stack.old }
     requires frame_room { HasFrameRoom frames.old }
-    ensures acts { Follows (loop_of mode exit stack.old.items at frames.old.items) result stack.new.items frames.new.items }
+    ensures acts { Follows (loop_of mode exit stack.old.items position.old.at frames.old.items)
+        result position.new stack.new.items frames.new.items }
     ensures room { stack.new.room ≡ stack.old.room }
     ensures frame_room { frames.new.room ≡ frames.old.room }
 {
@@ -83,10 +87,10 @@ pub fn open_loop<'a>(
         return Move::IsStuckHere;
     };
     match ranged(x) {
-        Some(Ok(range)) => open_over(alloc, mode, exit, at, range, stack, frames),
+        Some(Ok(range)) => open_over(alloc, mode, exit, position, range, stack, frames),
         Some(Err(error)) => {
             stack.push(Err(error));
-            Move::GoesTo(1, exit)
+            position.go_to(exit, 1)
         }
         None => Move::IsStuckHere,
     }
@@ -97,63 +101,65 @@ fn open_over<'a>(
     alloc: Global,
     mode: Loop,
     exit: usize,
-    at: usize,
+    position: &mut Position,
     range: Range<'a>,
     stack: &mut Stack<'a>,
     frames: &mut Frames<'a>,
 ) -> Move
-    requires at { at + 1 < 2 ^ 64 }
+    requires at { position.old.at + 1 < 2 ^ 64 }
     requires room { HasRoom stack.old }
     requires frame_room { HasFrameRoom frames.old }
-    ensures acts { Follows (opened mode (Some (Ok (range_items range.entry))) exit at stack.old.items frames.old.items)
-        result stack.new.items frames.new.items }
+    ensures acts { Follows (opened mode (Some (Ok (range_items range.entry))) exit position.old.at stack.old.items frames.old.items)
+        result position.new stack.new.items frames.new.items }
     ensures room { stack.new.room ≡ stack.old.room }
     ensures frame_room { frames.new.room ≡ frames.old.room }
 {
     if range.len() == 0 {
         stack.push(own(result_of(mode, nothing_yet(alloc))));
-        return Move::GoesTo(1, exit);
+        return position.go_to(exit, 1);
     }
-    frames.push(Frame::new(alloc, at, exit, mode, range));
-    Move::GoesTo(1, at + 1)
+    frames.push(Frame::new(alloc, position.at, exit, mode, range));
+    position.go_on(1)
 }
 
 /// The next item of the innermost loop.
-pub fn item(at: usize, frames: &mut Frames<'_>) -> Move
-    requires at { at + 1 < 2 ^ 64 }
-    ensures acts { (stack : List Outcome) → Follows (item_in at stack frames.old.items) result stack frames.new.items }
+pub fn item(position: &mut Position, frames: &mut Frames<'_>) -> Move
+    requires at { position.old.at + 1 < 2 ^ 64 }
+    ensures acts { (stack : List Outcome) → Follows (item_in position.old.at stack frames.old.items)
+        result position.new stack frames.new.items }
     ensures frame_room { frames.new.room ≡ frames.old.room }
 {
     if !frames.advance() {
         return Move::IsStuckHere;
     }
-    Move::GoesTo(1, at + 1)
+    position.go_on(1)
 }
 
 /// The predicate of the innermost loop: true goes on, false drops the item, and an error ends the loop.
-pub fn when<'a>(at: usize, stack: &mut Stack<'a>, frames: &mut Frames<'a>) -> Move
-    requires at { at + 1 < 2 ^ 64 }
+pub fn when<'a>(position: &mut Position, stack: &mut Stack<'a>, frames: &mut Frames<'a>) -> Move
+    requires at { position.old.at + 1 < 2 ^ 64 }
     requires room { HasRoom stack.old }
-    ensures acts { Follows (when_in at stack.old.items frames.old.items) result stack.new.items frames.new.items }
+    ensures acts { Follows (when_in position.old.at stack.old.items frames.old.items) result position.new stack.new.items frames.new.items }
     ensures room { stack.new.room ≡ stack.old.room }
     ensures frame_room { frames.new.room ≡ frames.old.room }
 {
     let Some(x) = stack.pop() else {
         return Move::IsStuckHere;
     };
-    test(truth(read(&x)), at, stack, frames)
+    test(truth(read(&x)), position, stack, frames)
 }
 
 // What the predicate gave.
 fn test<'a>(
     side: Option<Result<bool, CelError>>,
-    at: usize,
+    position: &mut Position,
     stack: &mut Stack<'a>,
     frames: &mut Frames<'a>,
 ) -> Move
-    requires at { at + 1 < 2 ^ 64 }
+    requires at { position.old.at + 1 < 2 ^ 64 }
     requires room { HasRoom stack.old }
-    ensures acts { Follows (side_in side at stack.old.items frames.old.items) result stack.new.items frames.new.items }
+    ensures acts { Follows (side_in side position.old.at stack.old.items frames.old.items)
+        result position.new stack.new.items frames.new.items }
     ensures room { stack.new.room ≡ stack.old.room }
     ensures frame_room { frames.new.room ≡ frames.old.room }
 {
@@ -161,7 +167,7 @@ fn test<'a>(
         return Move::IsStuckHere;
     };
     match frame.mode() {
-        Loop::Map => test_in_map(side, at, stack, frames),
+        Loop::Map => test_in_map(side, position, stack, frames),
         _ => Move::IsStuckHere,
     }
 }
@@ -169,20 +175,21 @@ fn test<'a>(
 // What the predicate of a `map` gave.
 fn test_in_map<'a>(
     side: Option<Result<bool, CelError>>,
-    at: usize,
+    position: &mut Position,
     stack: &mut Stack<'a>,
     frames: &mut Frames<'a>,
 ) -> Move
-    requires at { at + 1 < 2 ^ 64 }
+    requires at { position.old.at + 1 < 2 ^ 64 }
     requires room { HasRoom stack.old }
-    ensures acts { Follows (mapped_in side at stack.old.items frames.old.items) result stack.new.items frames.new.items }
+    ensures acts { Follows (mapped_in side position.old.at stack.old.items frames.old.items)
+        result position.new stack.new.items frames.new.items }
     ensures room { stack.new.room ≡ stack.old.room }
     ensures frame_room { frames.new.room ≡ frames.old.room }
 {
     match side {
-        Some(Ok(true)) => Move::GoesTo(0, at + 1),
-        Some(Ok(false)) => go_on(stack, frames),
-        Some(Err(error)) => close(Err(error), stack, frames),
+        Some(Ok(true)) => position.go_on(0),
+        Some(Ok(false)) => go_on(position, stack, frames),
+        Some(Err(error)) => close(Err(error), position, stack, frames),
         None => Move::IsStuckHere,
     }
 }
@@ -190,43 +197,67 @@ fn test_in_map<'a>(
 /// What the body of the innermost loop gave for the item.
 pub fn next<'a>(
     alloc: Global,
+    position: &mut Position,
     stack: &mut Stack<'a>,
     frames: &mut Frames<'a>,
 ) -> Result<Move, RunFault>
     requires room { HasRoom stack.old }
-    ensures acts { IfOk result (λ m. Follows (next_in stack.old.items frames.old.items) m stack.new.items frames.new.items) }
+    ensures acts { IfOk result (λ m. Follows (next_in stack.old.items frames.old.items) m position.new stack.new.items frames.new.items) }
+    ensures room { stack.new.room ≡ stack.old.room }
+    ensures frame_room { frames.new.room ≡ frames.old.room }
+{
+    let Some(x) = stack.top() else {
+        return Ok(Move::IsStuckHere);
+    };
+    if frames.passes(truth(x)) {
+        stack.drop_top();
+        return Ok(go_on(position, stack, frames));
+    }
+    turn(alloc, position, stack, frames)
+}
+
+// A turn of the innermost loop.
+fn turn<'a>(
+    alloc: Global,
+    position: &mut Position,
+    stack: &mut Stack<'a>,
+    frames: &mut Frames<'a>,
+) -> Result<Move, RunFault>
+    requires room { HasRoom stack.old }
+    ensures acts { IfOk result (λ m. Follows (next_in stack.old.items frames.old.items) m position.new stack.new.items frames.new.items) }
     ensures room { stack.new.room ≡ stack.old.room }
     ensures frame_room { frames.new.room ≡ frames.old.room }
 {
     let Some(x) = stack.pop() else {
         return Ok(Move::IsStuckHere);
     };
-    behind(frames.turn(alloc, x), stack, frames)
+    behind(frames.turn(alloc, x), position, stack, frames)
 }
 
 // Behind a turn: the loop ends, or goes on with what it has gathered.
 fn behind<'a>(
     turned: Result<Turned, AllocError>,
+    position: &mut Position,
     stack: &mut Stack<'a>,
     frames: &mut Frames<'a>,
 ) -> Result<Move, RunFault>
     requires room { HasRoom stack.old }
-    ensures acts { IfOk result (λ m. Turns turned stack.old.items frames.old.items m stack.new.items frames.new.items) }
+    ensures acts { IfOk result (λ m. Turns turned stack.old.items frames.old.items m position.new stack.new.items frames.new.items) }
     ensures room { stack.new.room ≡ stack.old.room }
     ensures frame_room { frames.new.room ≡ frames.old.room }
 {
     match turned {
-        Ok(Turned::GoesOn) => Ok(go_on(stack, frames)),
-        Ok(Turned::Closes(outcome)) => Ok(close(outcome, stack, frames)),
+        Ok(Turned::GoesOn) => Ok(go_on(position, stack, frames)),
+        Ok(Turned::Closes(outcome)) => Ok(close(outcome, position, stack, frames)),
         Ok(Turned::IsStuck) => Ok(Move::IsStuckHere),
         Err(error) => Err(RunFault::from(error)),
     }
 }
 
 // To the next item, or out of the loop with its result where none is left.
-fn go_on<'a>(stack: &mut Stack<'a>, frames: &mut Frames<'a>) -> Move
+fn go_on<'a>(position: &mut Position, stack: &mut Stack<'a>, frames: &mut Frames<'a>) -> Move
     requires room { HasRoom stack.old }
-    ensures acts { Follows (gone_in stack.old.items frames.old.items) result stack.new.items frames.new.items }
+    ensures acts { Follows (gone_in stack.old.items frames.old.items) result position.new stack.new.items frames.new.items }
     ensures room { stack.new.room ≡ stack.old.room }
     ensures frame_room { frames.new.room ≡ frames.old.room }
 {
@@ -234,15 +265,15 @@ fn go_on<'a>(stack: &mut Stack<'a>, frames: &mut Frames<'a>) -> Move
         return Move::IsStuckHere;
     };
     if frame.has_left() {
-        return Move::GoesTo(0, frame.again());
+        return position.go_to(frame.again(), 0);
     }
-    finish_loop(stack, frames)
+    finish_loop(position, stack, frames)
 }
 
 // Out of the loop with its result.
-fn finish_loop<'a>(stack: &mut Stack<'a>, frames: &mut Frames<'a>) -> Move
+fn finish_loop<'a>(position: &mut Position, stack: &mut Stack<'a>, frames: &mut Frames<'a>) -> Move
     requires room { HasRoom stack.old }
-    ensures acts { Follows (finished_in stack.old.items frames.old.items) result stack.new.items frames.new.items }
+    ensures acts { Follows (finished_in stack.old.items frames.old.items) result position.new stack.new.items frames.new.items }
     ensures room { stack.new.room ≡ stack.old.room }
     ensures frame_room { frames.new.room ≡ frames.old.room }
 {
@@ -251,17 +282,18 @@ fn finish_loop<'a>(stack: &mut Stack<'a>, frames: &mut Frames<'a>) -> Move
     };
     let exit = frame.exit();
     stack.push(own(frame.into_outcome()));
-    Move::GoesTo(0, exit)
+    position.go_to(exit, 0)
 }
 
 // Out of the loop with this.
 fn close<'a>(
     outcome: Result<Value, CelError>,
+    position: &mut Position,
     stack: &mut Stack<'a>,
     frames: &mut Frames<'a>,
 ) -> Move
     requires room { HasRoom stack.old }
-    ensures acts { Follows (closed_in outcome stack.old.items frames.old.items) result stack.new.items frames.new.items }
+    ensures acts { Follows (closed_in outcome stack.old.items frames.old.items) result position.new stack.new.items frames.new.items }
     ensures room { stack.new.room ≡ stack.old.room }
     ensures frame_room { frames.new.room ≡ frames.old.room }
 {
@@ -269,5 +301,5 @@ fn close<'a>(
         return Move::IsStuckHere;
     };
     stack.push(own(outcome));
-    Move::GoesTo(0, frame.exit())
+    position.go_to(frame.exit(), 0)
 }

@@ -10,6 +10,7 @@ use crate::ended::Run;
 use crate::fault::RunFault;
 use crate::frames::Frames;
 use crate::operand::outcome_of;
+use crate::position::Position;
 use crate::slots::Slots;
 use crate::stack::Stack;
 use crate::step::{Move, step};
@@ -44,24 +45,23 @@ pub fn run<'a>(
     let image = program.image();
     let mut stack = Stack::with_room(alloc, program.max_depth() + 1)?;
     let mut frames = Frames::with_room(alloc, program.loop_depth() + 1)?;
-    let mut at = 0;
+    let mut position = Position { at: 0, charge: 0 };
     let mut charged: u64 = 0;
     let mut steps: u64 = 0;
-    while let Some(instr) = image.code.get(at) {
+    while let Some(instr) = image.code.get(position.at) {
         match step(
             alloc,
             image,
             slots,
             *instr,
-            at,
+            &mut position,
             &mut stack,
             &mut frames,
             matchers,
         )? {
-            Move::GoesTo(charge, to) => {
-                charged += charge;
+            Move::GoesOn => {
+                charged += position.charge;
                 steps += 1;
-                at = to;
             }
             Move::IsOver => {
                 let outcome = taken(alloc, &mut stack)?;

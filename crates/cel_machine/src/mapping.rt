@@ -10,6 +10,7 @@ ghost use Rattle.cel_operators.specs.declared.operands.Want.TheVariants.{Charact
 ghost use Rattle.cel_apply.specs.Lent.{lent};
 
 use crate::operand::{Operand, outcome_of, read};
+use crate::position::Position;
 use crate::stack::Stack;
 use crate::step::{Move, finish};
 use cel_apply::{characters, in_front, map_of};
@@ -21,18 +22,19 @@ use std::alloc::{AllocError, Global};
 pub fn map(
     alloc: Global,
     count: usize,
-    at: usize,
+    position: &mut Position,
     stack: &mut Stack<'_>,
 ) -> Result<Move, AllocError>
-    requires at { at + 1 < 2 ^ 64 }
+    requires at { position.old.at + 1 < 2 ^ 64 }
     requires room { HasRoom stack.old }
-    ensures acts { IfOk result (λ m. LeadsTo (mapped (taken_off (count + count) [] stack.old.items) at) m stack.new.items) }
+    ensures acts { IfOk result (λ m. LeadsTo (mapped (taken_off (count + count) [] stack.old.items) position.old.at)
+        m position.new stack.new.items) }
     ensures room { stack.new.room ≡ stack.old.room }
 {
     let Some(entries) = entries_off(alloc, count, stack)? else {
         return Ok(Move::IsStuckHere);
     };
-    finish(map_of(alloc, entries), at, stack)
+    finish(map_of(alloc, entries), position, stack)
 }
 
 // The entries that so many keys and values on the stack are, from the last to the first, or the leftmost error; nothing

@@ -6,9 +6,11 @@ ghost use Rattle.cel_code.specs.Machine.{made as made_next, join as sides_joined
 ghost use Rattle.cel_machine.specs.Found.{made_by};
 ghost use Rattle.cel_apply.specs.Lent.{lent};
 ghost use Rattle.cel_machine.specs.Room.{HasRoom, HasFrameRoom};
+ghost use Rattle.cel_machine.specs.declared.position.Position.{Position};
 ghost use Rattle.cel_machine.specs.Follow.{Follows, LeadsTo, Comes, Finishes, metered_one, metered_two, made_of_two};
 ghost use Rattle.cel_machine.specs.Follow.{test_of, join_of, sides_of, branch_of, end_of};
 
+use crate::comparing::compared;
 use crate::fault::RunFault;
 use crate::frames::Frames;
 use crate::indexing::{Found, index_list, index_map};
@@ -17,6 +19,7 @@ use crate::looping::{item, local, next, open_loop, when};
 use crate::mapping::map;
 use crate::operand::{Operand, own, read};
 use crate::parts::lend;
+use crate::position::Position;
 use crate::slots::Slots;
 use crate::stack::Stack;
 use crate::with_text::{operate_with, text_at};
@@ -27,57 +30,57 @@ use cel_patterns::Matchers;
 use cel_value::{CelError, Value};
 use std::alloc::{AllocError, Global};
 
-/// Where one instruction leads.
+/// Whether a run goes on behind an instruction.
 #[derive(Clone, Copy)]
 pub enum Move {
-    /// To an instruction, for a charge.
-    GoesTo(u64, usize),
-    /// Nowhere: the run is over, and its outcome is on top.
+    /// It goes on where it is then.
+    GoesOn,
+    /// It is over, and its outcome is on top.
     IsOver,
     IsStuckHere,
 }
 
-/// One instruction. Its operands are the constants and what the slots hold, which are not copied, and what the run made.
-/// A loop that it opens stands among the open ones, and goes over what is lent in its place.
+/// One instruction, which is the one that the position has. Its operands are the constants and what the slots hold, which are
+/// not copied, and what the run made. A loop that it opens stands among the open ones, and goes over what is lent in its place.
 pub fn step<'a>(
     alloc: Global,
     image: &'a Image,
     slots: &'a Slots<'_>,
     instr: Instr,
-    at: usize,
+    position: &mut Position,
     stack: &mut Stack<'a>,
     frames: &mut Frames<'a>,
     matchers: &mut Matchers,
 ) -> Result<Move, RunFault>
-    requires at { at + 1 < 2 ^ 64 }
+    requires at { position.old.at + 1 < 2 ^ 64 }
     requires room { HasRoom stack.old }
     requires frame_room { HasFrameRoom frames.old }
-    ensures acts { IfOk result (λ m. Follows (act (inputs_of image.now slots.now) instr at stack.old.items frames.old.items)
-        m stack.new.items frames.new.items) }
+    ensures acts { IfOk result (λ m. Follows (act (inputs_of image.now slots.now) instr position.old.at stack.old.items frames.old.items)
+        m position.new stack.new.items frames.new.items) }
     ensures room { stack.new.room ≡ stack.old.room }
     ensures frame_room { frames.new.room ≡ frames.old.room }
 {
     let moved = match instr {
-        Instr::Const(number) => constant(image, number, at, stack),
-        Instr::Slot(number) => slot(slots, number, at, stack),
-        Instr::Local(number) => return local(alloc, number, at, stack, frames),
-        Instr::Op(code) => return operator(alloc, code, at, stack),
+        Instr::Const(number) => constant(image, number, position, stack),
+        Instr::Slot(number) => slot(slots, number, position, stack),
+        Instr::Local(number) => return local(alloc, number, position, stack, frames),
+        Instr::Op(code) => return operator(alloc, code, position, stack),
         Instr::WithText(op, number) => return match text_at(image, number) {
-            Some(text) => operate_with(alloc, op, text, at, stack, matchers),
+            Some(text) => operate_with(alloc, op, text, position, stack, matchers),
             None => Ok(Move::IsStuckHere),
         },
-        Instr::List(count) => return list(alloc, count, at, stack),
-        Instr::Map(count) => return made_map(alloc, count, at, stack),
-        Instr::AndTest(to) => test(stack, false, to, at),
-        Instr::OrTest(to) => test(stack, true, to, at),
-        Instr::And => join(stack, true, at),
-        Instr::Or => join(stack, false, at),
-        Instr::Cond(if_false, if_error) => branch(stack, if_false, if_error, at),
-        Instr::Jump(to) => Move::GoesTo(0, to),
-        Instr::Loop(mode, exit) => open_loop(alloc, mode, exit, at, stack, frames),
-        Instr::Item => item(at, frames),
-        Instr::When => when(at, stack, frames),
-        Instr::Next => return next(alloc, stack, frames),
+        Instr::List(count) => return list(alloc, count, position, stack),
+        Instr::Map(count) => return made_map(alloc, count, position, stack),
+        Instr::AndTest(to) => test(stack, false, to, position),
+        Instr::OrTest(to) => test(stack, true, to, position),
+        Instr::And => join(stack, true, position),
+        Instr::Or => join(stack, false, position),
+        Instr::Cond(if_false, if_error) => branch(stack, if_false, if_error, position),
+        Instr::Jump(to) => position.go_to(to, 0),
+        Instr::Loop(mode, exit) => open_loop(alloc, mode, exit, position, stack, frames),
+        Instr::Item => item(position, frames),
+        Instr::When => when(position, stack, frames),
+        Instr::Next => return next(alloc, position, stack, frames),
         Instr::End => end(stack),
     };
     Ok(moved)
@@ -85,7 +88,7 @@ pub fn step<'a>(
 
 // The end of the run, with the top as its outcome.
 fn end(stack: &Stack<'_>) -> Move
-    ensures { LeadsTo (end_of stack.now.items) result stack.now.items }
+    ensures { (there : Position) → LeadsTo (end_of stack.now.items) result there stack.now.items }
 {
     match stack.top() {
         Some(_) => Move::IsOver,
@@ -94,50 +97,73 @@ fn end(stack: &Stack<'_>) -> Move
 }
 
 // A map, for which memory alone may be wanting.
-fn made_map(alloc: Global, count: usize, at: usize, stack: &mut Stack<'_>) -> Result<Move, RunFault>
-    requires at { at + 1 < 2 ^ 64 }
+fn made_map(
+    alloc: Global,
+    count: usize,
+    position: &mut Position,
+    stack: &mut Stack<'_>,
+) -> Result<Move, RunFault>
+    requires at { position.old.at + 1 < 2 ^ 64 }
     requires room { HasRoom stack.old }
-    ensures acts { IfOk result (λ m. LeadsTo (mapped (taken_off (count + count) [] stack.old.items) at) m stack.new.items) }
+    ensures acts { IfOk result (λ m. LeadsTo (mapped (taken_off (count + count) [] stack.old.items) position.old.at)
+        m position.new stack.new.items) }
     ensures room { stack.new.room ≡ stack.old.room }
 {
-    Ok(map(alloc, count, at, stack)?)
+    Ok(map(alloc, count, position, stack)?)
 }
 
-fn constant<'a>(image: &'a Image, number: usize, at: usize, stack: &mut Stack<'a>) -> Move
-    requires at { at + 1 < 2 ^ 64 }
+fn constant<'a>(
+    image: &'a Image,
+    number: usize,
+    position: &mut Position,
+    stack: &mut Stack<'a>,
+) -> Move
+    requires at { position.old.at + 1 < 2 ^ 64 }
     requires room { HasRoom stack.old }
-    ensures acts { LeadsTo (push (constant_of (slice_get image.now.constants number)) at stack.old.items) result stack.new.items }
+    ensures acts { LeadsTo (push (constant_of (slice_get image.now.constants number)) position.old.at stack.old.items)
+        result position.new stack.new.items }
     ensures room { stack.new.room ≡ stack.old.room }
 {
     let Some(value) = image.constants.get(number) else {
         return Move::IsStuckHere;
     };
     stack.push(Ok(Operand::lent(value)));
-    Move::GoesTo(0, at + 1)
+    position.go_on(0)
 }
 
-fn slot<'a>(slots: &'a Slots<'_>, number: usize, at: usize, stack: &mut Stack<'a>) -> Move
-    requires at { at + 1 < 2 ^ 64 }
+fn slot<'a>(
+    slots: &'a Slots<'_>,
+    number: usize,
+    position: &mut Position,
+    stack: &mut Stack<'a>,
+) -> Move
+    requires at { position.old.at + 1 < 2 ^ 64 }
     requires room { HasRoom stack.old }
-    ensures acts { LeadsTo (slot_of (slice_get slots.now number) at stack.old.items) result stack.new.items }
+    ensures acts { LeadsTo (slot_of (slice_get slots.now number) position.old.at stack.old.items) result position.new stack.new.items }
     ensures room { stack.new.room ≡ stack.old.room }
 {
     let Some(held) = slots.get(number) else {
         return Move::IsStuckHere;
     };
     stack.push(lend(held));
-    Move::GoesTo(1, at + 1)
+    position.go_on(1)
 }
 
 // The operator of a number.
-fn operator(alloc: Global, code: usize, at: usize, stack: &mut Stack<'_>) -> Result<Move, RunFault>
-    requires at { at + 1 < 2 ^ 64 }
+fn operator(
+    alloc: Global,
+    code: usize,
+    position: &mut Position,
+    stack: &mut Stack<'_>,
+) -> Result<Move, RunFault>
+    requires at { position.old.at + 1 < 2 ^ 64 }
     requires room { HasRoom stack.old }
-    ensures acts { IfOk result (λ m. LeadsTo (operate_by (operator_of code) at stack.old.items) m stack.new.items) }
+    ensures acts { IfOk result (λ m. LeadsTo (operate_by (operator_of code) position.old.at stack.old.items)
+        m position.new stack.new.items) }
     ensures room { stack.new.room ≡ stack.old.room }
 {
     match Operator::from_code(code) {
-        Some(op) => Ok(operate(alloc, op, at, stack)?),
+        Some(op) => Ok(operate(alloc, op, position, stack)?),
         None => Ok(Move::IsStuckHere),
     }
 }
@@ -145,51 +171,60 @@ fn operator(alloc: Global, code: usize, at: usize, stack: &mut Stack<'_>) -> Res
 fn operate(
     alloc: Global,
     op: Operator,
-    at: usize,
+    position: &mut Position,
     stack: &mut Stack<'_>,
 ) -> Result<Move, AllocError>
-    requires at { at + 1 < 2 ^ 64 }
+    requires at { position.old.at + 1 < 2 ^ 64 }
     requires room { HasRoom stack.old }
-    ensures acts { IfOk result (λ m. LeadsTo (operate_by (Some op) at stack.old.items) m stack.new.items) }
+    ensures acts { IfOk result (λ m. LeadsTo (operate_by (Some op) position.old.at stack.old.items) m position.new stack.new.items) }
     ensures room { stack.new.room ≡ stack.old.room }
 {
+    if let Some(holds) = compared(op, stack.as_slice()) {
+        stack.put_over_two(Ok(Operand::own(Value::Bool(holds))));
+        return Ok(position.go_on(1));
+    }
     match op.operands() {
-        Operands::One(_) => operate_one(alloc, op, at, stack),
-        Operands::Two(_, _) => operate_two(alloc, op, at, stack),
+        Operands::One(_) => operate_one(alloc, op, position, stack),
+        Operands::Two(_, _) => operate_two(alloc, op, position, stack),
     }
 }
 
 fn operate_one(
     alloc: Global,
     op: Operator,
-    at: usize,
+    position: &mut Position,
     stack: &mut Stack<'_>,
 ) -> Result<Move, AllocError>
-    requires at { at + 1 < 2 ^ 64 }
+    requires at { position.old.at + 1 < 2 ^ 64 }
     requires room { HasRoom stack.old }
-    ensures acts { IfOk result (λ m. Comes (metered_one (row op) at stack.old.items) m stack.new.items) }
+    ensures acts { IfOk result (λ m. Comes (metered_one (row op) position.old.at stack.old.items) m position.new stack.new.items) }
     ensures room { stack.new.room ≡ stack.old.room }
 {
     let Some(x) = stack.pop() else {
         return Ok(Move::IsStuckHere);
     };
-    finish(on_one(alloc, op, read(&x)), at, stack)
+    finish(on_one(alloc, op, read(&x)), position, stack)
 }
 
 fn operate_two<'a>(
     alloc: Global,
     op: Operator,
-    at: usize,
+    position: &mut Position,
     stack: &mut Stack<'a>,
 ) -> Result<Move, AllocError>
-    requires at { at + 1 < 2 ^ 64 }
+    requires at { position.old.at + 1 < 2 ^ 64 }
     requires room { HasRoom stack.old }
-    ensures acts { IfOk result (λ m. Comes (metered_two (row op) at stack.old.items) m stack.new.items) }
+    ensures acts { IfOk result (λ m. Comes (metered_two (row op) position.old.at stack.old.items) m position.new stack.new.items) }
     ensures room { stack.new.room ≡ stack.old.room }
 {
     match op {
-        Operator::IndexList | Operator::IndexMap => index(alloc, op, at, stack),
-        _ => finish_over(made_of_two(alloc, op, stack.as_slice()), op, at, stack),
+        Operator::IndexList | Operator::IndexMap => index(alloc, op, position, stack),
+        _ => finish_over(
+            made_of_two(alloc, op, stack.as_slice()),
+            op,
+            position,
+            stack,
+        ),
     }
 }
 
@@ -197,12 +232,12 @@ fn operate_two<'a>(
 fn index<'a>(
     alloc: Global,
     op: Operator,
-    at: usize,
+    position: &mut Position,
     stack: &mut Stack<'a>,
 ) -> Result<Move, AllocError>
-    requires at { at + 1 < 2 ^ 64 }
+    requires at { position.old.at + 1 < 2 ^ 64 }
     requires room { HasRoom stack.old }
-    ensures acts { IfOk result (λ m. Comes (metered_two (row op) at stack.old.items) m stack.new.items) }
+    ensures acts { IfOk result (λ m. Comes (metered_two (row op) position.old.at stack.old.items) m position.new stack.new.items) }
     ensures room { stack.new.room ≡ stack.old.room }
 {
     let Some(y) = stack.pop() else {
@@ -212,9 +247,9 @@ fn index<'a>(
         return Ok(Move::IsStuckHere);
     };
     match op {
-        Operator::IndexList => Ok(finish_found(index_list(alloc, x, read(&y))?, at, stack)),
-        Operator::IndexMap => Ok(finish_found(index_map(alloc, x, read(&y))?, at, stack)),
-        _ => finish(on_two(alloc, op, read(&x), read(&y)), at, stack),
+        Operator::IndexList => Ok(finish_found(index_list(alloc, x, read(&y))?, position, stack)),
+        Operator::IndexMap => Ok(finish_found(index_map(alloc, x, read(&y))?, position, stack)),
+        _ => finish(on_two(alloc, op, read(&x), read(&y)), position, stack),
     }
 }
 
@@ -236,20 +271,20 @@ fn made_of_two(
 fn finish_over(
     made: Result<Option<Made>, AllocError>,
     op: Operator,
-    at: usize,
+    position: &mut Position,
     stack: &mut Stack<'_>,
 ) -> Result<Move, AllocError>
-    requires at { at + 1 < 2 ^ 64 }
+    requires at { position.old.at + 1 < 2 ^ 64 }
     requires room { HasRoom stack.old }
     requires made { IfOk made (λ made. made ≡ made_of_two (row op) stack.old.items) }
-    ensures acts { IfOk result (λ m. Comes (metered_two (row op) at stack.old.items) m stack.new.items) }
+    ensures acts { IfOk result (λ m. Comes (metered_two (row op) position.old.at stack.old.items) m position.new stack.new.items) }
     ensures room { stack.new.room ≡ stack.old.room }
 {
     match made {
         Ok(Some(made)) => {
             let charge = made.charge;
             stack.put_over_two(own(made.outcome));
-            Ok(Move::GoesTo(charge, at + 1))
+            Ok(position.go_on(charge))
         }
         Ok(None) => Ok(Move::IsStuckHere),
         Err(error) => Err(error),
@@ -257,34 +292,38 @@ fn finish_over(
 }
 
 // On to the next instruction with what an index found.
-fn finish_found<'a>(found: Option<Found<'a>>, at: usize, stack: &mut Stack<'a>) -> Move
-    requires at { at + 1 < 2 ^ 64 }
+fn finish_found<'a>(
+    found: Option<Found<'a>>,
+    position: &mut Position,
+    stack: &mut Stack<'a>,
+) -> Move
+    requires at { position.old.at + 1 < 2 ^ 64 }
     requires room { HasRoom stack.old }
-    ensures acts { Comes (made_next (option_map made_by found.entry) at stack.old.items) result stack.new.items }
+    ensures acts { Comes (made_next (option_map made_by found.entry) position.old.at stack.old.items) result position.new stack.new.items }
     ensures room { stack.new.room ≡ stack.old.room }
 {
     let Some(part) = found else {
         return Move::IsStuckHere;
     };
     stack.push(part.operand);
-    Move::GoesTo(part.charge, at + 1)
+    position.go_on(part.charge)
 }
 
 /// On to the next instruction with what was made.
 pub fn finish<E: Drop>(
     made: Result<Option<Made>, E>,
-    at: usize,
+    position: &mut Position,
     stack: &mut Stack<'_>,
 ) -> Result<Move, E>
-    requires at { at + 1 < 2 ^ 64 }
+    requires at { position.old.at + 1 < 2 ^ 64 }
     requires room { HasRoom stack.old }
-    ensures acts { IfOk result (λ m. Finishes made at stack.old.items m stack.new.items) }
+    ensures acts { IfOk result (λ m. Finishes made position.old.at stack.old.items m position.new stack.new.items) }
     ensures room { stack.new.room ≡ stack.old.room }
 {
     match made {
         Ok(Some(made)) => {
             stack.push(own(made.outcome));
-            Ok(Move::GoesTo(made.charge, at + 1))
+            Ok(position.go_on(made.charge))
         }
         Ok(None) => Ok(Move::IsStuckHere),
         Err(error) => Err(error),
@@ -292,25 +331,25 @@ pub fn finish<E: Drop>(
 }
 
 // The jump of a test, which is taken where the top is this truth value.
-fn test(stack: &Stack<'_>, ends: bool, to: usize, at: usize) -> Move
-    requires { at + 1 < 2 ^ 64 }
-    ensures { LeadsTo (test_of ends stack.now.items to at) result stack.now.items }
+fn test(stack: &Stack<'_>, ends: bool, to: usize, position: &mut Position) -> Move
+    requires { position.old.at + 1 < 2 ^ 64 }
+    ensures { LeadsTo (test_of ends stack.now.items to position.old.at) result position.new stack.now.items }
 {
     let Some(x) = stack.top() else {
         return Move::IsStuckHere;
     };
     match truth(x) {
-        Some(Ok(b)) if b == ends => Move::GoesTo(1, to),
-        Some(_) => Move::GoesTo(1, at + 1),
+        Some(Ok(b)) if b == ends => position.go_to(to, 1),
+        Some(_) => position.go_on(1),
         None => Move::IsStuckHere,
     }
 }
 
 // Both sides of `&&`, where `all` is true, or of `||`.
-fn join(stack: &mut Stack<'_>, all: bool, at: usize) -> Move
-    requires at { at + 1 < 2 ^ 64 }
+fn join(stack: &mut Stack<'_>, all: bool, position: &mut Position) -> Move
+    requires at { position.old.at + 1 < 2 ^ 64 }
     requires room { HasRoom stack.old }
-    ensures acts { LeadsTo (join_of all stack.old.items at) result stack.new.items }
+    ensures acts { LeadsTo (join_of all stack.old.items position.old.at) result position.new stack.new.items }
     ensures room { stack.new.room ≡ stack.old.room }
 {
     let Some(y) = stack.pop() else {
@@ -323,7 +362,7 @@ fn join(stack: &mut Stack<'_>, all: bool, at: usize) -> Move
         return Move::IsStuckHere;
     };
     stack.push(own(both));
-    Move::GoesTo(0, at + 1)
+    position.go_on(0)
 }
 
 fn joined(
@@ -341,21 +380,21 @@ fn joined(
     })
 }
 
-fn branch(stack: &mut Stack<'_>, if_false: usize, if_error: usize, at: usize) -> Move
-    requires at { at + 1 < 2 ^ 64 }
+fn branch(stack: &mut Stack<'_>, if_false: usize, if_error: usize, position: &mut Position) -> Move
+    requires at { position.old.at + 1 < 2 ^ 64 }
     requires room { HasRoom stack.old }
-    ensures acts { LeadsTo (branch_of if_false if_error stack.old.items at) result stack.new.items }
+    ensures acts { LeadsTo (branch_of if_false if_error stack.old.items position.old.at) result position.new stack.new.items }
     ensures room { stack.new.room ≡ stack.old.room }
 {
     let Some(x) = stack.pop() else {
         return Move::IsStuckHere;
     };
     match truth(read(&x)) {
-        Some(Ok(true)) => Move::GoesTo(1, at + 1),
-        Some(Ok(false)) => Move::GoesTo(1, if_false),
+        Some(Ok(true)) => position.go_on(1),
+        Some(Ok(false)) => position.go_to(if_false, 1),
         Some(Err(e)) => {
             stack.push(Err(e));
-            Move::GoesTo(1, if_error)
+            position.go_to(if_error, 1)
         }
         None => Move::IsStuckHere,
     }

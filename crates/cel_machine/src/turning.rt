@@ -4,7 +4,7 @@ ghost use Rattle.std.specs.Prelude.{◌≡◌, ◌<◌, Some, IfOk, length, opti
 ghost use Rattle.cel_check.specs.Loops.{GoesOn, nothing_yet, with_error, with_item, error_or, result_of, turn};
 ghost use Rattle.cel_check.specs.Loops.{turn_all, turn_exists, turn_exists_one, turn_filter, turn_map};
 ghost use Rattle.cel_machine.specs.Ranges.{range_items, item_at};
-ghost use Rattle.cel_machine.specs.Turns.{turn_by, turn_side};
+ghost use Rattle.cel_machine.specs.Turns.{passes, turn_by, turn_side};
 
 use crate::operand::{Operand, outcome_of, read};
 use crate::range::Range;
@@ -99,6 +99,17 @@ fn turn_side(
         Loop::ExistsOne => Ok(turn_exists_one(gathered, side)),
         Loop::Filter => turn_filter(alloc, range, place, gathered, side),
         Loop::Map => Ok(Turned::IsStuck),
+    }
+}
+
+/// Whether a loop goes on from an item with what it has gathered, its body a predicate that gave this there.
+pub fn passes(mode: Loop, side: Option<Result<bool, CelError>>) -> bool
+    ensures { result ≡ passes mode side }
+{
+    match (mode, side) {
+        (Loop::All, Some(Ok(true))) => true,
+        (Loop::Exists | Loop::ExistsOne | Loop::Filter, Some(Ok(false))) => true,
+        _ => false,
     }
 }
 

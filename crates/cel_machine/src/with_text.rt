@@ -9,6 +9,7 @@ ghost use Rattle.cel_machine.specs.Follow.{LeadsTo, Comes, metered_one};
 use crate::fault::RunFault;
 use crate::operand::read;
 use crate::parts::{field, has_field};
+use crate::position::Position;
 use crate::searching::matches;
 use crate::stack::Stack;
 use crate::step::{Move, finish};
@@ -33,26 +34,33 @@ pub fn operate_with(
     alloc: Global,
     op: TextOperator,
     text: &str,
-    at: usize,
+    position: &mut Position,
     stack: &mut Stack<'_>,
     matchers: &mut Matchers,
 ) -> Result<Move, RunFault>
-    requires at { at + 1 < 2 ^ 64 }
+    requires at { position.old.at + 1 < 2 ^ 64 }
     requires room { HasRoom stack.old }
-    ensures acts { IfOk result (λ m. LeadsTo (operate_with op (Some text.now) at stack.old.items) m stack.new.items) }
+    ensures acts { IfOk result (λ m. LeadsTo (operate_with op (Some text.now) position.old.at stack.old.items)
+        m position.new stack.new.items) }
     ensures room { stack.new.room ≡ stack.old.room }
 {
     match op {
-        TextOperator::Select => select(alloc, text, at, stack),
-        TextOperator::Has => has(text, at, stack),
-        TextOperator::Matches => search(alloc, text, at, stack, matchers),
+        TextOperator::Select => select(alloc, text, position, stack),
+        TextOperator::Has => has(text, position, stack),
+        TextOperator::Matches => search(alloc, text, position, stack, matchers),
     }
 }
 
-fn select(alloc: Global, name: &str, at: usize, stack: &mut Stack<'_>) -> Result<Move, RunFault>
-    requires at { at + 1 < 2 ^ 64 }
+fn select(
+    alloc: Global,
+    name: &str,
+    position: &mut Position,
+    stack: &mut Stack<'_>,
+) -> Result<Move, RunFault>
+    requires at { position.old.at + 1 < 2 ^ 64 }
     requires room { HasRoom stack.old }
-    ensures acts { IfOk result (λ m. Comes (metered_one (row_with TextOperator.Select name.now) at stack.old.items) m stack.new.items) }
+    ensures acts { IfOk result (λ m. Comes (metered_one (row_with TextOperator.Select name.now) position.old.at stack.old.items)
+        m position.new stack.new.items) }
     ensures room { stack.new.room ≡ stack.old.room }
 {
     let Some(x) = stack.pop() else {
@@ -62,35 +70,37 @@ fn select(alloc: Global, name: &str, at: usize, stack: &mut Stack<'_>) -> Result
         return Ok(Move::IsStuckHere);
     };
     stack.push(part);
-    Ok(Move::GoesTo(1, at + 1))
+    Ok(position.go_on(1))
 }
 
-fn has(name: &str, at: usize, stack: &mut Stack<'_>) -> Result<Move, RunFault>
-    requires at { at + 1 < 2 ^ 64 }
+fn has(name: &str, position: &mut Position, stack: &mut Stack<'_>) -> Result<Move, RunFault>
+    requires at { position.old.at + 1 < 2 ^ 64 }
     requires room { HasRoom stack.old }
-    ensures acts { IfOk result (λ m. Comes (metered_one (row_with TextOperator.Has name.now) at stack.old.items) m stack.new.items) }
+    ensures acts { IfOk result (λ m. Comes (metered_one (row_with TextOperator.Has name.now) position.old.at stack.old.items)
+        m position.new stack.new.items) }
     ensures room { stack.new.room ≡ stack.old.room }
 {
     let Some(x) = stack.pop() else {
         return Ok(Move::IsStuckHere);
     };
-    finish(Ok(has_field(read(&x), name)), at, stack)
+    finish(Ok(has_field(read(&x), name)), position, stack)
 }
 
 fn search(
     alloc: Global,
     pattern: &str,
-    at: usize,
+    position: &mut Position,
     stack: &mut Stack<'_>,
     matchers: &mut Matchers,
 ) -> Result<Move, RunFault>
-    requires at { at + 1 < 2 ^ 64 }
+    requires at { position.old.at + 1 < 2 ^ 64 }
     requires room { HasRoom stack.old }
-    ensures acts { IfOk result (λ m. Comes (metered_one (row_with TextOperator.Matches pattern.now) at stack.old.items) m stack.new.items) }
+    ensures acts { IfOk result (λ m. Comes (metered_one (row_with TextOperator.Matches pattern.now) position.old.at stack.old.items)
+        m position.new stack.new.items) }
     ensures room { stack.new.room ≡ stack.old.room }
 {
     let Some(x) = stack.pop() else {
         return Ok(Move::IsStuckHere);
     };
-    finish(matches(alloc, read(&x), pattern, matchers), at, stack)
+    finish(matches(alloc, read(&x), pattern, matchers), position, stack)
 }

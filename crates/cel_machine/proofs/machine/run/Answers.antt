@@ -2,7 +2,7 @@ use Rattle.std.proofs.Common.{◌+◌, sym, ap, ◌∙◌, arith}
 use Rattle.cel_verify.specs.Paths.{path_cost, path_steps}
 use Rattle.cel_verify.specs.Depths.{greatest_depth, greatest_nesting}
 use Rattle.cel_verify.proofs.Walking.{no_end}
-use Rattle.cel_machine.proofs.Running.{begun, here, deep, nested, goes, there, outcome_fits, has_top, not_stuck}
+use Rattle.cel_machine.proofs.Running.{begun, here, deep, nested, goes, next, outcome_fits, has_top, not_stuck}
 use Rattle.cel_machine.proofs.machine.run.Goals as goal
 
 pub loop-instr-init : goal.loop-instr-init
@@ -22,7 +22,7 @@ step-requires-clause-at c =
     let l = c.loop-instr in
     let i = c.image-image in
     let run = here c.args.program.now i.result.now c.args.slots.now i.ensures.accepted i.ensures.image c.requires in
-    let h = run l.at l.stack.items l.frames.items l.charged l.steps l.invariant.0 in
+    let h = run l.position.at l.stack.items l.frames.items l.charged l.steps l.invariant.0 in
     omega (arith, h.room)
 
 pub step-requires-clause-room : goal.step-requires-clause-room
@@ -30,7 +30,7 @@ step-requires-clause-room c =
     let l = c.loop-instr in
     let i = c.image-image in
     let run = deep c.args.program.now i.result.now c.args.slots.now i.ensures.accepted i.ensures.image c.requires in
-    let h = run l.at l.stack.items l.frames.items l.charged l.steps l.invariant.0 in
+    let h = run l.position.at l.stack.items l.frames.items l.charged l.steps l.invariant.0 in
     omega (arith, l.invariant.1)
 
 pub step-requires-clause-frame_room : goal.step-requires-clause-frame_room
@@ -38,17 +38,17 @@ step-requires-clause-frame_room c =
     let l = c.loop-instr in
     let i = c.image-image in
     let run = nested c.args.program.now i.result.now c.args.slots.now i.ensures.accepted i.ensures.image c.requires in
-    let h = run l.at l.stack.items l.frames.items l.charged l.steps l.invariant.0 in
+    let h = run l.position.at l.stack.items l.frames.items l.charged l.steps l.invariant.0 in
     omega (arith, l.invariant.2)
 
 pub overflow_add-charged : goal.overflow_add-charged
 overflow_add-charged c =
     let l = c.loop-instr in
     let i = c.image-image in
-    let run = there c.args.program.now i.result.now c.args.slots.now i.ensures.accepted i.ensures.image c.requires in
-    let turn = run l.at l.stack.items l.frames.items l.charged l.steps l.invariant.0 c.in-Some.instr.now c.in_ok-charge.field-0 in
-    let after = turn c.step.new.stack.items c.step.new.frames.items (sym c.in-Some.ensures.value) c.in_ok-charge.ensures.acts in
-    let t = after c.in-GoesTo.charge c.in-GoesTo.to c.in-GoesTo.is in
+    let run = next c.args.program.now i.result.now c.args.slots.now i.ensures.accepted i.ensures.image c.requires in
+    let turn = run l.position.at l.stack.items l.frames.items l.charged l.steps l.invariant.0 c.in-Some.instr.now c.in_ok-step.field-0 in
+    let after = turn c.step.new.position c.step.new.stack.items c.step.new.frames.items (sym c.in-Some.ensures.value) c.in_ok-step.ensures.acts in
+    let t = after c.in-GoesOn.is in
     omega (arith, t.cheap)
 
 pub overflow_add-steps : goal.overflow_add-steps
@@ -56,7 +56,7 @@ overflow_add-steps c =
     let l = c.loop-instr in
     let i = c.image-image in
     let run = here c.args.program.now i.result.now c.args.slots.now i.ensures.accepted i.ensures.image c.requires in
-    let h = run l.at l.stack.items l.frames.items l.charged l.steps l.invariant.0 in
+    let h = run l.position.at l.stack.items l.frames.items l.charged l.steps l.invariant.0 in
     omega (arith, h.few)
 
 pub loop-instr-smaller : goal.loop-instr-smaller
@@ -64,7 +64,7 @@ loop-instr-smaller c =
     let l = c.loop-instr in
     let i = c.image-image in
     let run = here c.args.program.now i.result.now c.args.slots.now i.ensures.accepted i.ensures.image c.requires in
-    let h = run l.at l.stack.items l.frames.items l.charged l.steps l.invariant.0 in
+    let h = run l.position.at l.stack.items l.frames.items l.charged l.steps l.invariant.0 in
     omega (arith, h.within)
 
 pub loop-instr-preserved : goal.loop-instr-preserved
@@ -72,9 +72,9 @@ loop-instr-preserved c =
     let l = c.loop-instr in
     let i = c.image-image in
     let run = goes c.args.program.now i.result.now c.args.slots.now i.ensures.accepted i.ensures.image c.requires in
-    let turn = run l.at l.stack.items l.frames.items l.charged l.steps l.invariant.0 c.in-Some.instr.now c.in_ok-charge.field-0 in
-    let after = turn c.step.new.stack.items c.step.new.frames.items (sym c.in-Some.ensures.value) c.in_ok-charge.ensures.acts in (
-      after c.in-GoesTo.charge c.in-GoesTo.to c.in-GoesTo.is,
+    let turn = run l.position.at l.stack.items l.frames.items l.charged l.steps l.invariant.0 c.in-Some.instr.now c.in_ok-step.field-0 in
+    let after = turn c.step.new.position c.step.new.stack.items c.step.new.frames.items (sym c.in-Some.ensures.value) c.in_ok-step.ensures.acts in (
+      after c.in-GoesOn.is,
       c.step.ensures.room ∙ l.invariant.1,
       c.step.ensures.frame_room ∙ l.invariant.2,
     )
@@ -84,7 +84,7 @@ overflow_add-result c =
     let l = c.loop-instr in
     let i = c.image-image in
     let run = here c.args.program.now i.result.now c.args.slots.now i.ensures.accepted i.ensures.image c.requires in
-    let h = run l.at l.stack.items l.frames.items l.charged l.steps l.invariant.0 in
+    let h = run l.position.at l.stack.items l.frames.items l.charged l.steps l.invariant.0 in
     omega (arith, h.few)
 
 pub returns-in-IsOver-clause-fits : goal.returns-in-IsOver-clause-fits
@@ -92,8 +92,8 @@ returns-in-IsOver-clause-fits c =
     let l = c.loop-instr in
     let i = c.image-image in
     let run = outcome_fits c.args.program.now i.result.now c.args.slots.now i.ensures.accepted i.ensures.image c.requires in
-    let turn = run l.at l.stack.items l.frames.items l.charged l.steps l.invariant.0 c.in-Some.instr.now c.in_ok-charge.field-0 in
-    let after = turn c.step.new.stack.items c.step.new.frames.items (sym c.in-Some.ensures.value) c.in_ok-charge.ensures.acts in
+    let turn = run l.position.at l.stack.items l.frames.items l.charged l.steps l.invariant.0 c.in-Some.instr.now c.in_ok-step.field-0 in
+    let after = turn c.step.new.position c.step.new.stack.items c.step.new.frames.items (sym c.in-Some.ensures.value) c.in_ok-step.ensures.acts in
     after c.in_ok-outcome-in-IsOver.outcome c.in-IsOver.is c.in_ok-outcome-in-IsOver.ensures
 
 pub returns-in-IsOver-clause-steps : goal.returns-in-IsOver-clause-steps
@@ -101,7 +101,7 @@ returns-in-IsOver-clause-steps c =
     let l = c.loop-instr in
     let i = c.image-image in
     let run = here c.args.program.now i.result.now c.args.slots.now i.ensures.accepted i.ensures.image c.requires in
-    let h = run l.at l.stack.items l.frames.items l.charged l.steps l.invariant.0 in
+    let h = run l.position.at l.stack.items l.frames.items l.charged l.steps l.invariant.0 in
     omega (arith, h.within, ap path_steps i.ensures.image)
 
 pub returns-in-IsOver-clause-charged : goal.returns-in-IsOver-clause-charged
@@ -109,7 +109,7 @@ returns-in-IsOver-clause-charged c =
     let l = c.loop-instr in
     let i = c.image-image in
     let run = here c.args.program.now i.result.now c.args.slots.now i.ensures.accepted i.ensures.image c.requires in
-    let h = run l.at l.stack.items l.frames.items l.charged l.steps l.invariant.0 in
+    let h = run l.position.at l.stack.items l.frames.items l.charged l.steps l.invariant.0 in
     omega (arith, h.cost, ap path_cost i.ensures.image)
 
 pub returns-in-IsOver-clause-within_budget : goal.returns-in-IsOver-clause-within_budget
@@ -117,7 +117,7 @@ returns-in-IsOver-clause-within_budget c =
     let l = c.loop-instr in
     let i = c.image-image in
     let run = here c.args.program.now i.result.now c.args.slots.now i.ensures.accepted i.ensures.image c.requires in
-    let h = run l.at l.stack.items l.frames.items l.charged l.steps l.invariant.0 in
+    let h = run l.position.at l.stack.items l.frames.items l.charged l.steps l.invariant.0 in
     omega (arith, h.cheap)
 
 pub unreachable-requires : goal.unreachable-requires
@@ -125,8 +125,8 @@ unreachable-requires c =
     let l = c.loop-instr in
     let i = c.image-image in
     let run = not_stuck c.args.program.now i.result.now c.args.slots.now i.ensures.accepted i.ensures.image c.requires in
-    let turn = run l.at l.stack.items l.frames.items l.charged l.steps l.invariant.0 c.in-Some.instr.now c.in_ok-charge.field-0 in
-    let after = turn c.step.new.stack.items c.step.new.frames.items (sym c.in-Some.ensures.value) c.in_ok-charge.ensures.acts in
+    let turn = run l.position.at l.stack.items l.frames.items l.charged l.steps l.invariant.0 c.in-Some.instr.now c.in_ok-step.field-0 in
+    let after = turn c.step.new.position c.step.new.stack.items c.step.new.frames.items (sym c.in-Some.ensures.value) c.in_ok-step.ensures.acts in
     after c.in-IsStuckHere.is
 
 pub unreachable-requires-2 : goal.unreachable-requires-2
@@ -134,14 +134,14 @@ unreachable-requires-2 c =
     let l = c.loop-instr in
     let i = c.image-image in
     let run = here c.args.program.now i.result.now c.args.slots.now i.ensures.accepted i.ensures.image c.requires in
-    let h = run l.at l.stack.items l.frames.items l.charged l.steps l.invariant.0 in
-    no_end i.result.now.code l.at h.inside (sym c.in_default.ensures.value)
+    let h = run l.position.at l.stack.items l.frames.items l.charged l.steps l.invariant.0 in
+    no_end i.result.now.code l.position.at h.inside (sym c.in_default.ensures.value)
 
 pub taken-requires : goal.taken-requires
 taken-requires c =
     let l = c.loop-instr in
     let i = c.image-image in
     let run = has_top c.args.program.now i.result.now c.args.slots.now i.ensures.accepted i.ensures.image c.requires in
-    let turn = run l.at l.stack.items l.frames.items l.charged l.steps l.invariant.0 c.in-Some.instr.now c.in_ok-charge.field-0 in
-    let after = turn c.step.new.stack.items c.step.new.frames.items (sym c.in-Some.ensures.value) c.in_ok-charge.ensures.acts in
+    let turn = run l.position.at l.stack.items l.frames.items l.charged l.steps l.invariant.0 c.in-Some.instr.now c.in_ok-step.field-0 in
+    let after = turn c.step.new.position c.step.new.stack.items c.step.new.frames.items (sym c.in-Some.ensures.value) c.in_ok-step.ensures.acts in
     after c.in-IsOver.is

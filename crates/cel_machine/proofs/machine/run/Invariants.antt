@@ -6,7 +6,7 @@ use Rattle.cel_machine.proofs.machine.run.Given as goal
 
 abbrev pub invariant-loop-instr : goal.invariant-loop-instr
 invariant-loop-instr l =
-    Gets l.image l.slots (on 0 [] []) (on l.at l.stack.items l.frames.items) l.charged l.steps
+    Gets l.image l.slots (on 0 [] []) (on l.position.at l.stack.items l.frames.items) l.charged l.steps
     × (l.stack.room ≡ greatest_depth l.image + 1) × (l.frames.room ≡ greatest_nesting l.image + 1)
 
 abbrev pub decreases-loop-instr : goal.decreases-loop-instr

@@ -4,15 +4,15 @@ use Rattle.cel_machine.proofs.with_text.operate_with.Goals as goal
 
 pub returns-in-Select-clause-acts : goal.returns-in-Select-clause-acts
 returns-in-Select-clause-acts c =
-    led c.select.result c.args.op Select c.args.text.now c.args.at c.args.stack.now.items c.select.new.stack.items
+    led c.select.result c.args.op Select c.args.text.now c.args.position.now.at c.select.new.position c.args.stack.now.items c.select.new.stack.items
     c.in-Select.is c.select.ensures.acts
 
 pub returns-in-Has-clause-acts : goal.returns-in-Has-clause-acts
 returns-in-Has-clause-acts c =
-    led c.has.result c.args.op Has c.args.text.now c.args.at c.args.stack.now.items c.has.new.stack.items
+    led c.has.result c.args.op Has c.args.text.now c.args.position.now.at c.has.new.position c.args.stack.now.items c.has.new.stack.items
     c.in-Has.is c.has.ensures.acts
 
 pub returns-in-Matches-clause-acts : goal.returns-in-Matches-clause-acts
 returns-in-Matches-clause-acts c =
-    led c.search.result c.args.op Matches c.args.text.now c.args.at c.args.stack.now.items c.search.new.stack.items
+    led c.search.result c.args.op Matches c.args.text.now c.args.position.now.at c.search.new.position c.args.stack.now.items c.search.new.stack.items
     c.in-Matches.is c.search.ensures.acts
