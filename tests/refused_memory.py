@@ -3,11 +3,11 @@
 
 The program is run on the first expression, on one with loops and on vectors of each answer, and then must give its right answer, or end
 with status 4 and nothing on standard output; and so are `check` and `replay` on their examples, which may have written
-whole lines of their answer before. Of crates/rows the tests of TESTS are run, which take 'out of memory' for an answer and no
-other wrong one.
+whole lines of their answer before. The program crates/calls is run on each line of tests/vectors/calls-*.jsonl that has
+`"refused"`, and must give its right answer, or end with another status than 0 and write nothing else.
 
-Then the allocations of crates/rows' tests of what is lent are counted: that ten runs more of the same expressions take as
-many, of as many bytes, where the slots hold much as where they hold little. The last line is 'N passed, M failed', each refused allocation
+Then the allocations for the lines of what is lent are counted: that ten runs more of the same expressions take as many, of
+as many bytes, where the slots hold much as where they hold little. The last line is 'N passed, M failed', each refused allocation
 counted, and that one comparison.
 """
 import json
@@ -21,20 +21,9 @@ from pathlib import Path
 
 TOP = Path(__file__).resolve().parent.parent
 PROGRAM = TOP / "crates/vap/out/vap"
-ROWS = TOP / "crates/rows/out/rows_tests"
+CALLS = TOP / "crates/calls/out/calls"
 FIRST = "1 + 2 * 3 == 7 && !(4 < 3)"
 LOOPS = "[[1, 2], [3]].map(r, r.filter(c, {'a': c}.exists(k, k == 'a') && c != 2))"
-TESTS = [
-    "basics::containers::containers_grow_or_are_out_of_memory",
-    "basics::values::copies_and_joins_are_made_or_out_of_memory",
-    "basics::schemas::a_document_is_fitted_or_out_of_memory",
-    "basics::patterns::patterns_are_found_or_out_of_memory",
-    "matching::memory::a_review_is_matched_or_out_of_memory",
-    "matching::events::lines_are_read_or_out_of_memory",
-    "matching::objects::objects_are_held_or_out_of_memory",
-    "verdicts::answers::a_verdict_is_made_or_out_of_memory",
-    "replays::lines::lines_are_read_or_out_of_memory",
-]
 VECTORS = 50
 MOST = 100_000
 OVER = 99  # the status that the preloaded library gives where no allocation was refused
@@ -73,14 +62,39 @@ def commands():
     """The other commands on their examples: where memory is refused, what is written up to there is whole lines of the answer."""
     for words in (["check", TOP / "examples/rule.json"], ["replay", "--audit", TOP / "examples/stream.jsonl"]):
         ran = subprocess.run([PROGRAM, *words], stdin=subprocess.DEVNULL, capture_output=True, timeout=60, check=True)
-        well = (0, ran.stdout)
+        is_right = lambda out, whole=ran.stdout: out == whole
         is_begun = lambda out, whole=ran.stdout: whole.startswith(out) and (not out or out.endswith(b"\n"))
-        is_well = lambda status, out, well=well, is_begun=is_begun: (status, out) == well or status == 4 and is_begun(out)
-        yield str(words[0]), [PROGRAM, *words], well, is_well
+        is_well = lambda status, out, well=(0, ran.stdout), is_begun=is_begun: (status, out) == well or status == 4 and is_begun(out)
+        yield str(words[0]), [PROGRAM, *words], b"", is_right, is_well
+
+
+def calls():
+    """The lines of crates/calls that are tried so."""
+    for file in sorted((TOP / "tests/vectors").glob("calls-*.jsonl")):
+        for line in map(json.loads, file.read_text(encoding="utf-8").split("\n")[:-1]):
+            if line.get("refused"):
+                is_right = lambda out, line=line: answers_of(out) == [line["answer"]]
+                is_well = lambda status, out, is_right=is_right: is_right(out) if status == 0 else not out or is_right(out)
+                yield line["call"], [CALLS], asked(line), is_right, is_well
+
+
+def asked(line, width=0):
+    """What crates/calls is given for a line, so many bytes at least."""
+    text = json.dumps({key: line[key] for key in ("call", "with", "input") if key in line})
+    return text.ljust(width).encode() + b"\n"
+
+
+def answers_of(out):
+    """The answers of crates/calls, or None."""
+    try:
+        return [json.loads(text) for text in out.decode().splitlines()]
+    except ValueError:
+        return None
 
 
 def cases():
-    """Each case: its name, its words, and whether a status and an output are well where memory is refused."""
+    """Each case: its name, its words, its standard input, whether an output is right, and whether a status and an output are well
+    where memory is refused."""
     lines = []
     for file in sorted((TOP / "tests/vectors").glob("eval*.jsonl")):
         lines += [json.loads(text) for text in file.read_text(encoding="utf-8").splitlines()]
@@ -89,22 +103,21 @@ def cases():
     loops = {"expression": LOOPS, "status": 0, "stdout": "[[1],[3]]\n"}
     for line in [first, loops] + spread(lines):
         well = (line["status"], line["stdout"].encode())
+        is_right = lambda out, well=well: out == well[1]
         is_well = lambda status, out, well=well: (status, out) in (well, (4, b""))
-        yield line["expression"], [PROGRAM, "eval", "--", line["expression"]], well, is_well
+        yield line["expression"], [PROGRAM, "eval", "--", line["expression"]], b"", is_right, is_well
     yield from commands()
-    for test in TESTS:
-        is_well = lambda status, out: status == 0 and b"test result: ok" in out
-        yield test, [ROWS, test], None, is_well
+    yield from calls()
 
 
-def sweep(library, name, words, well, is_well):
+def sweep(library, name, words, given, is_right, is_well):
     """How many of a case's allocations were refused, and what went wrong."""
     whys = []
     for number in range(1, MOST):
         environment = {"LD_PRELOAD": str(library), "REFUSED": str(number)}
-        ran = subprocess.run(words, env=environment, stdin=subprocess.DEVNULL, capture_output=True, timeout=60)
+        ran = subprocess.run(words, env=environment, input=given, capture_output=True, timeout=60)
         if ran.returncode == OVER:
-            if well and ran.stdout != well[1]:
+            if not is_right(ran.stdout):
                 whys.append(f"{name!r} with all its memory: {ran.stdout!r}")
             return number - 1, whys
         if not is_well(ran.returncode, ran.stdout):
@@ -112,25 +125,27 @@ def sweep(library, name, words, well, is_well):
     return MOST, whys + [f"{name!r}: it has not ended at {MOST} allocations"]
 
 
-def counted(library, test):
-    """How many allocations a test of crates/rows makes, and of how many bytes together."""
+def counted(library, lines):
+    """How many allocations crates/calls makes for these lines, and of how many bytes together."""
     environment = {"LD_PRELOAD": str(library), "COUNTED": "1"}
-    ran = subprocess.run([ROWS, test], env=environment, stdin=subprocess.DEVNULL, capture_output=True, timeout=60)
-    if ran.returncode or b"test result: ok" not in ran.stdout:
-        raise SystemExit(f"{test}: status {ran.returncode}, {ran.stdout!r}")
+    given = b"".join(asked(line, 200) for line in lines)
+    ran = subprocess.run([CALLS], env=environment, input=given, capture_output=True, timeout=60)
+    if ran.returncode or answers_of(ran.stdout) != [line["answer"] for line in lines]:
+        raise SystemExit(f"what is lent: status {ran.returncode}, {ran.stdout!r}")
     return [int(word) for word in ran.stderr.split()[-2:]]
 
 
-def taken(library, held):
-    """What the further runs of the same expressions take where slots hold little or much: allocations and bytes."""
-    once = counted(library, f"expressions::lent::{held}_is_read_once")
-    often = counted(library, f"expressions::lent::{held}_is_read_often")
+def taken(library, texts):
+    """What the further runs of the same expressions take where slots hold so many texts: allocations and bytes."""
+    lines = [json.loads(text) for text in (TOP / "tests/vectors/calls-lent.jsonl").read_text(encoding="utf-8").splitlines()]
+    once = counted(library, [line for line in lines if line["with"] == [texts, 1]])
+    often = counted(library, [line for line in lines if line["with"] == [texts, 11]])
     return [more - less for more, less in zip(often, once)]
 
 
 def lent_is_copied(library):
     """Why what slots hold seems to be copied, if it does."""
-    little, much = taken(library, "little"), taken(library, "much")
+    little, much = taken(library, 2), taken(library, 199)
     print(f"lent: {little[0]} allocations of {little[1]} bytes where slots hold little, {much[0]} of {much[1]} where much")
     return [] if little == much and little[0] > 0 else ["what slots hold is copied"]
 

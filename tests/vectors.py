@@ -2,7 +2,8 @@
 """Runs the program on each line of tests/vectors/*.jsonl and names each line that is not met.
 
 The first word of a file's name is the command that its lines are for. Lines of `replay` are run with one worker, with
-two and with 16. The last line is 'N passed, M failed'.
+two and with 16. Lines of `calls` and `fit` are for crates/calls, the program that makes the calls that lines ask for: all
+lines of a file in one run. With names of files, it runs those alone. The last line is 'N passed, M failed'.
 """
 import json
 import os
@@ -13,6 +14,7 @@ from pathlib import Path
 
 TOP = Path(__file__).resolve().parent.parent
 PROGRAM = TOP / "crates/vap/out/vap"
+CALLS = os.environ.get("CALLS", "").split() or [TOP / "crates/calls/out/calls"]
 
 
 def file_of(line):
@@ -65,22 +67,58 @@ def unmet(command, text):
     return next(filter(None, (unmet_with(words + more, given, line) for more in others)), None)
 
 
-def main():
-    # (where it is missing or older than its sources, the starter builds it)
-    built = subprocess.run([TOP / "vap", "--version"], stdout=subprocess.DEVNULL)
-    if built.returncode:
+# What the program of calls is given for a line.
+ASKED = {
+    "calls": lambda line: {key: line[key] for key in ("call", "with", "input") if key in line},
+    "fit": lambda line: {"call": "schemas.row", "input": line["line"]},
+}
+
+
+def unmet_calls(command, texts):
+    """Why each line of a file of calls is not met, or None."""
+    try:
+        lines = [json.loads(text) for text in texts]
+        asked = [json.dumps(ASKED[command](line), ensure_ascii=False) for line in lines]
+        given = "".join(line + "\n" for line in asked).encode()
+        ran = subprocess.run(CALLS, input=given, stdout=subprocess.PIPE, timeout=600)
+        answers = [json.loads(answer) for answer in ran.stdout.decode().split("\n")[:-1]]
+    except (KeyError, OSError, ValueError, subprocess.TimeoutExpired) as error:
+        return [f"it cannot be run: {error!r}"] * len(texts)
+    answers += [f"no answer, status {ran.returncode}"] * (len(lines) - len(answers))
+    return [
+        None if answer == line["answer"] else f"{call}: {answer!r}; wanted {line['answer']!r}"
+        for line, call, answer in zip(lines, asked, answers)
+    ]
+
+
+def unmet_of(command, texts, pool):
+    """Why each line of a file is not met, or None."""
+    if command in ASKED:
+        return unmet_calls(command, texts)
+    return list(pool.map(lambda text: unmet(command, text), texts))
+
+
+def is_built():
+    """Whether the program is there, built where it is missing or older than its sources."""
+    return not subprocess.run([TOP / "vap", "--version"], stdout=subprocess.DEVNULL).returncode
+
+
+def main(names):
+    files = [Path(name).resolve() for name in names] or sorted((TOP / "tests/vectors").glob("*.jsonl"))
+    commands = {file: file.stem.partition("-")[0] for file in files}
+    built = all(command in ASKED for command in commands.values()) or is_built()
+    if not built:
         print("vectors: there is no program to run")
         print("0 passed, 1 failed")
         return 1
-    lines = []
-    for file in sorted((TOP / "tests/vectors").glob("*.jsonl")):
-        command = file.stem.partition("-")[0]
-        for number, text in enumerate(file.read_text(encoding="utf-8").split("\n")[:-1], 1):
-            lines.append((f"{file.relative_to(TOP)}:{number}", command, text))
+    lines, whys = [], []
     with ThreadPoolExecutor(os.cpu_count()) as pool:
-        whys = list(pool.map(lambda line: unmet(*line[1:]), lines))
+        for file, command in commands.items():
+            texts = file.read_text(encoding="utf-8").split("\n")[:-1]
+            lines += [f"{file.relative_to(TOP)}:{number}" for number in range(1, len(texts) + 1)]
+            whys += unmet_of(command, texts, pool)
     failed = 0
-    for (place, _, _), why in zip(lines, whys):
+    for place, why in zip(lines, whys):
         if why:
             failed += 1
             print(f"{place}: {why}")
@@ -91,4 +129,4 @@ def main():
     return 1 if failed else 0
 
 
-sys.exit(main())
+sys.exit(main(sys.argv[1:]))

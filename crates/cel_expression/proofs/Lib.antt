@@ -1,3 +1,7 @@
 mod Within
 mod Runs
 mod Faults
+mod Matches
+mod PlainCode
+mod PlainTrees
+mod Spelled

@@ -12,8 +12,11 @@ use Rattle.cel_code.specs.Machine.{Run}
 use Rattle.cel_code.proofs.OneRun.{one_run}
 use Rattle.cel_expression.specs.Expressions.{Ran, ran_in, run_of, type_in, type_at, estimate_in, estimate_at}
 use Rattle.cel_expression.specs.Holds.{source_of, IsCompiled}
+use Rattle.cel_expression.specs.Patterns.{MayMatch}
 use Rattle.cel_expression.specs.Source.{Source}
 use Rattle.cel_expression.specs.declared.compiled.Compiled.TheInside.{Inside}
+use Rattle.cel_expression.proofs.Spelled.{may_match}
+use Rattle.cel_machine.specs.Matches.{HasMatches}
 
 -- what a run came to, and what it charged
 abbrev ran_as : Outcome → ℕ → Ran
@@ -94,3 +97,7 @@ module _ (c : Inside) (h : IsCompiled c) (s : Source) (is : source_of c ≡ s) (
   run_within slots x charged steps fit run =
       subst (λ z. charged ≤ estimate_at z) is
       (run_within_inside c h slots x charged steps (fits_names slots fit) (runs_program slots x charged steps run))
+
+  pub run_matches : HasMatches p → MayMatch s
+  run_matches looks =
+      subst MayMatch is (may_match (source_of c) h.tree c.program (types_in c.names) h.is h.image (subst HasMatches same looks))

@@ -3,3 +3,4 @@ pub mod Expressions
 pub mod Stages
 pub mod Faulty
 pub mod Holds
+pub mod Patterns

@@ -1,10 +1,12 @@
 ghost use Rattle.std.specs.Prelude.{◌≡◌, ◌≤◌, ℕ, true, Some, IfOk, IsErrOf};
 ghost use Rattle.cel_operators.specs.Outcomes.{outcome_fits, slots_fit};
 ghost use Rattle.cel_check.specs.Typing.{types_in};
+ghost use Rattle.cel_code.specs.Compiled.{IsCompiled};
 ghost use Rattle.cel_code.specs.Correct.{Computes, Preserves};
 ghost use Rattle.cel_estimate.specs.Estimate.{budget};
 ghost use Rattle.cel_expression.specs.Expressions.{accepted_of, compiled_of, estimate_at, run_of, type_at};
 ghost use Rattle.cel_expression.specs.Faulty.{IsFaulty, IsUnverified};
+ghost use Rattle.cel_expression.specs.Patterns.{MayMatch};
 ghost use Rattle.cel_expression.specs.Stages.{IsRated};
 ghost use Rattle.cel_expression.specs.declared.refusal.CompileError.TheVariants.{Unverified};
 
@@ -113,6 +115,7 @@ fn compiled_with(
     requires computes { Computes program accepted.now.typed.tree }
     requires preserves { Preserves accepted.now.typed.slots accepted.now.typed.tree }
     requires slots { program.slots ≡ accepted.now.typed.slots }
+    requires image { IsCompiled program accepted.now.typed.tree accepted.now.typed.slots }
     ensures { IfOk result (λ c. c ≡ record { choice = choice.now; names = names.now; text = text.now }) }
 {
     let program = Shared::new(alloc, program)?;
@@ -159,7 +162,7 @@ impl Compiled {
     }
 
     /// What the definitions say of the text, where its names hold these; it is given up where memory is wanting, or where a
-    /// pattern is found to take too much room to be built.
+    /// pattern is found to take too much room to be built: that only where `matches` is given a literal text in it.
     #[tactic(auto, unfolding(crate::specs::Expressions::run_of, crate::specs::Expressions::type_at, crate::specs::Expressions::estimate_at))]
     pub fn run(
         &self,
@@ -172,6 +175,7 @@ impl Compiled {
         ensures fits { IfOk result (λ r. outcome_fits (type_at self.now) (Some r.outcome) ≡ true) }
         ensures within { IfOk result (λ r. r.charged ≤ estimate_at self.now) }
         ensures small { IfOk result (λ r. r.charged ≤ budget) }
+        ensures pattern { IsErrOf result RunFault.Pattern → MayMatch self.now }
     {
         let ended = run(alloc, self.program.get(), slots, matchers)?;
         Ok(Ran {

@@ -2,6 +2,7 @@
 
 ghost use Rattle.std.specs.Prelude.{◌≡◌, ℕ, Ok, IfOk, IsErrOf};
 ghost use Rattle.cel_check.specs.Typing.{names_of, types_in};
+ghost use Rattle.cel_code.specs.Compiled.{IsCompiled};
 ghost use Rattle.cel_code.specs.Correct.{Computes, Preserves};
 ghost use Rattle.cel_expression.specs.Expressions.{accepted_of, root_type, typed_at, typed_of, within_budget};
 ghost use Rattle.cel_expression.specs.Faulty.{IsFaulty};
@@ -107,6 +108,7 @@ pub fn program_of(alloc: Global, typed: &Typed) -> Result<Program, CompileError>
     ensures computes { IfOk result (λ program. Computes program typed.now.tree) }
     ensures preserves { IfOk result (λ _. Preserves typed.now.slots typed.now.tree) }
     ensures slots { IfOk result (λ program. program.slots ≡ typed.now.slots) }
+    ensures image { IfOk result (λ program. IsCompiled program typed.now.tree typed.now.slots) }
     ensures unverified { (at : ℕ) → IsErrOf result (Unverified at) → IsFaulty typed.now.tree typed.now.slots at }
 {
     let image = compile(alloc, typed)?;

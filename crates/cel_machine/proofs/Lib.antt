@@ -1,3 +1,4 @@
+pub mod Filled
 pub mod Gathering
 pub mod Innermost
 pub mod Meters

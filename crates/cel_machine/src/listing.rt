@@ -7,7 +7,6 @@ ghost use Rattle.cel_machine.specs.Room.{HasRoom};
 ghost use Rattle.cel_machine.specs.Follow.{LeadsTo};
 ghost use Rattle.cel_apply.specs.Counted.{counted};
 
-use crate::fault::RunFault;
 use crate::position::Position;
 use crate::stack::Stack;
 use crate::step::{Move, finish};
@@ -22,7 +21,7 @@ pub fn list(
     count: usize,
     position: &mut Position,
     stack: &mut Stack<'_>,
-) -> Result<Move, RunFault>
+) -> Result<Move, AllocError>
     requires at { position.old.at + 1 < 2 ^ 64 }
     requires room { HasRoom stack.old }
     ensures acts { IfOk result (λ m. LeadsTo (listed (taken_off count [] stack.old.items) position.old.at) m position.new stack.new.items) }

@@ -8,7 +8,6 @@ ghost use Rattle.cel_machine.specs.Room.{HasRoom, HasFrameRoom};
 ghost use Rattle.cel_machine.specs.Follow.{Follows, LeadsTo, Turns, loop_of, item_in, when_in, side_in, next_in};
 ghost use Rattle.cel_machine.specs.Follow.{mapped_in, gone_in, finished_in, closed_in};
 
-use crate::fault::RunFault;
 use crate::frame::Frame;
 use crate::frames::Frames;
 use crate::operand::{Operand, own, read};
@@ -29,7 +28,7 @@ pub fn local<'a>(
     position: &mut Position,
     stack: &mut Stack<'a>,
     frames: &Frames<'a>,
-) -> Result<Move, RunFault>
+) -> Result<Move, AllocError>
     requires at { position.old.at + 1 < 2 ^ 64 }
     requires room { HasRoom stack.old }
     ensures acts { IfOk result (λ m. Follows
@@ -55,7 +54,7 @@ fn copied<'a>(
     frame: &Frame<'a>,
     position: &mut Position,
     stack: &mut Stack<'a>,
-) -> Result<Move, RunFault>
+) -> Result<Move, AllocError>
     requires at { position.old.at + 1 < 2 ^ 64 }
     requires room { HasRoom stack.old }
     ensures acts { IfOk result (λ m. LeadsTo (slot (Some (Ok frame.now.item)) position.old.at stack.old.items)
@@ -200,7 +199,7 @@ pub fn next<'a>(
     position: &mut Position,
     stack: &mut Stack<'a>,
     frames: &mut Frames<'a>,
-) -> Result<Move, RunFault>
+) -> Result<Move, AllocError>
     requires room { HasRoom stack.old }
     ensures acts { IfOk result (λ m. Follows (next_in stack.old.items frames.old.items) m position.new stack.new.items frames.new.items) }
     ensures room { stack.new.room ≡ stack.old.room }
@@ -222,7 +221,7 @@ fn turn<'a>(
     position: &mut Position,
     stack: &mut Stack<'a>,
     frames: &mut Frames<'a>,
-) -> Result<Move, RunFault>
+) -> Result<Move, AllocError>
     requires room { HasRoom stack.old }
     ensures acts { IfOk result (λ m. Follows (next_in stack.old.items frames.old.items) m position.new stack.new.items frames.new.items) }
     ensures room { stack.new.room ≡ stack.old.room }
@@ -240,7 +239,7 @@ fn behind<'a>(
     position: &mut Position,
     stack: &mut Stack<'a>,
     frames: &mut Frames<'a>,
-) -> Result<Move, RunFault>
+) -> Result<Move, AllocError>
     requires room { HasRoom stack.old }
     ensures acts { IfOk result (λ m. Turns turned stack.old.items frames.old.items m position.new stack.new.items frames.new.items) }
     ensures room { stack.new.room ≡ stack.old.room }
@@ -250,7 +249,7 @@ fn behind<'a>(
         Ok(Turned::GoesOn) => Ok(go_on(position, stack, frames)),
         Ok(Turned::Closes(outcome)) => Ok(close(outcome, position, stack, frames)),
         Ok(Turned::IsStuck) => Ok(Move::IsStuckHere),
-        Err(error) => Err(RunFault::from(error)),
+        Err(error) => Err(error),
     }
 }
 

@@ -1,10 +1,11 @@
-ghost use Rattle.std.specs.Prelude.{◌≡◌, ◌<◌, ◌≤◌, true, Some, IfOk, length};
+ghost use Rattle.std.specs.Prelude.{◌≡◌, ◌<◌, ◌≤◌, true, Some, IfOk, IsErrOf, length};
 ghost use Rattle.cel_operators.specs.Outcomes.{slots_fit};
 ghost use Rattle.cel_code.specs.Machine.{Run as IsRun};
 ghost use Rattle.cel_verify.specs.StackTypes.{Fits};
 ghost use Rattle.cel_verify.specs.Paths.{path_cost, path_steps};
 ghost use Rattle.cel_verify.specs.Accepted.{budget};
 ghost use Rattle.cel_machine.specs.Follow.{top_of};
+ghost use Rattle.cel_machine.specs.Matches.{HasMatches};
 
 use crate::ended::Run;
 use crate::fault::RunFault;
@@ -28,7 +29,8 @@ use std::alloc::{AllocError, Global};
 ///
 /// `matchers` finds the patterns of the program, and keeps what it built for later runs; no answer depends on that.
 ///
-/// The run is given up where memory is wanting, or where a pattern is found to take too much room to be built.
+/// The run is given up where memory is wanting, or where a pattern is found to take too much room to be built: that only
+/// where the program has an instruction that looks for a pattern.
 pub fn run<'a>(
     alloc: Global,
     program: &'a Program,
@@ -41,6 +43,7 @@ pub fn run<'a>(
     ensures steps { IfOk result (λ r. r.steps ≤ path_steps program.now) }
     ensures charged { IfOk result (λ r. r.charged ≤ path_cost program.now) }
     ensures within_budget { IfOk result (λ r. r.charged ≤ budget) }
+    ensures pattern { IsErrOf result RunFault.Pattern → HasMatches program.now }
 {
     let image = program.image();
     let mut stack = Stack::with_room(alloc, program.max_depth() + 1)?;

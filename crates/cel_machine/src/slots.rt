@@ -52,39 +52,34 @@ impl<'a> Slots<'a> {
             None => None,
         }
     }
-}
 
-/// Whether there are as many values and errors as the program has slots, and each value is of its slot's type; an error
-/// fits every slot.
-pub fn slots_fit(program: &Program, values: &[Result<&Value, CelError>]) -> bool
-    ensures { result ≡ fits_slots program.now.slots (all_lent values.now) }
-{
-    each_fits(program.image().slots.as_slice(), values)
-}
-
-fn each_fits(types: &[CelType], values: &[Result<&Value, CelError>]) -> bool
-    ensures { result ≡ fits_slots types.now (all_lent values.now) }
-{
-    let mut rest = values;
-    for cel_type in types {
-        match rest {
-            [value, more @ ..] => {
-                if !is_of(*value, cel_type) {
-                    return false;
-                }
-                rest = more;
-            }
-            [] => return false,
+    // Whether the slot of this number holds an error, or a value of this type.
+    fn is_of(&self, number: usize, cel_type: &CelType) -> bool
+        ensures { result ≡ outcome_fits cel_type.now (slice_get self.now number) }
+    {
+        match self.get(number) {
+            Some(Ok(value)) => fits(value, cel_type),
+            Some(Err(_)) => true,
+            None => false,
         }
     }
-    rest.is_empty()
 }
 
-fn is_of(outcome: Result<&Value, CelError>, cel_type: &CelType) -> bool
-    ensures { result ≡ outcome_fits cel_type.now (Some (lent outcome.entry)) }
+/// Whether slots hold as many values and errors as the program has slots, lent or made, and each value is of its slot's
+/// type; an error fits every slot.
+pub fn slots_fit(program: &Program, slots: &Slots<'_>) -> bool
+    ensures { result ≡ fits_slots program.now.slots slots.now }
 {
-    match outcome {
-        Ok(value) => fits(value, cel_type),
-        Err(_) => true,
+    each_fits(program.image().slots.as_slice(), slots)
+}
+
+fn each_fits(types: &[CelType], slots: &Slots<'_>) -> bool
+    ensures { result ≡ fits_slots types.now slots.now }
+{
+    for (number, cel_type) in types.iter().enumerate() {
+        if !slots.is_of(number, cel_type) {
+            return false;
+        }
     }
+    slots.get(types.len()).is_none()
 }

@@ -1,9 +1,10 @@
-ghost use Rattle.std.specs.Prelude.{◌≡◌, ◌+◌, ◌<◌, ◌^◌, [], IfOk, Some, slice_get, option_map, reverse};
+ghost use Rattle.std.specs.Prelude.{◌≡◌, ◌+◌, ◌<◌, ◌^◌, [], Ok, IfOk, IsErrOf, IsTrue, Some, slice_get, option_map, reverse};
 ghost use Rattle.cel_operators.specs.Operators.{row, operator_of};
 ghost use Rattle.cel_operators.specs.Wants.{side_of};
 ghost use Rattle.cel_code.specs.Machine.{Frame, act, inputs_of, push, constant as constant_of, slot as slot_of, operate_by};
-ghost use Rattle.cel_code.specs.Machine.{made as made_next, join as sides_joined, mapped, taken_off};
+ghost use Rattle.cel_code.specs.Machine.{made as made_next, join as sides_joined};
 ghost use Rattle.cel_machine.specs.Found.{made_by};
+ghost use Rattle.cel_machine.specs.Matches.{is_matches};
 ghost use Rattle.cel_apply.specs.Lent.{lent};
 ghost use Rattle.cel_machine.specs.Room.{HasRoom, HasFrameRoom};
 ghost use Rattle.cel_machine.specs.declared.position.Position.{Position};
@@ -57,20 +58,21 @@ pub fn step<'a>(
     requires frame_room { HasFrameRoom frames.old }
     ensures acts { IfOk result (λ m. Follows (act (inputs_of image.now slots.now) instr position.old.at stack.old.items frames.old.items)
         m position.new stack.new.items frames.new.items) }
+    ensures pattern { IsErrOf result RunFault.Pattern → IsTrue (is_matches instr) }
     ensures room { stack.new.room ≡ stack.old.room }
     ensures frame_room { frames.new.room ≡ frames.old.room }
 {
     let moved = match instr {
         Instr::Const(number) => constant(image, number, position, stack),
         Instr::Slot(number) => slot(slots, number, position, stack),
-        Instr::Local(number) => return local(alloc, number, position, stack, frames),
-        Instr::Op(code) => return operator(alloc, code, position, stack),
+        Instr::Local(number) => return told(local(alloc, number, position, stack, frames)),
+        Instr::Op(code) => return told(operator(alloc, code, position, stack)),
         Instr::WithText(op, number) => return match text_at(image, number) {
             Some(text) => operate_with(alloc, op, text, position, stack, matchers),
             None => Ok(Move::IsStuckHere),
         },
-        Instr::List(count) => return list(alloc, count, position, stack),
-        Instr::Map(count) => return made_map(alloc, count, position, stack),
+        Instr::List(count) => return told(list(alloc, count, position, stack)),
+        Instr::Map(count) => return told(map(alloc, count, position, stack)),
         Instr::AndTest(to) => test(stack, false, to, position),
         Instr::OrTest(to) => test(stack, true, to, position),
         Instr::And => join(stack, true, position),
@@ -80,7 +82,7 @@ pub fn step<'a>(
         Instr::Loop(mode, exit) => open_loop(alloc, mode, exit, position, stack, frames),
         Instr::Item => item(position, frames),
         Instr::When => when(position, stack, frames),
-        Instr::Next => return next(alloc, position, stack, frames),
+        Instr::Next => return told(next(alloc, position, stack, frames)),
         Instr::End => end(stack),
     };
     Ok(moved)
@@ -96,20 +98,15 @@ fn end(stack: &Stack<'_>) -> Move
     }
 }
 
-// A map, for which memory alone may be wanting.
-fn made_map(
-    alloc: Global,
-    count: usize,
-    position: &mut Position,
-    stack: &mut Stack<'_>,
-) -> Result<Move, RunFault>
-    requires at { position.old.at + 1 < 2 ^ 64 }
-    requires room { HasRoom stack.old }
-    ensures acts { IfOk result (λ m. LeadsTo (mapped (taken_off (count + count) [] stack.old.items) position.old.at)
-        m position.new stack.new.items) }
-    ensures room { stack.new.room ≡ stack.old.room }
+/// The move of an instruction for which memory alone may be wanting, as a step answers it.
+pub fn told(moved: Result<Move, AllocError>) -> Result<Move, RunFault>
+    ensures moved { IfOk result (λ m. moved ≡ Ok m) }
+    ensures memory { IsErrOf result RunFault.Pattern → ⊥ }
 {
-    Ok(map(alloc, count, position, stack)?)
+    match moved {
+        Ok(moved) => Ok(moved),
+        Err(error) => Err(RunFault::from(error)),
+    }
 }
 
 fn constant<'a>(
@@ -155,7 +152,7 @@ fn operator(
     code: usize,
     position: &mut Position,
     stack: &mut Stack<'_>,
-) -> Result<Move, RunFault>
+) -> Result<Move, AllocError>
     requires at { position.old.at + 1 < 2 ^ 64 }
     requires room { HasRoom stack.old }
     ensures acts { IfOk result (λ m. LeadsTo (operate_by (operator_of code) position.old.at stack.old.items)
@@ -163,7 +160,7 @@ fn operator(
     ensures room { stack.new.room ≡ stack.old.room }
 {
     match Operator::from_code(code) {
-        Some(op) => Ok(operate(alloc, op, position, stack)?),
+        Some(op) => operate(alloc, op, position, stack),
         None => Ok(Move::IsStuckHere),
     }
 }

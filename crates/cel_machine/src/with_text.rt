@@ -1,6 +1,6 @@
 //! The instruction of the operators that are given a text.
 
-ghost use Rattle.std.specs.Prelude.{◌≡◌, ◌+◌, ◌<◌, ◌^◌, IfOk, Some, option_map, slice_get};
+ghost use Rattle.std.specs.Prelude.{◌≡◌, ◌+◌, ◌<◌, ◌^◌, IfOk, IsErrOf, Some, option_map, slice_get};
 ghost use Rattle.cel_operators.specs.TextOperators.{row_with};
 ghost use Rattle.cel_code.specs.Machine.{constant_text, operate_with};
 ghost use Rattle.cel_machine.specs.Room.{HasRoom};
@@ -12,12 +12,12 @@ use crate::parts::{field, has_field};
 use crate::position::Position;
 use crate::searching::matches;
 use crate::stack::Stack;
-use crate::step::{Move, finish};
+use crate::step::{Move, finish, told};
 use cel_code::Image;
 use cel_operators::TextOperator;
 use cel_patterns::Matchers;
 use cel_value::Value;
-use std::alloc::Global;
+use std::alloc::{AllocError, Global};
 
 /// The text that a constant is, if it is one.
 pub fn text_at(image: &Image, number: usize) -> Option<&str>
@@ -42,11 +42,12 @@ pub fn operate_with(
     requires room { HasRoom stack.old }
     ensures acts { IfOk result (λ m. LeadsTo (operate_with op (Some text.now) position.old.at stack.old.items)
         m position.new stack.new.items) }
+    ensures pattern { IsErrOf result RunFault.Pattern → op ≡ TextOperator.Matches }
     ensures room { stack.new.room ≡ stack.old.room }
 {
     match op {
-        TextOperator::Select => select(alloc, text, position, stack),
-        TextOperator::Has => has(text, position, stack),
+        TextOperator::Select => told(select(alloc, text, position, stack)),
+        TextOperator::Has => told(has(text, position, stack)),
         TextOperator::Matches => search(alloc, text, position, stack, matchers),
     }
 }
@@ -56,7 +57,7 @@ fn select(
     name: &str,
     position: &mut Position,
     stack: &mut Stack<'_>,
-) -> Result<Move, RunFault>
+) -> Result<Move, AllocError>
     requires at { position.old.at + 1 < 2 ^ 64 }
     requires room { HasRoom stack.old }
     ensures acts { IfOk result (λ m. Comes (metered_one (row_with TextOperator.Select name.now) position.old.at stack.old.items)
@@ -73,7 +74,7 @@ fn select(
     Ok(position.go_on(1))
 }
 
-fn has(name: &str, position: &mut Position, stack: &mut Stack<'_>) -> Result<Move, RunFault>
+fn has(name: &str, position: &mut Position, stack: &mut Stack<'_>) -> Result<Move, AllocError>
     requires at { position.old.at + 1 < 2 ^ 64 }
     requires room { HasRoom stack.old }
     ensures acts { IfOk result (λ m. Comes (metered_one (row_with TextOperator.Has name.now) position.old.at stack.old.items)

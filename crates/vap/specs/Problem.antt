@@ -1,7 +1,8 @@
 -- How the program ends where it prints no answer.
-use Rattle.clap.specs.Values.{kind_of}
-use Rattle.clap.specs.declared.error.kind.ErrorKind.{ErrorKind}
-use Rattle.clap.specs.declared.error.kind.ErrorKind.TheVariants.{DisplayHelp, DisplayVersion}
+use Rattle.std.specs.Prelude.{if◌then◌else◌}
+use Rattle.vap_command_line.specs.Mistake.{is_answered}
+use Rattle.vap_command_line.specs.declared.mistake.Mistake.{Mistake}
+use Rattle.vap_command_line.specs.declared.mistake.Mistake.TheVariants as mistake
 use Rattle.vap_cli.specs.declared.status.Status.{Status}
 use Rattle.vap_cli.specs.declared.status.Status.TheVariants.{Done, Fault, BadCommandLine, Stream, OutOfMemory}
 use Rattle.vap_cli.specs.Status.{status_without}
@@ -9,13 +10,12 @@ use Rattle.vap_check.specs.Report.{status_without as status_unchecked}
 use Rattle.vap_replay.specs.declared.fault.ReplayError.{ReplayError}
 use Rattle.vap_replay.specs.declared.fault.ReplayError.TheVariants as replay
 use Rattle.vap.specs.declared.problem.Problem.{Problem}
-use Rattle.vap.specs.declared.problem.Problem.TheVariants.{Words, Minus, NoTask, NotText, NotOpened, Unanswered, Unchecked, Unreplayed}
+use Rattle.vap.specs.declared.problem.Problem.TheVariants.{Mistaken, NotText, NotOpened, Unanswered, Unchecked, Unreplayed}
 
--- help and the version are asked for; all else is a mistake
-abbrev pub status_of_kind : ErrorKind → Status
-status_of_kind DisplayHelp = Done
-status_of_kind DisplayVersion = Done
-status_of_kind _ = BadCommandLine
+-- how the program ends where the words ask for no task
+abbrev pub mistake_status : Mistake → Status
+mistake_status mistake.OutOfMemory = OutOfMemory
+mistake_status m = if is_answered m then Done else BadCommandLine
 
 -- how the program ends where a replay ends before its input
 abbrev pub replay_status : ReplayError → Status
@@ -26,9 +26,7 @@ replay_status replay.OutOfMemory = OutOfMemory
 
 -- the status for each problem
 abbrev pub status_of : Problem → Status
-status_of (Words error) = status_of_kind (kind_of error)
-status_of Minus = BadCommandLine
-status_of NoTask = BadCommandLine
+status_of (Mistaken m) = mistake_status m
 status_of NotText = BadCommandLine
 status_of NotOpened = Stream
 status_of (Unanswered error) = status_without error

@@ -1,15 +1,13 @@
-//! The program `vap`: the command line over the commands of vap_cli, vap_check and vap_replay.
+//! The program `vap`: what the words of its command line ask for, done by the commands of vap_cli, vap_check and vap_replay.
 //!
 //! [`problem::Problem::status`] tells how the program ends where it prints no answer.
 #![tactic(auto)]
 
 ghost use Rattle.std.specs.Prelude.{◌≤◌};
 
-mod command_line;
 mod meter;
 mod problem;
 
-use command_line::Task;
 use meter::Meter;
 use problem::Problem;
 use std::alloc::AllocError;
@@ -20,6 +18,7 @@ use std::time::Clock;
 use std::{env, fs, io};
 use vap_check::check_to;
 use vap_cli::{Counted, EvalError, Status, eval_to, note_of};
+use vap_command_line::{Task, asked};
 use vap_replay::replay_with;
 
 fn main(rt: HostRuntime) -> ExitCode {
@@ -43,7 +42,7 @@ fn obey<R: Env + Files + Input + Clock + Print + Eprint + AllocGlobal>(
     is_watched: bool,
 ) -> Result<Status, Problem> {
     let words = words(rt)?;
-    match command_line::asked(rt.alloc(), words.as_slice())? {
+    match asked(rt.alloc(), words.as_slice())? {
         Task::Eval { text } => eval(rt, text),
         Task::Check { file } => check_file(rt, file),
         Task::Replay {

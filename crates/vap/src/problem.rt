@@ -2,25 +2,21 @@
 
 ghost use Rattle.std.specs.Prelude.{◌≡◌};
 ghost use Rattle.vap_cli.specs.declared.eval.EvalError.TheVariants as failure;
-ghost use Rattle.vap.specs.Problem.{replay_status};
-ghost use Rattle.vap.specs.declared.problem.Problem.TheVariants.{Unanswered, Unchecked};
+ghost use Rattle.vap.specs.Problem.{mistake_status, replay_status};
+ghost use Rattle.vap.specs.declared.problem.Problem.TheVariants.{Mistaken, Unanswered, Unchecked};
 
-use clap::error::ErrorKind;
 use std::alloc::AllocError;
 use std::io;
 use vap_check::CheckFailure;
 use vap_cli::{EvalError, Status};
+use vap_command_line::Mistake;
 use vap_replay::ReplayError;
 
 /// Why the program prints no answer.
 #[derive(Drop)]
 pub enum Problem {
-    /// A mistake in the words, or a request for help or for the version.
-    Words(clap::Error),
-    /// A word that begins with a minus stands where the expression is asked.
-    Minus,
-    /// What the words ask for is not among them.
-    NoTask,
+    /// The words ask for no task.
+    Mistaken(Mistake),
     /// A word is not text in UTF-8.
     NotText,
     /// The file does not open.
@@ -54,13 +50,11 @@ impl From<CheckFailure> for Problem {
     }
 }
 
-impl From<clap::Error> for Problem {
-    fn from(error: clap::Error) -> Problem {
-        if error.kind() == ErrorKind::OutOfMemory {
-            Problem::Unanswered(EvalError::OutOfMemory)
-        } else {
-            Problem::Words(error)
-        }
+impl From<Mistake> for Problem {
+    ghost from_gives = { λ mistake p. p ≡ Mistaken mistake };
+
+    fn from(mistake: Mistake) -> Problem {
+        Problem::Mistaken(mistake)
     }
 }
 
@@ -92,11 +86,8 @@ impl Problem {
         ensures { result ≡ status_of self.now }
     {
         match self {
-            Problem::Words(error) => match error.kind() {
-                ErrorKind::DisplayHelp | ErrorKind::DisplayVersion => Status::Done,
-                _ => Status::BadCommandLine,
-            },
-            Problem::Minus | Problem::NoTask | Problem::NotText => Status::BadCommandLine,
+            Problem::Mistaken(mistake) => mistake_status(mistake),
+            Problem::NotText => Status::BadCommandLine,
             Problem::NotOpened => Status::Stream,
             Problem::Unanswered(error) => error.status(),
             Problem::Unchecked(error) => error.status(),
@@ -107,13 +98,12 @@ impl Problem {
     /// Prints help and the version to standard output, and what went wrong to standard error.
     pub fn print<R: Print + Eprint>(&self, rt: &R) -> io::Result<()> {
         match self {
-            Problem::Words(error) => error.print(rt),
-            Problem::Minus => bad_words(
-                rt,
-                "no flag begins like that; an expression that begins with a minus goes after `--`, or in parentheses",
-            ),
-            Problem::NoTask => bad_words(rt, "the words ask for nothing"),
-            Problem::NotText => bad_words(rt, "an argument is not text in UTF-8"),
+            Problem::Mistaken(mistake) => mistake.print(rt),
+            Problem::NotText => {
+                eprintln!(rt;
+                    "error: an argument is not text in UTF-8\n\nUsage: vap <COMMAND>\n\nFor more information, try '--help'."
+                )
+            }
             Problem::NotOpened => eprintln!(rt; "vap: the file cannot be opened"),
             Problem::Unchecked(CheckFailure::Read) => eprintln!(rt; "vap: the file cannot be read"),
             Problem::Unanswered(EvalError::Write) | Problem::Unchecked(CheckFailure::Write) => {
@@ -129,6 +119,17 @@ impl Problem {
     }
 }
 
+/// How the program ends where the words ask for no task.
+fn mistake_status(mistake: &Mistake) -> Status
+    ensures { result ≡ mistake_status mistake.now }
+{
+    match mistake {
+        Mistake::OutOfMemory => Status::OutOfMemory,
+        _ if mistake.is_answered() => Status::Done,
+        _ => Status::BadCommandLine,
+    }
+}
+
 /// How the program ends where a replay ends before its input.
 fn replay_status(error: ReplayError) -> Status
     ensures { result ≡ replay_status error }
@@ -138,8 +139,4 @@ fn replay_status(error: ReplayError) -> Status
         ReplayError::Read | ReplayError::Write => Status::Stream,
         ReplayError::OutOfMemory => Status::OutOfMemory,
     }
-}
-
-fn bad_words(rt: &impl Eprint, what: &str) -> io::Result<()> {
-    eprintln!(rt; "error: {what}\n\nUsage: vap <COMMAND>\n\nFor more information, try '--help'.")
 }

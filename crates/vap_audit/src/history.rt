@@ -1,6 +1,6 @@
 //! Histories.
 
-ghost use Rattle.std.specs.Prelude.{◌≡◌, ◌++◌, ◌∷◌, ◌<◌, [], length, slice_get, None, Some, IfErr, IfOk, MatchOption, MatchResult};
+ghost use Rattle.std.specs.Prelude.{◌≡◌, ◌↔◌, ◌++◌, ◌∷◌, ◌<◌, [], length, slice_get, None, Some, IfErr, IfOk, MatchOption, MatchResult};
 ghost use Rattle.std.specs.List.{All};
 ghost use Rattle.vap_audit.specs.Entries.{BeginWith, IsRight, IsStray, most_entries, numbers_from};
 
@@ -68,13 +68,14 @@ impl History {
         self.entries.len()
     }
 
-    /// Puts an entry last, and answers its number. Where it is refused, it comes back and nothing has changed.
+    /// Puts an entry last, and answers its number. Where it is refused, it comes back and nothing has changed; a full history is
+    /// never told as want of memory.
     pub fn append(&mut self, entry: Entry) -> Result<usize, (AuditFault, Entry)>
         requires { IsRight entry }
         ensures exact { MatchResult result
             (λ n. (self.new ≡ self.old ++ entry ∷ []) × (n ≡ length self.old) × (n < most_entries))
             (λ refused. (self.new ≡ self.old) × (refused.1 ≡ entry)) }
-        ensures full { IfErr result (λ refused. refused.0 ≡ AuditFault.AuditFull → length self.old ≡ most_entries) }
+        ensures full { IfErr result (λ refused. refused.0 ≡ AuditFault.AuditFull ↔ (length self.old ≡ most_entries)) }
     {
         let number = self.entries.len();
         if number >= MOST_ENTRIES {

@@ -9,6 +9,7 @@ use Rattle.cel_value.specs.declared.cel_type.CelType.{CelType}
 use Rattle.cel_expression.specs.Source.{Source}
 use Rattle.cel_expression.specs.Expressions.{run_of, compiled_of, estimate_at}
 use Rattle.cel_expression.specs.Faulty.{IsUnverified}
+use Rattle.cel_expression.specs.Patterns.{MayMatch}
 use Rattle.vap_fit.specs.Seen.{seen}
 use Rattle.vap_schema.specs.Schemas.{object_type_of}
 use Rattle.vap_schema.specs.declared.schema_fault.SchemaFault.{SchemaFault}
@@ -68,10 +69,11 @@ IsMadeIn d made = IsMadeFrom (get (codes "schema") d) (option_and_then as_str (g
 
 -- ---- the object
 
--- what an expression comes to where its one name holds a value
+-- what an expression comes to where its one name holds a value: where a pattern that was built is not built again, all that is
+-- told is that it gives `matches` a literal text
 abbrev pub IsRun : Source → Value → Judgement → Type 0
 IsRun s v (judgement.Misfit fault) = ⊥
-IsRun s v judgement.Pattern = Unit {0}
+IsRun s v judgement.Pattern = MayMatch s
 IsRun s v (judgement.Ran r) = run_of s (Ok v ∷ []) ≡ Some (record { outcome = r.outcome; charged = r.charged })
 
 -- a value that an object is, and what the expression comes to there

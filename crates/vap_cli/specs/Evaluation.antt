@@ -4,6 +4,7 @@ use Rattle.cel_operators.specs.Outcomes.{Outcome}
 use Rattle.cel_expression.specs.Source.{Source}
 use Rattle.cel_expression.specs.Expressions.{run_of, compiled_of}
 use Rattle.cel_expression.specs.Faulty.{IsUnverified}
+use Rattle.cel_expression.specs.Patterns.{MayMatch}
 use Rattle.vap_cli.specs.declared.answer.Refusal.{Refusal}
 use Rattle.vap_cli.specs.declared.answer.Refusal.TheVariants as refusal
 use Rattle.vap_cli.specs.declared.answer.Answer.{Answer}
@@ -26,11 +27,12 @@ pub record RunsTo (s : Source) (outcome : Outcome) : Type 0 where
 abbrev pub ComesTo : Choice → List ℕ → Outcome → Type 0
 ComesTo choice text outcome = RunsTo (source_of choice text) outcome
 
--- why a source comes to nothing: where a pattern that was built is not built again, all that is told is that it may be run
+-- why a source comes to nothing: where a pattern that was built is not built again, all that is told is that it may be run and
+-- gives `matches` a literal text
 abbrev pub IsRefusedFor : Source → Refusal → Type 0
 IsRefusedFor s (refusal.Text why) = compiled_of s ≡ Err why
 IsRefusedFor s (refusal.Unverified at) = IsUnverified s at
-IsRefusedFor s refusal.Pattern = compiled_of s ≡ Ok s
+IsRefusedFor s refusal.Pattern = (compiled_of s ≡ Ok s) × MayMatch s
 
 -- what a source comes to
 abbrev pub IsAnswerTo : Source → Answer → Type 0

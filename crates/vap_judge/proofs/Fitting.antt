@@ -37,7 +37,7 @@ five_fit : (a b c d e : CelType) (v w x y z : Outcome) → outcome_fits a (Some 
 five_fit a b c d e v w x y z one two three four five = rw one (rw two (rw three (rw four (rw five refl))))
 
 -- what all names hold, where `params` holds a value of its type
-slots_right : (t : CelType) (params : ParamsType) (h : Held) (v : Value) → IsHeldAt t h → fits v (type_of_params params) ≡ true
+pub slots_right : (t : CelType) (params : ParamsType) (h : Held) (v : Value) → IsHeldAt t h → fits v (type_of_params params) ≡ true
     → slots_fit (types_in (first_names (types_at t) params)) (slots_of h v) ≡ true
 unfolding first_names
 slots_right t params h v held fit =

@@ -1,4 +1,6 @@
 pub mod Fitting
 pub mod KeptParams
 pub mod Named
+pub mod PassedOver
+pub mod Priced
 pub mod WorkedRows

@@ -24,7 +24,7 @@ all_three true true false h = absurd cc
 all_three true false c h = absurd cc
 all_three false b c h = absurd cc
 
-same_text : (s t : List ℕ) → bytes_eq s t ≡ true → s ≡ t
+pub same_text : (s t : List ℕ) → bytes_eq s t ≡ true → s ≡ t
 same_text s t h = (bytes_eq-Decides s t).0 h
 
 names_alike : (g h v w n m : List ℕ) (ks : List Kind) → g ≡ h → v ≡ w → n ≡ m → kind_named g v n ks ≡ kind_named h w m ks

@@ -6,3 +6,5 @@ pub mod Spaces
 pub mod Judging
 pub mod Cases
 pub mod Ready
+pub mod PassedOver
+pub mod Priced

@@ -3,11 +3,11 @@ use Rattle.std.specs.Prelude.{ℕ, Bool, true, false, ◌&&◌, if◌then◌else
 use Rattle.std.specs.Str.{bytes_eq}
 use Rattle.vap_bindings.specs.declared.binding.ParamRef.{ParamRef}
 use Rattle.vap_objects.specs.Cluster.{Cluster}
-use Rattle.vap_objects.specs.OfKind.{objects_of_kind}
 use Rattle.vap_policies.specs.declared.policy.ParamKind.{ParamKind}
 use Rattle.vap_read.specs.declared.object.Object.{Object}
 use Rattle.vap_select.specs.Select.{labels_of, selects}
 use Rattle.vap_select.specs.declared.selector.Selector.{Selector}
+use Rattle.vap_set.specs.Fitted.{objects_of}
 
 -- where params are looked for: whatever their namespace, in one, or nowhere, since there should be one and is none, or the other way
 pub data Space : Type 0 where
@@ -56,4 +56,4 @@ is_param space p o = is_in space o.key.namespace && is_chosen p.name p.selector 
 
 -- the params, by namespace, then by name
 abbrev pub params_in : Space → ParamKind → ParamRef → Cluster → List Object
-params_in space k p c = filter (is_param space p) (objects_of_kind k.api_version k.kind c.objects)
+params_in space k p c = filter (is_param space p) (objects_of k c)

@@ -5,7 +5,7 @@ use Rattle.cel_operators.specs.Outcomes.{slots_fit}
 use Rattle.cel_value.specs.CelType.{fits}
 use Rattle.cel_value.specs.declared.cel_type.CelType.{CelType}
 use Rattle.cel_value.specs.declared.value.Value.{Value}
-use Rattle.vap_objects.specs.OfKind.{namespace_labels, objects_of_kind}
+use Rattle.vap_objects.specs.OfKind.{namespace_labels}
 use Rattle.vap_policies.specs.declared.policy.ParamKind.{ParamKind}
 use Rattle.vap_programs.specs.Pairs.{most, price_of}
 use Rattle.vap_programs.specs.Ready.{IsReady}
@@ -14,7 +14,7 @@ use Rattle.vap_programs.specs.declared.programs.Pair.{Pair}
 use Rattle.vap_programs.specs.declared.programs.Pair.TheVariants.{Runs, Misconfigured}
 use Rattle.vap_programs.specs.declared.programs.Programs.{Programs}
 use Rattle.vap_select.specs.Select.{lent_labels}
-use Rattle.vap_set.specs.Fitted.{Fitted}
+use Rattle.vap_set.specs.Fitted.{Fitted, objects_of}
 use Rattle.vap_set.specs.Kinds.{params_type, types_at}
 use Rattle.vap_set.specs.Ready.{IsOneOf, type_at}
 use Rattle.vap_set.specs.Sets.{Built, kinds_of}
@@ -50,7 +50,7 @@ CanJudge c k types (Misconfigured why) = Unit {0}
 
 -- params are all objects of their kind
 abbrev pub AreAllOf : Built → Fitted → Type 0
-AreAllOf b q = q.objects ≡ objects_of_kind q.kind.api_version q.kind.kind b.objects.objects
+AreAllOf b q = q.objects ≡ objects_of q.kind b.objects
 
 -- the most that is charged for so many params
 abbrev pub most_for : ℕ → ℕ

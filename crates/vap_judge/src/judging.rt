@@ -23,7 +23,9 @@ ghost use Rattle.vap_judge.specs.Judging.{both_match, misconfigured, verdict_at,
 ghost use Rattle.vap_judge.specs.Judging.{with_all, with_binding, with_bindings, with_kind, with_pair, with_params};
 ghost use Rattle.vap_judge.specs.Judging.{with_policies, with_reference, with_seen, with_space, without_params};
 ghost use Rattle.vap_judge.specs.Params.{is_param, params_in};
+ghost use Rattle.vap_judge.specs.PassedOver.{NoneIsPassedOver};
 ghost use Rattle.vap_judge.specs.Places.{kind_at};
+ghost use Rattle.vap_judge.specs.Priced.{ArePriced};
 ghost use Rattle.vap_judge.specs.Ready.{AreAllOf, CanJudge, CanRun, CanRunWith, Grows, HasRoom, IsCase, of_binding, of_policy, of_set};
 ghost use Rattle.vap_judge.specs.Shown.{findings_of, rule_of as lent_rule};
 ghost use Rattle.vap_judge.specs.Spaces.{lent_space};
@@ -586,7 +588,8 @@ fn judge_at(
 }
 
 /// The verdict of a set on a request, at the revision that is the number of the set's events. It is given up where memory is
-/// wanting, or where a pattern that was built before is not built again.
+/// wanting, or where a pattern that was built before is not built again. No policy that matches the request is passed over, and
+/// none charges more than its price for one param.
 #[tactic(auto, unfolding(crate::specs::Judging::verdict_of))]
 pub fn judge(
     alloc: Global,
@@ -594,7 +597,9 @@ pub fn judge(
     request: &Request,
     matchers: &mut Matchers,
 ) -> Result<Verdict, JudgeError>
-    ensures { IfOk result (λ verdict. verdict ≡ verdict_of set.now request.now) }
+    ensures exact { IfOk result (λ verdict. verdict ≡ verdict_of set.now request.now) }
+    ensures none_passed_over { NoneIsPassedOver set.now request.now.admission }
+    ensures priced { ArePriced set.now (kind_at (kinds_of set.now) request.now.admission) }
 {
     let admission = request.admission.get();
     if is_exempt(&admission.resource) {

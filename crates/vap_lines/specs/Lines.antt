@@ -1,8 +1,8 @@
 -- What a line is, and what is left of a reader behind it.
-use Rattle.std.specs.Prelude.{◌≡◌, ◌≢◌, ◌<◌, ◌+◌, ◌*◌, ⊤, ℕ, List, [], ◌∷◌, ◌++◌, length, Option, Some, None, if◌then◌else◌, ◌==◌}
+use Rattle.std.specs.Prelude.{◌≡◌, ◌≢◌, ◌<◌, ◌≤◌, ◌+◌, ◌*◌, ⊤, ℕ, List, [], ◌∷◌, ◌++◌, length, Option, Some, None, if◌then◌else◌, ◌==◌}
 use Rattle.std.specs.List.{All}
 use Rattle.std.specs.Io.KnownBytes.{Consumes, IsAtEnd, prepend_known}
-use Rattle.vap_lines.specs.Counted.{inner_of}
+use Rattle.vap_lines.specs.Counted.{failures_of, inner_of}
 use Rattle.vap_lines.specs.declared.counted.Counted.{Counted}
 use Rattle.vap_lines.specs.declared.lines.Ending.{Ending}
 use Rattle.vap_lines.specs.declared.lines.Ending.TheVariants.{Feed, End, TooLong}
@@ -10,6 +10,10 @@ use Rattle.vap_lines.specs.declared.lines.Ending.TheVariants.{Feed, End, TooLong
 -- the most bytes of a line, without its line feed
 abbrev pub longest_line : ℕ
 longest_line = 1_048_576
+
+-- the most reads of one reader
+abbrev pub most_reads : ℕ
+most_reads = 1_099_511_627_776
 
 -- what is read and not yet handed on, and how many reads may follow
 pub record Pending : Type 0 where
@@ -41,6 +45,23 @@ IsLine old new line TooLong = Consumes old new line × GoesOn new line
 -- the most bytes that may still come, where a read gives at most so many
 abbrev pub room : Pending → ℕ
 room pending = pending.reads * 65536 + length pending.bytes
+
+-- of the reads so many gave no byte, and each other gave one at least, by which the known bytes are fewer
+abbrev pub AllGive : ℕ → Option (List ℕ) → Option (List ℕ) → Pending → Pending → Type 0
+AllGive empty None left old new = ⊤
+AllGive empty (Some bytes) None old new = ⊥
+AllGive empty (Some bytes) (Some left) old new = length left + old.reads ≤ length bytes + new.reads + empty
+
+-- how many reads give no byte where a line ends so: the one that meets the end
+abbrev pub empty_reads : Ending → ℕ
+empty_reads End = 1
+empty_reads _ = 0
+
+-- no read is left: none failed, and each gave a byte at least
+pub record IsSpent {R : Type 0} (remaining : R → Option (List ℕ)) (input left : Counted R) (old new : Pending) : Type 0 where
+  pub none : new.reads ≡ 0
+  pub counted : failures_of left ≡ failures_of input
+  pub given : AllGive 0 (remaining (inner_of input)) (remaining (inner_of left)) old new
 
 -- the line that the end of a text ends, where one is begun
 abbrev pub last_line : List ℕ → List (List ℕ)

@@ -3,9 +3,9 @@
 ghost use Rattle.std.specs.Prelude.{◌≡◌, ◌≢◌, ◌⊎◌, ◌+◌, ◌≤◌, ◌<◌, [], length, drop, IfErr, IfOk, IsErrOf, OnErr, OnOk};
 ghost use Rattle.std.specs.List.{All};
 ghost use Rattle.std.specs.Io.KnownBytes.{Consumes, Keeps, IsAtEnd};
-ghost use Rattle.vap_lines.specs.Counted.{failures_of, failures_after, one_more};
+ghost use Rattle.vap_lines.specs.Counted.{failures_of, failures_after, inner_of, one_more};
 ghost use Rattle.vap_lines.specs.Handing.{Hands};
-ghost use Rattle.vap_lines.specs.Lines.{IsFirst, IsLine, room, unread};
+ghost use Rattle.vap_lines.specs.Lines.{AllGive, IsFirst, IsLine, IsSpent, empty_reads, room, unread};
 
 use crate::counted::Counted;
 use crate::lines::{Ending, LONGEST_LINE, LineError, append, feed_at};
@@ -57,7 +57,7 @@ impl LineReader {
 
     /// Puts the bytes of the next line into `line`, which is empty, and tells how the line ended. Where there is no line,
     /// nothing is lost: `line` then has what was taken of it. The fault is `Read` where a read failed, or where there were as
-    /// many as there may be.
+    /// many as there may be and each gave a byte: nothing is read behind the end.
     pub fn next<R: Read>(
         &mut self,
         input: &mut Counted<R>,
@@ -76,7 +76,9 @@ impl LineReader {
         ensures no_more { room self.new ≤ room self.old }
         ensures no_failure { OnOk result (failures_of input.new ≡ failures_of input.old) }
         ensures read { IsErrOf result LineError.Read → (failures_of input.new ≡ one_more (failures_of input.old))
-            ⊎ ((self.new.reads ≡ 0) × (failures_of input.new ≡ failures_of input.old)) }
+            ⊎ IsSpent R.remaining input.old input.new self.old self.new }
+        ensures given { IfOk result (λ ending. AllGive (empty_reads ending) (R.remaining (inner_of input.old))
+            (R.remaining (inner_of input.new)) self.old self.new) }
         ensures memory { IsErrOf result LineError.OutOfMemory → failures_of input.new ≡ failures_of input.old }
     {
         loop {

@@ -8,18 +8,19 @@ use Rattle.vap_lines.specs.declared.counted.Counted.{Counted}
 use Rattle.vap_lines.specs.declared.lines.Ending.{Ending}
 use Rattle.vap_lines.specs.declared.lines.Ending.TheVariants.{Feed, End, TooLong}
 use Rattle.vap_replay.specs.Lines.{Reads}
-use Rattle.vap_replay.specs.Moves.{Advances, RefusesAt, RefusesBytes, RefusesNext, Takes, lines_ended}
+use Rattle.vap_replay.specs.Moves.{Advances, IsReadAs, RefusesAt, RefusesBytes, RefusesNext, Takes, Waits}
 use Rattle.vap_replay.specs.Sessions.{sofar_of}
 use Rattle.vap_replay.specs.Streams.{Stops}
 use Rattle.vap_replay.specs.declared.fault.LineFault.{LineFault}
 use Rattle.vap_replay.specs.declared.fault.LineFault.TheVariants as fault
 use Rattle.vap_replay.specs.declared.line.Line.{Line}
-use Rattle.vap_replay.specs.declared.line.Line.TheVariants.{Refused}
+use Rattle.vap_replay.specs.declared.line.Line.TheVariants.{Asks, Refused}
 use Rattle.vap_replay.specs.declared.session.Session.{Session}
 use Rattle.vap_replay.proofs.Choosing.{agrees_itself, choices_of}
 use Rattle.vap_replay.proofs.Growth.{goes_on}
 use Rattle.vap_replay.proofs.Taking.{not_taken, one_line, one_taken}
 use Rattle.vap_replay.proofs.Told.{appends_none}
+use Rattle.vap_replay.proofs.Unjudged.{read_as, waits_as}
 
 -- where a line ended at the end of a text, nothing is left
 pub at_end_of : (ending : Ending) (old new : Option (List ℕ)) (line : List ℕ) → IsLine old new line ending → ending ≡ End → IsAtEnd new
@@ -118,9 +119,14 @@ ended_of TooLong P short at_end not = absurd (short refl)
 
 -- the bytes of a line that is taken, where they are some
 pub one_each : {A E : Type 0} (r : Result A E) (ending : Ending) (bytes : List ℕ) (line : Line) (old new : Session)
-    → (ending ≡ End → 0 < length bytes) → Reads bytes line → OnOk r (Takes line old new) → OnOk r (Advances ending bytes old new)
-one_each (Ok x) ending bytes line old new some read takes = one_taken ending bytes line old new some read takes
-one_each (Err e) ending bytes line old new some read takes = tt
+    → (ending ≡ End → 0 < length bytes) → ending ≢ TooLong → Reads bytes line → OnOk r (Takes line old new)
+    → OnOk r (new.group.items ≢ [] → Waits (λ l. line ≡ l) old new) → OnOk r (Advances ending bytes old new)
+one_each (Ok x) ending bytes line old new some short read takes waits =
+    let r : Result ℕ ℕ = Ok 0 in
+    one_taken ending bytes line old new some read takes
+    (waits_as r (λ l. line ≡ l) (IsReadAs ending bytes) old new
+    (λ request is. read_as ending bytes line (Asks request) (one_line ending bytes some) short read is) waits)
+one_each (Err e) ending bytes line old new some short read takes waits = tt
 
 -- the same of bytes that are refused
 pub one_refused : {W : Type 0} (contents : W → Option (List ℕ)) (ending : Ending) (bytes : List ℕ) (line : Line) (session : Session)

@@ -1,6 +1,6 @@
 -- What a line that is taken or refused comes to.
-use Rattle.std.proofs.Common.{◌≡◌, ℕ, ◌+◌, ◌<◌, Bool, true, false, List, [], ◌∷◌, ◌++◌, length, Result, Ok, Err, refl, sym, ap, ◌∙◌}
-use Rattle.std.proofs.Common.{append-nil, nat_lt, suc, arith}
+use Rattle.std.proofs.Common.{◌≡◌, ◌≢◌, ℕ, ◌+◌, ◌<◌, Bool, true, false, List, [], ◌∷◌, ◌++◌, length, Result, Ok, Err, refl, sym, ap, ◌∙◌}
+use Rattle.std.proofs.Common.{append-nil, arith}
 use Rattle.std.specs.Prelude.{if◌then◌else◌, Option}
 use Rattle.std.specs.Io.KnownBytes.{Appends}
 use Rattle.std.proofs.lemmas.Bool.{lt-ltb, le-ltb, false≢true}
@@ -8,7 +8,7 @@ use Rattle.vap_read.specs.declared.event.Event.{Event}
 use Rattle.vap_request.specs.declared.request.Request.{Request}
 use Rattle.vap_watch.specs.Given.{Choice, takes}
 use Rattle.vap_watch.specs.Logs.{objects_of, publication}
-use Rattle.vap_watch.specs.Places.{Position, Publishes, at, most_events}
+use Rattle.vap_watch.specs.Places.{Position, most_events}
 use Rattle.vap_watch.specs.declared.log.Logged.{Logged}
 use Rattle.vap_watch.specs.declared.fault.PublishError.{PublishError}
 use Rattle.vap_watch.specs.declared.fault.PublishError.TheVariants as publishing
@@ -21,19 +21,19 @@ use Rattle.vap_lines.specs.declared.lines.Ending.TheVariants.{Feed, End, TooLong
 use Rattle.vap_audit.specs.Entries.{most_entries}
 use Rattle.vap_audit.specs.declared.entry.Entry.{Entry}
 use Rattle.vap_replay.specs.Lines.{Reads}
-use Rattle.vap_replay.specs.Moves.{Advances, Takes, Writes, after_lines, and_then, lines_ended}
+use Rattle.vap_replay.specs.Moves.{Advances, IsReadAs, Takes, Waits, Writes, after_lines, and_then, lines_ended}
 use Rattle.vap_replay.specs.Replay.{Choices, Sofar, after_event, after_line, after_review, answers_text, entry_of}
-use Rattle.vap_replay.specs.Sessions.{Agrees, RefusesEvent, TakesEvent, TakesReview, kept_at, sofar_of, unpublished, unstaged, waiting_entries}
+use Rattle.vap_replay.specs.Sessions.{Agrees, RefusesEvent, TakesEvent, TakesReview, sofar_of, unpublished, unstaged, waiting_entries}
 use Rattle.vap_replay.specs.Streams.{is_of_the_lines}
 use Rattle.vap_replay.specs.declared.fault.LineFault.{LineFault}
 use Rattle.vap_replay.specs.declared.fault.LineFault.TheVariants as fault
-use Rattle.vap_replay.specs.declared.fault.ReplayError.{ReplayError}
 use Rattle.vap_replay.specs.declared.fault.ReplayError.TheVariants.{Line}
 use Rattle.vap_replay.specs.declared.line.Line.{Line as LineOf}
-use Rattle.vap_replay.specs.declared.line.Line.TheVariants.{Skipped, Happens, Asks, Refused}
+use Rattle.vap_replay.specs.declared.line.Line.TheVariants.{Happens, Asks, Refused}
 use Rattle.vap_replay.specs.declared.session.Session.{Session}
 use Rattle.vap_replay.proofs.Choosing.{agrees_itself, choices_of, kept_last}
 use Rattle.vap_replay.proofs.Told.{appends_none}
+use Rattle.vap_replay.proofs.Unjudged.{same_waits}
 
 abbrev so_far : ℕ → List Logged → List Entry → Result Sofar LineFault
 so_far lines log entries = Ok (record { lines = lines; log = log; entries = entries })
@@ -152,17 +152,26 @@ one_line End (x ∷ bytes) some = refl
 
 -- the bytes of a line that is taken
 pub one_taken : (ending : Ending) (bytes : List ℕ) (line : LineOf) (old new : Session) → (ending ≡ End → 0 < length bytes)
-    → Reads bytes line → Takes line old new → Advances ending bytes old new
-one_taken ending bytes line old new some read takes = record {
+    → Reads bytes line → Takes line old new → (new.group.items ≢ [] → Waits (IsReadAs ending bytes) old new)
+    → Advances ending bytes old new
+one_taken ending bytes line old new some read takes waits = record {
   lines = line ∷ [];
   read = rw (one_line ending bytes some) (read, tt);
   taken = λ choices agrees.
       ap (λ (r : Result Sofar LineFault). and_then (λ t. after_lines choices [] t) r) (takes choices agrees);
+  waiting = waits;
 }
 
 -- the empty end of an input is no line
 pub none_taken : (bytes : List ℕ) (old new : Session) → length bytes ≡ 0 → new ≡ old → Advances End bytes old new
-none_taken [] old new none same = record { lines = []; read = tt; taken = λ choices agrees. ap (λ (s : Session). Ok (sofar_of s)) (sym same) }
+none_taken [] old new none same = record {
+  lines = [];
+  read = tt;
+  taken = λ choices agrees. ap (λ (s : Session). Ok (sofar_of s)) (sym same);
+  waiting =
+      same_waits (IsReadAs End []) old new (ap (λ (s : Session). s.writer) same) (ap (λ (s : Session). s.history) same)
+      (ap (λ (s : Session). s.group) same) (ap (λ (s : Session). s.first) same);
+}
 none_taken (x ∷ bytes) old new none same = cc
 
 -- a line that is refused is not taken

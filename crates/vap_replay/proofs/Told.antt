@@ -1,7 +1,7 @@
 -- What is written, told of the lines of the whole text.
 use Rattle.std.proofs.Common.{◌≡◌, ◌≢◌, ℕ, ◌+◌, Bool, true, false, List, [], ◌∷◌, ◌++◌, length, map, flat_map, take, drop, Option, None, Some}
-use Rattle.std.proofs.Common.{Result, Ok, Err, refl, sym, ap, ◌∙◌, append-nil, append_assoc, suc, arith}
-use Rattle.std.specs.Prelude.{⊤, ◌&&◌, if◌then◌else◌, is_none, IfErr, IfSome, OnOk}
+use Rattle.std.proofs.Common.{Result, Ok, Err, ◌⊎◌, inl, inr, refl, sym, ap, ◌∙◌, append-nil, append_assoc, suc, arith}
+use Rattle.std.specs.Prelude.{⊤, IfErr, IfSome, OnOk}
 use Rattle.std.specs.Io.KnownBytes.{Appends, Keeps, IsAtEnd, prepend_known}
 use Rattle.std.proofs.Math.Seq.{take-append_seam, take-append-add, take-length}
 use Rattle.std.proofs.lemmas.Bool.{false≢true}
@@ -11,24 +11,28 @@ use Rattle.vap_lines.specs.Lines.{IsFirstOf, lines_of}
 use Rattle.vap_lines.specs.declared.counted.Counted.{Counted}
 use Rattle.vap_lines.specs.declared.lines.Ending.{Ending}
 use Rattle.vap_lines.specs.declared.lines.Ending.TheVariants.{Feed, End, TooLong}
+use Rattle.vap_request.specs.declared.request.Request.{Request}
 use Rattle.vap_watch.specs.Places.{Position}
 use Rattle.vap_watch.specs.declared.log.Logged.{Logged}
 use Rattle.vap_audit.specs.declared.entry.Entry.{Entry}
 use Rattle.vap_replay.specs.Lines.{EachReads, Reads}
-use Rattle.vap_replay.specs.Moves.{Advances, Reaches, RefusesAt, RefusesNext, StopsAt, TakesNext, Writes, after_lines, lines_ended}
-use Rattle.vap_replay.specs.Replay.{Choices, Refusal, Replayed, Sofar, after_line, answer_line, answers_text, audit_line, audit_lines, audit_where}
-use Rattle.vap_replay.specs.Replay.{beginning, behind, replay_from, replay_of, replayed, text_of, told_lines}
-use Rattle.vap_replay.specs.Sessions.{Agrees, Answered, IsOpening, group_entries, sofar_of, waiting_entries}
-use Rattle.vap_replay.specs.Streams.{Refuses, Replays, Stops}
+use Rattle.vap_replay.specs.Moves.{Advances, BeginsWith, IsRead, IsReadAs, IsUnjudged, IsUnpublished, Reaches, RefusesAt, RefusesNext}
+use Rattle.vap_replay.specs.Moves.{StopsAt, TakesNext, Waits, Writes, after_lines, lines_ended}
+use Rattle.vap_replay.specs.Replay.{Choices, Refusal, Replayed, Sofar, answer_line, answers_text, audit_line, audit_lines, audit_where}
+use Rattle.vap_replay.specs.Replay.{beginning, behind, replay_from, replayed, text_of, told_lines}
+use Rattle.vap_replay.specs.Sessions.{Agrees, Answered, IsOpening, TellsGroup, group_entries, sofar_of, waiting_entries}
+use Rattle.vap_replay.specs.Streams.{Comes, IsUnansweredAt, IsUnverifiedAt, Refuses, Replays, Stops}
 use Rattle.vap_replay.specs.declared.fault.LineFault.{LineFault}
 use Rattle.vap_replay.specs.declared.fault.ReplayError.{ReplayError}
-use Rattle.vap_replay.specs.declared.fault.ReplayError.TheVariants.{Write}
+use Rattle.vap_replay.specs.declared.fault.ReplayError.TheVariants.{Write, Line as AtLine}
 use Rattle.vap_replay.specs.declared.line.Line.{Line}
+use Rattle.vap_replay.specs.declared.line.Line.TheVariants.{Happens, Asks}
 use Rattle.vap_replay.specs.declared.session.Session.{Session}
 use Rattle.vap_replay.proofs.Choosing.{agrees_itself, agrees_start, choices_of}
 use Rattle.vap_replay.proofs.Groups.{answers_more}
 use Rattle.vap_replay.proofs.Growth.{lines_counted, log_goes_on}
 use Rattle.vap_replay.proofs.Steps.{reads_more, replayed_behind, replayed_whole, taken_more}
+use Rattle.vap_replay.proofs.Unjudged.{first_none, first_stays}
 
 -- ---- known bytes
 
@@ -239,11 +243,28 @@ none_waiting session none =
 reached_same : (bytes front : List (List ℕ)) (session : Session) → bytes ≡ front → Reaches front session → Reaches bytes session
 reached_same bytes front session e h = rw e h
 
+-- where reviews wait, the first of them stands in these lines, and so far is the replay before it
+pub record WaitsIn (front : List (List ℕ)) (session : Session) : Type 0 where
+  pub before : List (List ℕ)
+  pub bytes : List ℕ
+  pub others : List (List ℕ)
+  pub split : front ≡ before ++ bytes ∷ others
+  pub lines : List Line
+  pub read : EachReads before lines
+  pub request : Request
+  pub asks : Reads bytes (Asks request)
+  pub numbered : session.first ≡ length lines + 1
+  pub far : Sofar
+  pub log : far.log ≡ session.writer.published
+  pub entries : far.entries ≡ session.history
+  pub taken : (choices : Choices) → Agrees choices session.writer.published → after_lines choices lines beginning ≡ Ok far
+
 -- the lines in front of what is left were taken
 pub record TakenUpTo (all left : List ℕ) (session : Session) : Type 0 where
   pub front : List (List ℕ)
   pub split : lines_of all ≡ front ++ lines_of left
   pub reached : Reaches front session
+  pub waiting : session.group.items ≢ [] → WaitsIn front session
 
 -- the same where what is left is known
 abbrev pub Taken : Option (List ℕ) → Option (List ℕ) → Session → Type 0
@@ -261,6 +282,7 @@ opened (Some all) (Some left) session same opening =
       front = [];
       split = ap (λ (l : List ℕ). lines_of l) (sym kept);
       reached = record { lines = []; read = tt; taken = λ choices agrees. ap (λ (s : Sofar). Ok s) (sym opening.sofar) };
+      waiting = λ some. absurd (some opening.none);
     }
 
 -- the line of what ended so, and the lines behind it
@@ -274,6 +296,68 @@ next_lines End text left (x ∷ bytes) first done short =
     let none : left ≡ [] = done refl in
     first ∙ ap (λ (l : List ℕ). (x ∷ bytes) ∷ lines_of l) (sym none)
 next_lines TooLong text left bytes first done short = absurd (short refl)
+
+-- as many lines were taken as are counted
+reached_counted : (front : List (List ℕ)) (session : Session) (there : Reaches front session) → session.lines ≡ length there.lines
+reached_counted front session there =
+    let choices : Choices = choices_of session.writer.published in
+    let taken : after_lines choices there.lines beginning ≡ Ok (sofar_of session) =
+    there.taken choices (agrees_itself session.writer.published) in
+    omega (arith, lines_counted choices there.lines beginning (sofar_of session) taken)
+
+none_or_some : (group : List Request) → (group ≡ []) ⊎ (group ≢ [])
+none_or_some [] = inl refl
+none_or_some (r ∷ group) = inr (λ none. cc)
+
+-- the first review that waits stands in the lines, with one line more
+waits_next : (ending : Ending) (bytes : List ℕ) (front : List (List ℕ)) (old new : Session) → Reaches front old
+    → (old.group.items ≢ [] → WaitsIn front old) → Waits (IsReadAs ending bytes) old new
+    → WaitsIn (front ++ lines_ended ending bytes) new
+waits_next ending bytes front old new there waiting w = at (none_or_some old.group.items)
+  where
+    seen : (choices : Choices) → Agrees choices new.writer.published → Agrees choices old.writer.published
+    seen choices agrees = agrees_same choices old.writer.published new.writer.published (sym w.log) agrees
+
+    at : (old.group.items ≡ []) ⊎ (old.group.items ≢ []) → WaitsIn (front ++ lines_ended ending bytes) new
+    at (inl none) =
+        let (request, asked) = w.review none in
+        let zero : length old.group.items ≡ 0 = ap (λ (l : List Request). length l) none in
+        record {
+          before = front;
+          bytes = bytes;
+          others = [];
+          split = ap (λ (l : List (List ℕ)). front ++ l) asked.one;
+          lines = there.lines;
+          read = there.read;
+          request = request;
+          asks = asked.read;
+          numbered =
+              w.first ∙ (first_none old.group.items old.first (old.lines + 1) zero
+              ∙ ap (λ (n : ℕ). n + 1) (reached_counted front old there));
+          far = sofar_of old;
+          log = sym w.log;
+          entries = none_waiting old none ∙ sym w.history;
+          taken = λ choices agrees. there.taken choices (seen choices agrees);
+        }
+    at (inr some) =
+        let on : WaitsIn front old = waiting some in
+        record {
+          before = on.before;
+          bytes = on.bytes;
+          others = on.others ++ lines_ended ending bytes;
+          split =
+              ap (λ (l : List (List ℕ)). l ++ lines_ended ending bytes) on.split
+              ∙ append_assoc on.before (on.bytes ∷ on.others) (lines_ended ending bytes);
+          lines = on.lines;
+          read = on.read;
+          request = on.request;
+          asks = on.asks;
+          numbered = w.first ∙ (first_stays old.group.items old.first (old.lines + 1) some ∙ on.numbered);
+          far = on.far;
+          log = on.log ∙ sym w.log;
+          entries = on.entries ∙ sym w.history;
+          taken = λ choices agrees. on.taken choices (seen choices agrees);
+        }
 
 -- one line more was taken
 pub taken_next : (ending : Ending) (all text left : Option (List ℕ)) (old new : Session) → Taken all text old
@@ -290,6 +374,7 @@ taken_next ending (Some all) (Some text) (Some left) old new there next =
           there.split ∙ (ap (λ (l : List (List ℕ)). there.front ++ l) lines
           ∙ sym (append_assoc there.front (lines_ended ending next.bytes) (lines_of left)));
       reached = advanced ending next.bytes there.front old new there.reached next.advances;
+      waiting = λ some. waits_next ending next.bytes there.front old new there.reached there.waiting (next.advances.waiting some);
     }
 
 -- some answers more are written
@@ -313,6 +398,130 @@ refused_next contents audit (Some all) None session start before after number wh
 refused_next contents audit (Some all) (Some text) session start before after number why there written next =
     refused_at contents audit all there.front next.first next.others session next.line start before after number why
     (there.split ∙ ap (λ (l : List (List ℕ)). there.front ++ l) next.split) there.reached next.read next.refused written
+
+-- a line comes behind those that were taken
+comes_at : (all : List ℕ) (front : List (List ℕ)) (first : List ℕ) (others : List (List ℕ)) (choices : Choices) (lines : List Line)
+    (line : Line) (far : Sofar) (start end : Option (List ℕ)) (number : ℕ) → lines_of all ≡ front ++ first ∷ others
+    → EachReads front lines → Reads first line → number ≡ length lines + 1 → after_lines choices lines beginning ≡ Ok far
+    → Appends start end (answers_text far.entries) → Comes all start end number line far
+comes_at all front first others choices lines line far start end number split each read numbered taken written =
+    let last : number ≡ length front + 1 = numbered ∙ ap (λ n. n + 1) (sym (read_length front lines each)) in
+    record {
+      choices = choices;
+      lines = lines;
+      numbered = numbered;
+      read =
+          reads_same (take number (lines_of all)) (front ++ first ∷ []) (lines ++ line ∷ [])
+          (ap (λ (l : List (List ℕ)). take number l) split ∙ take_one_more number front first others last)
+          (reads_more front (first ∷ []) lines (line ∷ []) each (read, tt));
+      taken = taken;
+      written = written;
+    }
+
+-- the first review that waits is the first that is not answered
+waiting_unanswered : (all : List ℕ) (front rest : List (List ℕ)) (session : Session) (start done : Option (List ℕ)) (number : ℕ)
+    → lines_of all ≡ front ++ rest → WaitsIn front session → number ≡ session.first
+    → Appends start done (answers_text session.history) → IsUnansweredAt all start done number
+waiting_unanswered all front rest session start done number split on numbered written =
+    let choices : Choices = choices_of session.writer.published in
+    let whole : lines_of all ≡ on.before ++ on.bytes ∷ (on.others ++ rest) =
+    split ∙ (ap (λ (l : List (List ℕ)). l ++ rest) on.split ∙ append_assoc on.before (on.bytes ∷ on.others) rest) in
+    record {
+      request = on.request;
+      before = on.far;
+      comes =
+          comes_at all on.before on.bytes (on.others ++ rest) choices on.lines (Asks on.request) on.far start done number whole on.read
+          on.asks (numbered ∙ on.numbered) (on.taken choices (agrees_itself session.writer.published))
+          (appends_same start done (answers_text on.far.entries) (answers_text session.history)
+          (ap (λ (es : List Entry). answers_text es) on.entries) written);
+    }
+
+-- the group that waits with the next line is not judged
+unanswered_at : {W : Type 0} (contents : W → Option (List ℕ)) (all text : List ℕ) (session : Session) (start : Option (List ℕ))
+    (before after : Counted W) (number : ℕ) → TakenUpTo all text session
+    → Appends start (contents (inner_of before)) (answers_text session.history)
+    → IsUnjudged (BeginsWith text) session before after number → IsUnansweredAt all start (contents (inner_of after)) number
+unanswered_at contents all text session start before after number there written un = at (none_or_some session.group.items)
+  where
+    same : Appends start (contents (inner_of after)) (answers_text session.history)
+    same = rw un.unwritten written
+
+    at : (session.group.items ≡ []) ⊎ (session.group.items ≢ []) → IsUnansweredAt all start (contents (inner_of after)) number
+    at (inl none) =
+        let (request, asked) = un.review none in
+        let zero : length session.group.items ≡ 0 = ap (λ (l : List Request). length l) none in
+        let choices : Choices = choices_of session.writer.published in
+        let entries : (sofar_of session).entries ≡ session.history = none_waiting session none in
+        record {
+          request = request;
+          before = sofar_of session;
+          comes =
+              comes_at all there.front asked.first asked.others choices there.reached.lines (Asks request) (sofar_of session) start
+              (contents (inner_of after)) number
+              (there.split ∙ ap (λ (l : List (List ℕ)). there.front ++ l) asked.split) there.reached.read asked.read
+              (un.numbered ∙ (first_none session.group.items session.first (session.lines + 1) zero
+              ∙ ap (λ (n : ℕ). n + 1) (reached_counted there.front session there.reached)))
+              (there.reached.taken choices (agrees_itself session.writer.published))
+              (appends_same start (contents (inner_of after)) (answers_text (sofar_of session).entries)
+              (answers_text session.history) (ap (λ (es : List Entry). answers_text es) entries) same);
+        }
+    at (inr some) =
+        waiting_unanswered all there.front (lines_of text) session start (contents (inner_of after)) number there.split
+        (there.waiting some) (un.numbered ∙ first_stays session.group.items session.first (session.lines + 1) some) same
+
+pub unanswered_next : {W : Type 0} (contents : W → Option (List ℕ)) (all text : Option (List ℕ)) (session : Session)
+    (start : Option (List ℕ)) (before after : Counted W) (number : ℕ) → Taken all text session
+    → Appends start (contents (inner_of before)) (answers_text session.history)
+    → IfSome text (λ left. IsUnjudged (BeginsWith left) session before after number)
+    → IfSome all (λ bytes. IsUnansweredAt bytes start (contents (inner_of after)) number)
+unanswered_next contents None text session start before after number there written un = tt
+unanswered_next contents (Some all) None session start before after number there written un = absurd there
+unanswered_next contents (Some all) (Some text) session start before after number there written un =
+    unanswered_at contents all text session start before after number there written un
+
+-- where a line is told, no write has failed, and nothing is written
+pub told_unwritten : {A W : Type 0} (r : Result A ReplayError) (before after : Counted W) (number : ℕ) (why : LineFault)
+    → r ≡ Err (AtLine number why) → IfErr r (λ error. error ≢ Write → after ≡ before) → after ≡ before
+told_unwritten (Ok x) before after number why is at = cc
+told_unwritten (Err e) before after number why is at = at (λ same. cc)
+
+-- the group that waits at the end is not judged
+pub unanswered_last : {W : Type 0} (contents : W → Option (List ℕ)) (all text : Option (List ℕ)) (session : Session)
+    (start : Option (List ℕ)) (before after : Counted W) (number : ℕ) (why : LineFault) → Taken all text session
+    → Appends start (contents (inner_of before)) (answers_text session.history) → TellsGroup session number why → after ≡ before
+    → IfSome all (λ bytes. IsUnansweredAt bytes start (contents (inner_of after)) number)
+unanswered_last contents None text session start before after number why there written tells same = tt
+unanswered_last contents (Some all) None session start before after number why there written tells same = absurd there
+unanswered_last contents (Some all) (Some text) session start before after number why there written tells same =
+    waiting_unanswered all there.front (lines_of text) session start (contents (inner_of after)) number there.split
+    (there.waiting tells.waiting) tells.numbered (rw same written)
+
+-- the event of the next line is not published
+pub unverified_next : {W : Type 0} (contents : W → Option (List ℕ)) (all text : Option (List ℕ)) (session : Session)
+    (start : Option (List ℕ)) (before after : Counted W) (number : ℕ) → Taken all text session
+    → Appends start (contents (inner_of before)) (answers_text session.history)
+    → IfSome text (λ left. IsUnpublished contents (BeginsWith left) session before after number)
+    → IfSome all (λ bytes. IsUnverifiedAt bytes start (contents (inner_of after)) number)
+unverified_next contents None text session start before after number there written un = tt
+unverified_next contents (Some all) None session start before after number there written un = absurd there
+unverified_next contents (Some all) (Some text) session start before after number there written un =
+    let choices : Choices = choices_of session.writer.published in
+    record {
+      event = un.event;
+      before = sofar_of session;
+      comes =
+          comes_at all there.front un.line.first un.line.others choices there.reached.lines (Happens un.event) (sofar_of session) start
+          (contents (inner_of after)) number
+          (there.split ∙ ap (λ (l : List (List ℕ)). there.front ++ l) un.line.split) there.reached.read un.line.read
+          (un.numbered ∙ ap (λ (n : ℕ). n + 1) (reached_counted there.front session there.reached))
+          (there.reached.taken choices (agrees_itself session.writer.published))
+          (appends_same start (contents (inner_of after)) (answers_text (sofar_of session).entries)
+          (answers_text session.history ++ answers_text (waiting_entries session))
+          (answers_more session.history (waiting_entries session))
+          (appends_more start (contents (inner_of before)) (contents (inner_of after)) (answers_text session.history)
+          (answers_text (waiting_entries session)) written un.written));
+      unverified = un.unverified;
+    }
 
 -- the replay stops behind what was taken
 pub stopped_next : {W : Type 0} (contents : W → Option (List ℕ)) (audit : Bool) (all text : Option (List ℕ)) (session : Session)
@@ -347,6 +556,29 @@ answered_same old new done =
     ap (λ (n : ℕ). so_far n new.writer.published (sofar_of new).entries) done.lines
     ∙ (ap (λ (w : Position). so_far old.lines w.published (sofar_of new).entries) done.log
     ∙ ap (λ (es : List Entry). so_far old.lines old.writer.published es) (none ∙ done.entries))
+
+-- the input is read to its end, and the last group is answered
+pub read_last : {A E R W : Type 0} (r : Result A E) (remaining : R → Option (List ℕ)) (contents : W → Option (List ℕ))
+    (input left : Counted R) (pending : List ℕ) (output before after : Counted W) (old new : Session)
+    → Taken (remaining (inner_of input)) (prepend_known pending (remaining (inner_of left))) old
+    → IsAtEnd (prepend_known pending (remaining (inner_of left)))
+    → Appends (contents (inner_of output)) (contents (inner_of before)) (answers_text old.history) → OnOk r (Answered old new)
+    → OnOk r (Appends (contents (inner_of before)) (contents (inner_of after)) (answers_text (waiting_entries old)))
+    → OnOk r (IsRead remaining contents input output left after new)
+read_last (Ok x) remaining contents input left pending output before after old new there done written answered more = record {
+  at_end = rest_at_end pending (remaining (inner_of left)) done;
+  whole =
+      taken_all (remaining (inner_of input)) (prepend_known pending (remaining (inner_of left))) old new there done
+      (answered_same old new answered);
+  none = answered.none;
+  written =
+      appends_same (contents (inner_of output)) (contents (inner_of after)) (answers_text new.history)
+      (answers_text old.history ++ answers_text (waiting_entries old))
+      (ap (λ (es : List Entry). answers_text es) answered.entries ∙ answers_more old.history (waiting_entries old))
+      (appends_more (contents (inner_of output)) (contents (inner_of before)) (contents (inner_of after)) (answers_text old.history)
+      (answers_text (waiting_entries old)) written more);
+}
+read_last (Err e) remaining contents input left pending output before after old new there done written answered more = tt
 
 -- ---- the end
 

@@ -5,17 +5,21 @@ use Rattle.vap_lines.specs.Counted.{failures_of, inner_of, one_more}
 use Rattle.vap_lines.specs.Lines.{IsFirst, lines_of}
 use Rattle.vap_lines.specs.declared.counted.Counted.{Counted}
 use Rattle.vap_lines.specs.declared.lines.Ending.{Ending}
-use Rattle.vap_lines.specs.declared.lines.Ending.TheVariants.{Feed, End, TooLong}
+use Rattle.vap_lines.specs.declared.lines.Ending.TheVariants.{End, TooLong}
+use Rattle.vap_read.specs.declared.event.Event.{Event}
+use Rattle.vap_request.specs.declared.request.Request.{Request}
+use Rattle.vap_watch.specs.Given.{AreUnverified}
+use Rattle.vap_watch.specs.Logs.{objects_after, objects_of}
 use Rattle.vap_audit.specs.declared.entry.Entry.{Entry}
 use Rattle.vap_replay.specs.Lines.{EachReads, Reads}
 use Rattle.vap_replay.specs.Replay.{Choices, Sofar, after_line, answers_text, beginning}
-use Rattle.vap_replay.specs.Sessions.{Agrees, sofar_of, waiting_entries}
+use Rattle.vap_replay.specs.Sessions.{Agrees, first_with, sofar_of, waiting_entries}
 use Rattle.vap_replay.specs.declared.fault.LineFault.{LineFault}
 use Rattle.vap_replay.specs.declared.fault.LineFault.TheVariants as fault
 use Rattle.vap_replay.specs.declared.fault.ReplayError.{ReplayError}
 use Rattle.vap_replay.specs.declared.fault.ReplayError.TheVariants.{Write}
 use Rattle.vap_replay.specs.declared.line.Line.{Line}
-use Rattle.vap_replay.specs.declared.line.Line.TheVariants.{Refused}
+use Rattle.vap_replay.specs.declared.line.Line.TheVariants.{Happens, Asks, Refused}
 use Rattle.vap_replay.specs.declared.session.Session.{Session}
 
 -- what follows lines that were taken
@@ -44,11 +48,48 @@ abbrev pub Takes : Line → Session → Session → Type 0
 Takes line old new =
     (choices : Choices) → Agrees choices new.writer.published → after_line choices line (sofar_of old) ≡ Ok (sofar_of new)
 
+-- reviews wait behind a line: nothing was published or answered with it, and the first of them waited before it or is the line's
+pub record Waits (Is : Line → Type 0) (old new : Session) : Type 0 where
+  pub log : new.writer.published ≡ old.writer.published
+  pub history : new.history ≡ old.history
+  pub first : new.first ≡ first_with old.group.items old.first (old.lines + 1)
+  pub review : old.group.items ≡ [] → (request : Request) × Is (Asks request)
+
+-- the reviews that wait with the line are not judged, which is told at the first of them, and nothing is written
+pub record IsUnjudged {W : Type 0} (Is : Line → Type 0) (old : Session) (before after : Counted W) (number : ℕ) : Type 0 where
+  pub unwritten : after ≡ before
+  pub numbered : number ≡ first_with old.group.items old.first (old.lines + 1)
+  pub review : old.group.items ≡ [] → (request : Request) × Is (Asks request)
+
+-- the line's event is not published: of the objects behind it the verifier refuses an image. The answers to the reviews before it
+-- are written
+pub record IsUnpublished {W : Type 0} (contents : W → Option (List ℕ)) (Is : Line → Type 0) (old : Session) (before after : Counted W)
+    (number : ℕ) : Type 0 where
+  pub event : Event
+  pub line : Is (Happens event)
+  pub numbered : number ≡ old.lines + 1
+  pub unverified : AreUnverified (objects_after (objects_of old.writer.published) (event ∷ []))
+  pub written : Appends (contents (inner_of before)) (contents (inner_of after)) (answers_text (waiting_entries old))
+
+-- the bytes of a line, which ended so, are read as this one
+pub record IsReadAs (ending : Ending) (bytes : List ℕ) (line : Line) : Type 0 where
+  pub one : lines_ended ending bytes ≡ bytes ∷ []
+  pub short : ending ≢ TooLong
+  pub read : Reads bytes line
+
+-- the first line of a text is read as this one
+pub record BeginsWith (text : List ℕ) (line : Line) : Type 0 where
+  pub first : List ℕ
+  pub others : List (List ℕ)
+  pub split : lines_of text ≡ first ∷ others
+  pub read : Reads first line
+
 -- some bytes of lines were taken
 pub record Advances (ending : Ending) (bytes : List ℕ) (old new : Session) : Type 0 where
   pub lines : List Line
   pub read : EachReads (lines_ended ending bytes) lines
   pub taken : (choices : Choices) → Agrees choices new.writer.published → after_lines choices lines (sofar_of old) ≡ Ok (sofar_of new)
+  pub waiting : new.group.items ≢ [] → Waits (IsReadAs ending bytes) old new
 
 -- all lines of these bytes were taken
 pub record Reaches (bytes : List (List ℕ)) (session : Session) : Type 0 where

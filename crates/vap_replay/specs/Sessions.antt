@@ -1,5 +1,5 @@
 -- A replay under way.
-use Rattle.std.specs.Prelude.{◌≡◌, ◌≤◌, ◌<◌, ◌+◌, ℕ, true, false, List, [], ◌∷◌, ◌++◌, length, slice_get, unwrap_or, option_and_then}
+use Rattle.std.specs.Prelude.{◌≡◌, ◌≢◌, ◌≤◌, ◌<◌, ◌+◌, ℕ, true, false, List, [], ◌∷◌, ◌++◌, length, slice_get, unwrap_or, option_and_then}
 use Rattle.vap_read.specs.declared.event.Event.{Event}
 use Rattle.vap_request.specs.declared.request.Request.{Request}
 use Rattle.vap_watch.specs.Given.{Choice, no_choice, takes}
@@ -16,7 +16,7 @@ use Rattle.vap_watch.specs.declared.fault.PublishError.TheVariants as publishing
 use Rattle.vap_watch.specs.declared.fault.StageFault.{StageFault}
 use Rattle.vap_watch.specs.declared.fault.StageFault.TheVariants as staging
 use Rattle.vap_replay.specs.declared.fault.LineFault.{LineFault}
-use Rattle.vap_replay.specs.declared.fault.LineFault.TheVariants.{LogFull, TooManyObjects, Unverified}
+use Rattle.vap_replay.specs.declared.fault.LineFault.TheVariants.{LogFull, TooManyObjects, Unverified, Pattern}
 use Rattle.vap_replay.specs.declared.fault.ReplayError.{ReplayError}
 use Rattle.vap_replay.specs.declared.fault.ReplayError.TheVariants.{Line, Read, OutOfMemory}
 use Rattle.vap_replay.specs.declared.session.Session.{Session}
@@ -79,6 +79,17 @@ kept_at log revision = unwrap_or (option_and_then (λ logged. logged.choice) (sl
 -- the choices are those that a log keeps
 abbrev pub Agrees : Choices → List Logged → Type 0
 Agrees choices log = (n : ℕ) → n < length log → choices (n + 1) ≡ kept_at log n
+
+-- the line of the first review that waits, where the review of this line waits with those that wait already
+abbrev pub first_with : List Request → ℕ → ℕ → ℕ
+first_with [] first line = line
+first_with (request ∷ requests) first line = first
+
+-- a group that waits is not judged, which is told at its first line
+pub record TellsGroup (s : Session) (number : ℕ) (why : LineFault) : Type 0 where
+  pub numbered : number ≡ s.first
+  pub pattern : why ≡ Pattern
+  pub waiting : s.group.items ≢ []
 
 -- what a failure to read a line is to the whole
 abbrev pub error_of_line : LineError → ReplayError

@@ -1,18 +1,32 @@
 -- What a replay leaves of its input and its output.
-use Rattle.std.specs.Prelude.{◌≡◌, ℕ, Bool, true, false, List, ◌++◌, flat_map, take, Option, None, Some}
+use Rattle.std.specs.Prelude.{◌≡◌, ◌≤◌, ◌⊎◌, ◌+◌, ⊤, ℕ, Bool, true, false, List, [], ◌∷◌, ◌++◌, flat_map, length, take, IfSome, Option}
+use Rattle.std.specs.Prelude.{None, Some, Ok}
 use Rattle.std.specs.Io.KnownBytes.{Appends}
-use Rattle.vap_lines.specs.Lines.{lines_of}
+use Rattle.vap_lines.specs.Counted.{failures_of, inner_of, one_more}
+use Rattle.vap_lines.specs.Lines.{lines_of, most_reads}
+use Rattle.vap_lines.specs.declared.counted.Counted.{Counted}
+use Rattle.vap_read.specs.declared.event.Event.{Event}
+use Rattle.vap_request.specs.declared.request.Request.{Request}
+use Rattle.vap_watch.specs.Given.{AreUnverified}
+use Rattle.vap_watch.specs.Logs.{objects_after, objects_of}
 use Rattle.vap_replay.specs.Lines.{EachReads}
-use Rattle.vap_replay.specs.Replay.{Choices, Refusal, replay_of, replayed, told_lines}
+use Rattle.vap_replay.specs.Moves.{after_lines}
+use Rattle.vap_replay.specs.Replay.{Choices, Refusal, Sofar, answers_text, beginning, replay_of, replayed, told_lines}
 use Rattle.vap_replay.specs.declared.fault.LineFault.{LineFault}
 use Rattle.vap_replay.specs.declared.fault.LineFault.TheVariants as fault
 use Rattle.vap_replay.specs.declared.line.Line.{Line}
+use Rattle.vap_replay.specs.declared.line.Line.TheVariants.{Happens, Asks, Refused}
 
 -- whether a fault is told of the lines alone: a set that is not built and a pattern that is not built again are not
 abbrev pub is_of_the_lines : LineFault → Bool
 is_of_the_lines fault.Unverified = false
 is_of_the_lines fault.Pattern = false
 is_of_the_lines _ = true
+
+-- where a line is refused as it is read, this is told of the lines alone
+abbrev pub IsPlain : Line → Type 0
+IsPlain (Refused why) = is_of_the_lines why ≡ true
+IsPlain _ = ⊤
 
 -- the whole text of the input was replayed, no line is refused, and what was written is the text of its lines, by some choice
 -- for each revision
@@ -43,3 +57,32 @@ pub record Stops (audit : Bool) (input : List ℕ) (old new : Option (List ℕ))
   pub others : List (List ℕ)
   pub first : told_lines audited (replayed choices lines) ≡ told ++ others
   pub written : Appends old new (flat_map (λ line. line) told)
+
+-- a read failed; or none did, and the input has a byte at least for each read that may be made
+abbrev pub StopsReading : {R : Type 0} → (R → Option (List ℕ)) → Counted R → Counted R → Type 0
+StopsReading remaining before after =
+    (failures_of after ≡ one_more (failures_of before))
+    ⊎ ((failures_of after ≡ failures_of before) × IfSome (remaining (inner_of before)) (λ bytes. most_reads ≤ length bytes))
+
+-- the line of this number is this one; those before it were taken, and the answers to the reviews among them are written, nothing
+-- else
+pub record Comes (input : List ℕ) (old new : Option (List ℕ)) (number : ℕ) (line : Line) (before : Sofar) : Type 0 where
+  pub choices : Choices
+  pub lines : List Line
+  pub numbered : number ≡ length lines + 1
+  pub read : EachReads (take number (lines_of input)) (lines ++ line ∷ [])
+  pub taken : after_lines choices lines beginning ≡ Ok before
+  pub written : Appends old new (answers_text before.entries)
+
+-- the line of this number is an event, and some policy of the objects behind it has an expression whose image the verifier refuses
+pub record IsUnverifiedAt (input : List ℕ) (old new : Option (List ℕ)) (number : ℕ) : Type 0 where
+  pub event : Event
+  pub before : Sofar
+  pub comes : Comes input old new number (Happens event) before
+  pub unverified : AreUnverified (objects_after (objects_of before.log) (event ∷ []))
+
+-- the line of this number is a review, the first whose answer is not written
+pub record IsUnansweredAt (input : List ℕ) (old new : Option (List ℕ)) (number : ℕ) : Type 0 where
+  pub request : Request
+  pub before : Sofar
+  pub comes : Comes input old new number (Asks request) before

@@ -1,12 +1,14 @@
 //! The replay of a stream.
 
-ghost use Rattle.std.specs.Prelude.{◌≡◌, ◌≢◌, ◌≤◌, ◌<◌, ◌+◌, ◌^◌, ◌-◌, ℕ, Bool, length, false, true, IfErr, IfOk, IfSome, IsErrOf, OnOk};
+ghost use Rattle.std.specs.Prelude.{◌≡◌, ◌≢◌, ◌⊎◌, ◌≤◌, ◌<◌, ◌+◌, ◌^◌, ◌-◌, ℕ, Bool, false, true};
+ghost use Rattle.std.specs.Prelude.{length, IfErr, IfOk, IfSome, IsErrOf, OnOk};
 ghost use Rattle.std.specs.Io.KnownBytes.{IsAtEnd};
-ghost use Rattle.vap_lines.specs.Counted.{failures_of, inner_of};
-ghost use Rattle.vap_lines.specs.Lines.{longest_line, room, unread};
-ghost use Rattle.vap_replay.specs.Moves.{Advances, CountsWrites, IsRead, RefusesBytes, RefusesNext, StopsAt, TakesNext, Writes};
+ghost use Rattle.vap_lines.specs.Counted.{failures_of, inner_of, one_more};
+ghost use Rattle.vap_lines.specs.Lines.{AllGive, IsSpent, empty_reads, longest_line, room, unread};
+ghost use Rattle.vap_replay.specs.Moves.{Advances, BeginsWith, CountsWrites, IsRead, IsReadAs, IsUnjudged, IsUnpublished, RefusesBytes};
+ghost use Rattle.vap_replay.specs.Moves.{RefusesNext, StopsAt, TakesNext, Writes};
 ghost use Rattle.vap_replay.specs.Sessions.{IsInStep, IsOpening};
-ghost use Rattle.vap_replay.specs.Streams.{Refuses, Replays, Stops, is_of_the_lines};
+ghost use Rattle.vap_replay.specs.Streams.{IsUnansweredAt, IsUnverifiedAt, Refuses, Replays, Stops, StopsReading, is_of_the_lines};
 ghost use Rattle.vap_replay.specs.declared.fault.LineFault.{LineFault as FaultOf};
 
 use crate::fault::{LineFault, ReplayError};
@@ -24,7 +26,9 @@ pub const MOST_WORKERS: u8 = 16;
 /// Reads lines, publishes events and answers reviews; with `audit` the history's lines follow. One worker serves, however many
 /// are asked for. Where it answers Ok, nothing is left unread, and the text of the lines is written and nothing else. Where the
 /// first line that is refused is told, the text up to it is written. At a failed read, at want of memory, and where a set is
-/// not built or a pattern not built again, whole answers are written and no others; at a failed write part of one may be.
+/// not built or a pattern not built again, whole answers are written and no others; at a failed write part of one may be. `Pattern`
+/// is told with the line of the first review that is not answered, `Unverified` with that of an event. `Read` is told where a
+/// read failed, or where there were as many as there may be and each gave a byte, and nowhere else.
 pub fn replay<R: Read, W: Write>(
     alloc: Global,
     input: &mut Counted<R>,
@@ -44,6 +48,13 @@ pub fn replay<R: Read, W: Write>(
     ensures stopped { IfErr result (λ error. error ≢ ReplayError.Write → IfSome (R.remaining (inner_of input.old)) (λ bytes.
         Stops audit bytes (W.contents (inner_of output.old)) (W.contents (inner_of output.new)))) }
     ensures write { IsErrOf result ReplayError.Write → failures_of output.new ≡ failures_of output.old + 1 }
+    ensures pattern { (line : ℕ) → IsErrOf result (ReplayError.Line line LineFault.Pattern) → IfSome (R.remaining (inner_of input.old))
+        (λ bytes. IsUnansweredAt bytes (W.contents (inner_of output.old)) (W.contents (inner_of output.new)) line) }
+    ensures unverified { (line : ℕ) → IsErrOf result (ReplayError.Line line LineFault.Unverified)
+        → IfSome (R.remaining (inner_of input.old))
+        (λ bytes. IsUnverifiedAt bytes (W.contents (inner_of output.old)) (W.contents (inner_of output.new)) line) }
+    ensures read { IsErrOf result ReplayError.Read → StopsReading R.remaining input.old input.new }
+    ensures no_failure { OnOk result ((failures_of input.new ≡ failures_of input.old) × (failures_of output.new ≡ failures_of output.old)) }
 {
     replay_with(alloc, input, output, workers, audit, &mut Silent)
 }
@@ -69,6 +80,13 @@ pub fn replay_with<R: Read, W: Write, P: Progress>(
     ensures stopped { IfErr result (λ error. error ≢ ReplayError.Write → IfSome (R.remaining (inner_of input.old)) (λ bytes.
         Stops audit bytes (W.contents (inner_of output.old)) (W.contents (inner_of output.new)))) }
     ensures write { IsErrOf result ReplayError.Write → failures_of output.new ≡ failures_of output.old + 1 }
+    ensures pattern { (line : ℕ) → IsErrOf result (ReplayError.Line line LineFault.Pattern) → IfSome (R.remaining (inner_of input.old))
+        (λ bytes. IsUnansweredAt bytes (W.contents (inner_of output.old)) (W.contents (inner_of output.new)) line) }
+    ensures unverified { (line : ℕ) → IsErrOf result (ReplayError.Line line LineFault.Unverified)
+        → IfSome (R.remaining (inner_of input.old))
+        (λ bytes. IsUnverifiedAt bytes (W.contents (inner_of output.old)) (W.contents (inner_of output.new)) line) }
+    ensures read { IsErrOf result ReplayError.Read → StopsReading R.remaining input.old input.new }
+    ensures no_failure { OnOk result ((failures_of input.new ≡ failures_of input.old) × (failures_of output.new ≡ failures_of output.old)) }
 {
     let _ = workers;
     let mut session = Session::new(alloc)?;
@@ -92,6 +110,13 @@ fn take_all<R: Read, W: Write, P: Progress>(
     ensures stopped { IfErr result (λ error. error ≢ ReplayError.Write → (audit : Bool) → IfSome (R.remaining (inner_of input.old))
         (λ bytes. Stops audit bytes (W.contents (inner_of output.old)) (W.contents (inner_of output.new)))) }
     ensures counts { CountsWrites result output.old output.new }
+    ensures pattern { (line : ℕ) → IsErrOf result (ReplayError.Line line LineFault.Pattern) → IfSome (R.remaining (inner_of input.old))
+        (λ bytes. IsUnansweredAt bytes (W.contents (inner_of output.old)) (W.contents (inner_of output.new)) line) }
+    ensures unverified { (line : ℕ) → IsErrOf result (ReplayError.Line line LineFault.Unverified)
+        → IfSome (R.remaining (inner_of input.old))
+        (λ bytes. IsUnverifiedAt bytes (W.contents (inner_of output.old)) (W.contents (inner_of output.new)) line) }
+    ensures read { IsErrOf result ReplayError.Read → StopsReading R.remaining input.old input.new }
+    ensures no_failure { OnOk result (failures_of input.new ≡ failures_of input.old) }
 {
     let mut reader = LineReader::new(alloc)?;
     let mut line = Vec::new(alloc);
@@ -130,6 +155,17 @@ fn take_next<R: Read, W: Write>(
     ensures lines { OnOk result (session.new.lines ≤ session.old.lines + 1) }
     ensures less { IfOk result (λ ending. ending ≡ Ending.Feed → room reader.new < room reader.old) }
     ensures no_more { room reader.new ≤ room reader.old }
+    ensures pattern { (number : ℕ) → IsErrOf result (ReplayError.Line number LineFault.Pattern)
+        → IfSome (unread R.remaining input.old reader.old) (λ text.
+        IsUnjudged (BeginsWith text) session.old output.old output.new number) }
+    ensures unverified { (number : ℕ) → IsErrOf result (ReplayError.Line number LineFault.Unverified)
+        → IfSome (unread R.remaining input.old reader.old) (λ text.
+        IsUnpublished W.contents (BeginsWith text) session.old output.old output.new number) }
+    ensures read { IsErrOf result ReplayError.Read → (failures_of input.new ≡ one_more (failures_of input.old))
+        ⊎ IsSpent R.remaining input.old input.new reader.old reader.new }
+    ensures given { IfOk result (λ ending. AllGive (empty_reads ending) (R.remaining (inner_of input.old))
+        (R.remaining (inner_of input.new)) reader.old reader.new) }
+    ensures no_failure { OnOk result (failures_of input.new ≡ failures_of input.old) }
 {
     line.clear();
     let ending = reader.next(input, line)?;
@@ -157,6 +193,11 @@ fn take_bytes<W: Write>(
         → RefusesBytes W.contents ending bytes.now session.old output.old output.new number why }
     ensures stopped { IfErr result (λ error. error ≢ ReplayError.Write → StopsAt W.contents session.old output.old output.new) }
     ensures counts { CountsWrites result output.old output.new }
+    ensures pattern { (number : ℕ) → IsErrOf result (ReplayError.Line number LineFault.Pattern)
+        → IsUnjudged (IsReadAs ending bytes.now) session.old output.old output.new number }
+    ensures unverified { (number : ℕ) → IsErrOf result (ReplayError.Line number LineFault.Unverified)
+        → IsUnpublished W.contents (IsReadAs ending bytes.now) session.old output.old output.new number }
+    ensures no_read { IsErrOf result ReplayError.Read → ⊥ }
 {
     match ending {
         Ending::TooLong => session.take(Line::Refused(LineFault::TooLong), output),
@@ -183,6 +224,11 @@ fn take_last<W: Write>(
         → RefusesBytes W.contents Ending.End bytes.now session.old output.old output.new number why }
     ensures stopped { IfErr result (λ error. error ≢ ReplayError.Write → StopsAt W.contents session.old output.old output.new) }
     ensures counts { CountsWrites result output.old output.new }
+    ensures pattern { (number : ℕ) → IsErrOf result (ReplayError.Line number LineFault.Pattern)
+        → IsUnjudged (IsReadAs Ending.End bytes.now) session.old output.old output.new number }
+    ensures unverified { (number : ℕ) → IsErrOf result (ReplayError.Line number LineFault.Unverified)
+        → IsUnpublished W.contents (IsReadAs Ending.End bytes.now) session.old output.old output.new number }
+    ensures no_read { IsErrOf result ReplayError.Read → ⊥ }
 {
     if bytes.is_empty() {
         return Ok(());

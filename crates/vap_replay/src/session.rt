@@ -6,12 +6,14 @@ ghost use Rattle.std.specs.Io.KnownBytes.{Appends, Keeps};
 ghost use Rattle.vap_lines.specs.Counted.{inner_of};
 ghost use Rattle.vap_audit.specs.Entries.{most_entries};
 ghost use Rattle.vap_audit.specs.declared.entry.Entry.{Entry as EntryOf};
-ghost use Rattle.vap_replay.specs.Moves.{CountsWrites, IsRefusal, RefusesAt, StopsAt, Takes, Writes};
-ghost use Rattle.vap_replay.specs.Streams.{is_of_the_lines};
+ghost use Rattle.vap_watch.specs.Given.{AreUnverified};
+ghost use Rattle.vap_watch.specs.Logs.{objects_after, objects_of};
+ghost use Rattle.vap_replay.specs.Moves.{CountsWrites, IsRefusal, IsUnjudged, IsUnpublished, RefusesAt, StopsAt, Takes, Waits, Writes};
+ghost use Rattle.vap_replay.specs.Streams.{IsPlain, is_of_the_lines};
 ghost use Rattle.vap_replay.specs.declared.fault.LineFault.{LineFault as FaultOf};
 ghost use Rattle.vap_replay.specs.Replay.{answer_line, answers_text, audit_line, audit_lines, audit_where, entry_of};
 ghost use Rattle.vap_replay.specs.Sessions.{Answered, Decided, HasRoom, IsInStep, IsOpening, RefusesEvent, TakesEvent, TakesReview};
-ghost use Rattle.vap_replay.specs.Sessions.{sofar_of, waiting_entries};
+ghost use Rattle.vap_replay.specs.Sessions.{TellsGroup, first_with, sofar_of, waiting_entries};
 
 use crate::audit_line::audit_text;
 use crate::fault::{LineFault, ReplayError, unpublished, unstaged};
@@ -48,6 +50,8 @@ impl Session {
         ensures opening { IfOk result IsOpening }
         ensures lines { (number : ℕ) → (why : FaultOf) → IsErrOf result (ReplayError.Line number why) → is_of_the_lines why ≡ false }
         ensures unwritten { IfErr result (λ error. error ≢ ReplayError.Write) }
+        ensures no_line { (number : ℕ) → (why : FaultOf) → IsErrOf result (ReplayError.Line number why) → ⊥ }
+        ensures no_read { IsErrOf result ReplayError.Read → ⊥ }
     {
         Ok(Session {
             alloc,
@@ -85,6 +89,12 @@ impl Session {
             → RefusesAt W.contents line self.old out.old out.new number why }
         ensures stopped { IfErr result (λ error. error ≢ ReplayError.Write → StopsAt W.contents self.old out.old out.new) }
         ensures counts { CountsWrites result out.old out.new }
+        ensures waiting { OnOk result (self.new.group.items ≢ [] → Waits (λ l. line ≡ l) self.old self.new) }
+        ensures pattern { (number : ℕ) → IsErrOf result (ReplayError.Line number LineFault.Pattern) → IsPlain line
+            → IsUnjudged (λ l. line ≡ l) self.old out.old out.new number }
+        ensures unverified { (number : ℕ) → IsErrOf result (ReplayError.Line number LineFault.Unverified) → IsPlain line
+            → IsUnpublished W.contents (λ l. line ≡ l) self.old out.old out.new number }
+        ensures no_read { IsErrOf result ReplayError.Read → ⊥ }
     {
         self.lines += 1;
         match line {
@@ -111,6 +121,9 @@ impl Session {
             → IsRefusal W.contents fault self.old out.old out.new number why }
         ensures stopped { IfErr result (λ error. error ≢ ReplayError.Write → StopsAt W.contents self.old out.old out.new) }
         ensures counts { CountsWrites result out.old out.new }
+        ensures pattern { (number : ℕ) → (why : FaultOf) → is_of_the_lines why ≡ false → is_of_the_lines fault ≡ true
+            → IsErrOf result (ReplayError.Line number why) → TellsGroup self.old number why × (out.new ≡ out.old) }
+        ensures no_read { IsErrOf result ReplayError.Read → ⊥ }
     {
         self.answer_group(out)?;
         Err(self.refusal(fault))
@@ -126,6 +139,10 @@ impl Session {
             → (number ≡ self.old.lines) × RefusesEvent self.old.writer.published event why }
         ensures unwritten { IfErr result (λ error. error ≢ ReplayError.Write) }
         ensures rest { (self.new.history ≡ self.old.history) × (self.new.group ≡ self.old.group) × (self.new.lines ≡ self.old.lines) }
+        ensures unverified { (number : ℕ) → IsErrOf result (ReplayError.Line number LineFault.Unverified) → (number ≡ self.old.lines)
+            × AreUnverified (objects_after (objects_of self.old.writer.published) (event ∷ [])) }
+        ensures no_pattern { (number : ℕ) → IsErrOf result (ReplayError.Line number LineFault.Pattern) → ⊥ }
+        ensures no_read { IsErrOf result ReplayError.Read → ⊥ }
     {
         if let Err((fault, _)) = self.writer.stage(event) {
             return Err(unstaged(self.lines, fault));
@@ -138,7 +155,7 @@ impl Session {
 
     /// Puts a review into the group, and answers the group where it is as large as it may be, or the history has no room for
     /// more.
-    #[tactic(auto, using(crate::proofs::Told::stops_here))]
+    #[tactic(auto, using(crate::proofs::Told::stops_here, crate::proofs::Unjudged::group_first))]
     fn take_review<W: Write>(
         &mut self,
         request: Request,
@@ -154,6 +171,12 @@ impl Session {
             → length (sofar_of self.old).entries ≡ most_entries }
         ensures stopped { IfErr result (λ error. error ≢ ReplayError.Write → StopsAt W.contents self.old out.old out.new) }
         ensures counts { CountsWrites result out.old out.new }
+        ensures waiting { OnOk result (self.new.group.items ≢ [] → (self.new.history ≡ self.old.history)
+            × (self.new.first ≡ first_with self.old.group.items self.old.first self.old.lines)) }
+        ensures pattern { (number : ℕ) → IsErrOf result (ReplayError.Line number LineFault.Pattern) → (out.new ≡ out.old)
+            × (number ≡ first_with self.old.group.items self.old.first self.old.lines) }
+        ensures no_image { (number : ℕ) → IsErrOf result (ReplayError.Line number LineFault.Unverified) → ⊥ }
+        ensures no_read { IsErrOf result ReplayError.Read → ⊥ }
     {
         if self.waiting() == MOST_ENTRIES {
             return self.refuse(LineFault::AuditFull, out);
@@ -166,6 +189,7 @@ impl Session {
     }
 
     /// Puts a review into the group, as the last.
+    #[tactic(auto, using(crate::proofs::Unjudged::first_none, crate::proofs::Unjudged::first_some))]
     fn wait(&mut self, request: Request) -> Result<(), ReplayError>
         requires step { IsInStep self.old }
         requires room { length self.old.history + length self.old.group.items < most_entries }
@@ -173,6 +197,7 @@ impl Session {
         ensures room { OnOk result (HasRoom self.new) }
         ensures history { OnOk result (self.new.history ≡ self.old.history) }
         ensures memory { IfErr result (λ error. error ≡ ReplayError.OutOfMemory) }
+        ensures first { OnOk result (self.new.first ≡ first_with self.old.group.items self.old.first self.old.lines) }
     {
         self.first = if self.group.is_empty() {
             self.lines
@@ -200,6 +225,8 @@ impl Session {
         ensures lines { (number : ℕ) → (why : FaultOf) → IsErrOf result (ReplayError.Line number why) → is_of_the_lines why ≡ false }
         ensures stopped { IfErr result (λ error. error ≢ ReplayError.Write → out.new ≡ out.old) }
         ensures counts { CountsWrites result out.old out.new }
+        ensures pattern { (number : ℕ) → (why : FaultOf) → IsErrOf result (ReplayError.Line number why) → TellsGroup self.old number why }
+        ensures no_read { IsErrOf result ReplayError.Read → ⊥ }
     {
         let text = self.decide_group()?;
         write_text(text.as_str(), out)
@@ -213,6 +240,8 @@ impl Session {
             ≡ answers_text (waiting_entries self.old)) }
         ensures lines { (number : ℕ) → (why : FaultOf) → IsErrOf result (ReplayError.Line number why) → is_of_the_lines why ≡ false }
         ensures unwritten { IfErr result (λ error. error ≢ ReplayError.Write) }
+        ensures pattern { (number : ℕ) → (why : FaultOf) → IsErrOf result (ReplayError.Line number why) → TellsGroup self.old number why }
+        ensures no_read { IsErrOf result ReplayError.Read → ⊥ }
     {
         let group = mem::replace(&mut self.group, Vec::new(self.alloc));
         let mut text = String::new(self.alloc);
@@ -232,6 +261,10 @@ impl Session {
             ++ answers_text (entry_of self.old.writer.published (length self.old.history) request ∷ [])) }
         ensures lines { (number : ℕ) → (why : FaultOf) → IsErrOf result (ReplayError.Line number why) → is_of_the_lines why ≡ false }
         ensures unwritten { IfErr result (λ error. error ≢ ReplayError.Write) }
+        ensures first { self.new.first ≡ self.old.first }
+        ensures pattern { (number : ℕ) → (why : FaultOf) → IsErrOf result (ReplayError.Line number why)
+            → (number ≡ self.old.first) × (why ≡ LineFault.Pattern) }
+        ensures no_read { IsErrOf result ReplayError.Read → ⊥ }
     {
         let number = self.record(request)?;
         let line = self.answer_line(number)?;
@@ -264,6 +297,10 @@ impl Session {
         ensures group { self.new.group ≡ self.old.group }
         ensures lines { (number : ℕ) → (why : FaultOf) → IsErrOf result (ReplayError.Line number why) → is_of_the_lines why ≡ false }
         ensures unwritten { IfErr result (λ error. error ≢ ReplayError.Write) }
+        ensures first { self.new.first ≡ self.old.first }
+        ensures pattern { (number : ℕ) → (why : FaultOf) → IsErrOf result (ReplayError.Line number why)
+            → (number ≡ self.old.first) × (why ≡ LineFault.Pattern) }
+        ensures no_read { IsErrOf result ReplayError.Read → ⊥ }
     {
         let snapshot = self.writer.snapshot();
         let log = snapshot.share_log()?;
@@ -298,6 +335,7 @@ impl Session {
             × Appends (W.contents (inner_of out.old)) (W.contents (inner_of out.new)) (audit_lines (take n self.now.history)))) }
         ensures no_line { (number : ℕ) → (why : FaultOf) → IsErrOf result (ReplayError.Line number why) → ⊥ }
         ensures counts { CountsWrites result out.old out.new }
+        ensures no_read { IsErrOf result ReplayError.Read → ⊥ }
     {
         if audit {
             self.write_audit(out)?;
@@ -313,6 +351,7 @@ impl Session {
             × Appends (W.contents (inner_of out.old)) (W.contents (inner_of out.new)) (audit_lines (take n self.now.history))) }
         ensures no_line { (number : ℕ) → (why : FaultOf) → IsErrOf result (ReplayError.Line number why) → ⊥ }
         ensures counts { CountsWrites result out.old out.new }
+        ensures no_read { IsErrOf result ReplayError.Read → ⊥ }
     {
         for number in 0..self.history.len() {
             let line = self.audit_line(number)?;
@@ -361,6 +400,8 @@ fn flush<W: Write>(out: &mut Counted<W>) -> Result<(), ReplayError>
 fn unjudged(first: u64, error: JudgeError) -> ReplayError
     ensures lines { (number : ℕ) → (why : FaultOf) → result ≡ ReplayError.Line number why → is_of_the_lines why ≡ false }
     ensures unwritten { result ≢ ReplayError.Write }
+    ensures pattern { (number : ℕ) → (why : FaultOf) → result ≡ ReplayError.Line number why → (number ≡ first) × (why ≡ LineFault.Pattern) }
+    ensures no_read { result ≢ ReplayError.Read }
 {
     match error {
         JudgeError::Pattern => ReplayError::Line {

@@ -3,3 +3,7 @@ pub mod Firsts
 pub mod Standing
 pub mod ParamKinds
 pub mod Behind
+pub mod ReportOrder
+pub mod Named
+pub mod Put
+pub mod Chosen

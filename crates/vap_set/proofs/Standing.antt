@@ -24,10 +24,10 @@ use Rattle.vap_set.specs.declared.choice.Choice.{Choice}
 use Rattle.vap_set.proofs.Firsts.{kinds_first, one_kind, same_text}
 
 -- what stands of a policy at a kind
-record IsOfKind (choice : Choice) (kinds : List Kind) (p : PolicySpec) (e : KindPair) : Type 0 where
-  kind : Kind
-  first : IsFirst kinds kind
-  is : e ≡ kind_pair choice kinds p kind
+pub record IsOfKind (choice : Choice) (kinds : List Kind) (p : PolicySpec) (e : KindPair) : Type 0 where
+  pub kind : Kind
+  pub first : IsFirst kinds kind
+  pub is : e ≡ kind_pair choice kinds p kind
 
 placed : {X : Type 0} (P : X → Type 0) (n : ℕ) (xs : List X) (y : X) → P y → AllByRecursion P xs
     → AllByRecursion P (take n xs ++ y ∷ drop n xs)
@@ -48,7 +48,8 @@ one_put choice kinds p k es first all = at (is_looked_at p k)
     at true = placed (IsOfKind choice kinds p) (place_of e es) es e (record { kind = k; first = first; is = refl }) all
     at false = all
 
-all_put : (choice : Choice) (kinds : List Kind) (p : PolicySpec) (ks : List Kind) (es : List KindPair)
+-- each pair is of one of these kinds
+pub all_put : (choice : Choice) (kinds : List Kind) (p : PolicySpec) (ks : List Kind) (es : List KindPair)
     → AllByRecursion (IsFirst kinds) ks → AllByRecursion (IsOfKind choice kinds p) es
     → AllByRecursion (IsOfKind choice kinds p) (with_kinds choice kinds p ks es)
 all_put choice kinds p [] es first all = all

@@ -3,4 +3,6 @@ pub mod Fitted
 pub mod Seen
 pub mod Sets
 pub mod Ready
+pub mod Whole
+pub mod Patterns
 pub mod Unverified

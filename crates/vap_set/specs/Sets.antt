@@ -2,6 +2,7 @@
 use Rattle.std.specs.Prelude.{ℕ, suc, Bool, ◌&&◌, is_some, if◌then◌else◌, List, [], ◌∷◌, map, insert}
 use Rattle.std.specs.Prelude.{Option, Some, None, option_map}
 use Rattle.std.specs.List.{find, flat_map}
+use Rattle.std.specs.List.Sorted.{IsSorted, IsStable}
 use Rattle.std.specs.Ordering.{is_lt, nat_cmp, on, then_cmp}
 use Rattle.std.specs.declared.cmp.Ordering.{Ordering}
 use Rattle.std.specs.Cmp.Lexicographic.{slice_cmp}
@@ -124,6 +125,19 @@ misconfigured_at name p = misconfigured_by name p p.pair
 abbrev pub misconfigured_in : BoundPolicy → List Misconfigured
 misconfigured_in p = flat_map (misconfigured_at p.name) p.pairs
 
--- the same of all policies, by name
-abbrev pub report_of : Built → List Misconfigured
-report_of b = flat_map misconfigured_in (policies_of b)
+-- what is told of policies, one behind the other
+abbrev pub told_of : List BoundPolicy → List Misconfigured
+told_of ps = flat_map misconfigured_in ps
+
+-- a report stands by policy, then by group, then by version, then by kind
+abbrev pub report_cmp : Misconfigured → Misconfigured → Ordering
+report_cmp =
+    then_cmp (on (λ m. m.policy) (slice_cmp nat_cmp))
+    (then_cmp (on (λ m. m.group) (slice_cmp nat_cmp))
+    (then_cmp (on (λ m. m.version) (slice_cmp nat_cmp)) (on (λ m. m.kind) (slice_cmp nat_cmp))))
+
+-- the report on policies is what is told of them, in this order; what is the same in all four stands as the policies do, which of
+-- one name stand by namespace
+pub record IsReport (ps : List BoundPolicy) (report : List Misconfigured) : Type 0 where
+  pub sorted : IsSorted report_cmp report
+  pub stable : IsStable report_cmp (told_of ps) report

@@ -82,7 +82,8 @@ fn pair_order(left: &KindPair, right: &KindPair) -> Ordering
     )))
 }
 
-fn order(left: &Text, right: &Text) -> Ordering
+/// The order of texts, by their bytes.
+pub fn order(left: &Text, right: &Text) -> Ordering
     ensures { result ≡ slice_cmp nat_cmp left.now right.now }
 {
     left.as_str().cmp(right.as_str())

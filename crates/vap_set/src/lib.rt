@@ -12,6 +12,7 @@ mod choice;
 mod choosing;
 mod fitting;
 mod params;
+mod patterns;
 mod report;
 mod set;
 

@@ -1,10 +1,13 @@
 //! Kinds of params, and the types of names.
 
-ghost use Rattle.std.specs.Prelude.{◌≡◌, IfOk};
+ghost use Rattle.std.specs.Prelude.{◌≡◌, if◌then◌else◌, IfOk};
 ghost use Rattle.std.specs.Option.{option_copied};
 ghost use Rattle.vap_match.specs.Cover.{is_word_or_any, before_slash};
 ghost use Rattle.std.specs.List.{list_any};
-ghost use Rattle.vap_set.specs.Kinds.{is_named_by, kind_of_params, params_by, params_type, rule_names, type_or_opaque, types_at};
+ghost use Rattle.vap_kinds.specs.Kinds.{kind_named};
+ghost use Rattle.vap_set.specs.Fitted.{spelled};
+ghost use Rattle.vap_set.specs.Kinds.{has_slash, is_named_by, kind_of_params, params_by, params_type, rule_names, type_or_opaque};
+ghost use Rattle.vap_set.specs.Kinds.{types_at};
 
 use cel_value::CelType;
 use plain::{Shared, Text};
@@ -21,8 +24,29 @@ pub fn kind_of_params<'a>(kinds: &'a [Kind], params: &ParamKind) -> Option<&'a K
 {
     let text = params.api_version.as_str();
     match text.split_once('/') {
-        Some((group, version)) => find_kind(kinds, group, version, params.kind.as_str()),
+        Some((group, version)) => find_grouped(kinds, group, version, params.kind.as_str()),
         None => find_kind(kinds, "", text, params.kind.as_str()),
+    }
+}
+
+/// The kind of a group and a version, which has no slash.
+fn find_grouped<'a>(kinds: &'a [Kind], group: &str, version: &str, kind: &str) -> Option<&'a Kind>
+    ensures { option_copied result
+        ≡ (if has_slash version.now then None else kind_named group.now version.now kind.now kinds.now) }
+{
+    match version.split_once('/') {
+        Some(_) => None,
+        None => find_kind(kinds, group, version, kind),
+    }
+}
+
+/// An apiVersion as objects spell it: without the slash of an empty group.
+pub fn spelled(api_version: &str) -> &str
+    ensures { result.now ≡ spelled api_version.now }
+{
+    match api_version.strip_prefix('/') {
+        Some(version) => version,
+        None => api_version,
     }
 }
 
@@ -115,9 +139,18 @@ fn rule_names(kind: &Kind, rule: &Rule) -> bool
         && names_resource(rule.resources.as_slice(), kind.plural.as_str())
 }
 
-/// Whether one of these rules names a kind's group, version and resource.
+/// Whether one of these rules names a kind's group, version and resource. Without any all are named.
 pub fn is_named_by(rules: &[Rule], kind: &Kind) -> bool
     ensures { result ≡ is_named_by rules.now kind.now }
+{
+    match rules {
+        [] => true,
+        [_, ..] => does_one_name(rules, kind),
+    }
+}
+
+fn does_one_name(rules: &[Rule], kind: &Kind) -> bool
+    ensures { result ≡ list_any (rule_names kind.now) rules.now }
 {
     for rule in rules {
         if rule_names(kind, rule) {

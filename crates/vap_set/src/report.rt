@@ -1,12 +1,13 @@
 //! Where policies are misconfigured.
 
 ghost use Rattle.std.specs.Prelude.{◌≡◌, ◌++◌, IfOk, OnOk};
-ghost use Rattle.std.specs.List.{flat_map};
-ghost use Rattle.vap_set.specs.Sets.{misconfigured_at, misconfigured_in};
+ghost use Rattle.vap_set.specs.Sets.{misconfigured_at, misconfigured_in, report_cmp, IsReport};
 
 use crate::bound::{BoundPolicy, KindPair};
+use crate::building::order;
 use plain::{Items, Text};
 use std::alloc::{AllocError, Global};
+use std::cmp::Ordering;
 use vap_programs::{Pair, PairFault};
 
 /// A policy that is misconfigured at a kind, and why.
@@ -51,16 +52,27 @@ fn put_in(policy: &BoundPolicy, report: &mut Vec<Misconfigured>) -> Result<(), A
     Ok(())
 }
 
-/// Where policies are misconfigured: by the policy's name, and of one policy by group, version and kind.
+fn report_order(left: &Misconfigured, right: &Misconfigured) -> Ordering
+    ensures { result ≡ report_cmp left.now right.now }
+{
+    order(&left.policy, &right.policy).then(order(&left.group, &right.group).then(order(
+        &left.version,
+        &right.version,
+    ).then(order(&left.kind, &right.kind))))
+}
+
+/// Where policies are misconfigured: by the policy's name, by group, by version and by kind. Of two that are the same in these
+/// the one of the policy that stands first stands first.
 pub fn report_of(
     alloc: Global,
     policies: &[BoundPolicy],
 ) -> Result<Items<Misconfigured>, AllocError>
-    ensures { IfOk result (λ report. report ≡ flat_map misconfigured_in policies.now) }
+    ensures { IfOk result (IsReport policies.now) }
 {
     let mut report = Vec::new(alloc);
     for policy in policies {
         put_in(policy, &mut report)?;
     }
+    report.sort_by(report_order)?;
     Ok(Items::from_vec(report))
 }

@@ -2,9 +2,12 @@
 
 ghost use Rattle.std.specs.Prelude.{◌≡◌, ℕ, List, IfOk, IsErrOf};
 ghost use Rattle.vap_objects.specs.After.{nothing};
+ghost use Rattle.vap_objects.specs.Listed.{policies_in};
+ghost use Rattle.vap_set.specs.Patterns.{IsChoiceFor, of_policies};
 ghost use Rattle.vap_set.specs.Ready.{AreReady, AreFew};
-ghost use Rattle.vap_set.specs.Sets.{built_of, choice_in, kinds_of, no_choice, policies_of, report_of};
+ghost use Rattle.vap_set.specs.Sets.{built_of, choice_in, kinds_of, no_choice, policies_of, IsReport};
 ghost use Rattle.vap_set.specs.Unverified.{IsUnverifiedIn};
+ghost use Rattle.vap_set.specs.Whole.{AreWhole};
 ghost use Rattle.vap_set.specs.declared.build_error.BuildError.TheVariants.{Unverified};
 
 use crate::bound::BoundPolicy;
@@ -67,6 +70,7 @@ impl PolicySet {
     /// verifier refuses what was compiled for a policy.
     pub fn build(alloc: Global, objects: &Objects) -> Result<PolicySet, BuildError>
         ensures objects { IfOk result (λ set. set.objects ≡ objects.now) }
+        ensures choice { IfOk result (λ set. IsChoiceFor (of_policies (policies_in objects.now.objects)) set.choice.refused) }
         ensures unverified { (name : List ℕ) → IsErrOf result (Unverified name) → IsUnverifiedIn objects.now name }
     {
         let policies = objects.policies(alloc)?;
@@ -116,14 +120,17 @@ impl PolicySet {
         // The params of each are those of its kind, and at each kind what runs may be run where names have their types there.
         ensures ready { AreReady self.now }
         ensures few { AreFew result.now }
+        // None is nothing at a kind that it names.
+        ensures whole { AreWhole self.now }
     {
         pairs_are_ready();
         self.policies.as_slice()
     }
 
-    /// Where policies are misconfigured, at the known kinds that they name: by policy, group, version and kind.
+    /// Where policies are misconfigured, at the known kinds that they name: by policy, group, version and kind. Of two that are
+    /// the same in these, of policies of one name, the one of the lesser namespace stands first.
     pub fn report(&self, alloc: Global) -> Result<Items<Misconfigured>, AllocError>
-        ensures { IfOk result (λ report. report ≡ report_of self.now) }
+        ensures { IfOk result (IsReport (policies_of self.now)) }
     {
         report_of(alloc, self.policies.as_slice())
     }

@@ -37,6 +37,10 @@ impl From<AllocError> for PublishError {
 }
 
 impl From<BuildError> for PublishError {
+    ghost use Rattle.vap_watch.specs.Faults.{unbuilt};
+
+    ghost from_gives = { λ error e. e ≡ unbuilt error };
+
     fn from(error: BuildError) -> PublishError {
         match error {
             BuildError::Unverified { .. } => PublishError::Unverified,

@@ -1,7 +1,7 @@
 //! Staging and publishing.
 
-ghost use Rattle.std.specs.Prelude.{◌≡◌, ◌≢◌, ◌<◌, ◌++◌, ◌∷◌, [], false, length, IfErr, IfOk, OnErr, OnOk};
-ghost use Rattle.vap_watch.specs.Given.{takes};
+ghost use Rattle.std.specs.Prelude.{◌≡◌, ◌≢◌, ◌<◌, ◌↔◌, ◌++◌, ◌∷◌, [], false, length, IfErr, IfOk, IsErrOf, OnErr, OnOk};
+ghost use Rattle.vap_watch.specs.Given.{AreUnverified, takes};
 ghost use Rattle.vap_watch.specs.Places.{HasRoomFor, IsNext, Publishes, at, events_at, most_events, objects_at};
 
 use crate::fault::{PublishError, StageFault};
@@ -55,14 +55,14 @@ pub fn open(alloc: Global) -> Result<Writer, AllocError>
 
 impl Writer {
     /// Puts an event behind all that is staged. Where it is refused, it comes back and nothing has changed; the fault is the
-    /// first that applies of a full log and too many objects.
+    /// first that applies of a full log and too many objects, and want of memory only where none does.
     pub fn stage(&mut self, event: Event) -> Result<(), (StageFault, Event)>
         ensures room { OnOk result (HasRoomFor self.old event) }
         ensures last { OnOk result (self.new ≡ at self.old.published (self.old.staged ++ event ∷ [])) }
         ensures back { IfErr result (λ refused. (refused.1 ≡ event) × (self.new ≡ self.old)) }
-        ensures full { IfErr result (λ refused. refused.0 ≡ StageFault.LogFull → events_at self.old ≡ most_events) }
+        ensures full { IfErr result (λ refused. refused.0 ≡ StageFault.LogFull ↔ (events_at self.old ≡ most_events)) }
         ensures many { IfErr result (λ refused. refused.0 ≡ StageFault.TooManyObjects
-            → (events_at self.old < most_events) × (takes (objects_at self.old) event ≡ false)) }
+            ↔ ((events_at self.old < most_events) × (takes (objects_at self.old) event ≡ false))) }
     {
         if revision_of(&self.published) + self.staged.len() >= MOST_EVENTS {
             return Err((StageFault::LogFull, event));
@@ -93,6 +93,7 @@ impl Writer {
         ensures all { OnOk result (Publishes self.old self.new) }
         ensures revision { IfOk result (λ revision. revision ≡ length self.new.published) }
         ensures err { OnErr result (self.new ≡ self.old) }
+        ensures unverified { IsErrOf result PublishError.Unverified → AreUnverified (objects_at self.old) }
     {
         if self.staged.is_empty() {
             return Ok(revision_of(&self.published));
@@ -106,7 +107,8 @@ impl Writer {
     #[tactic(auto, using(crate::proofs::Publication::set_behind))]
     fn next(&self) -> Result<Snapshot, PublishError>
         requires { self.now.staged ≢ [] }
-        ensures { IfOk result (λ snapshot. IsNext self.now snapshot) }
+        ensures next { IfOk result (λ snapshot. IsNext self.now snapshot) }
+        ensures unverified { IsErrOf result PublishError.Unverified → AreUnverified (objects_at self.now) }
     {
         let set = PolicySet::build(self.alloc, &self.objects)?;
         let log = self

@@ -1,5 +1,6 @@
 use Rattle.std.proofs.Common.{rules, sym, subst, ap, ◌∙◌}
 use Rattle.cel_check.specs.Typing.{types_in}
+use Rattle.cel_code.specs.Compiled.{IsCompiled as IsImageOf}
 use Rattle.cel_code.specs.Correct.{Computes, Preserves}
 use Rattle.cel_expression.specs.Stages.{Bounds}
 use Rattle.cel_expression.proofs.compiled.compiled_with.Goals as goal
@@ -16,6 +17,8 @@ invariant_of-result c =
       estimate = rated.estimate;
       within = rated.within;
       slots = search rules;
+      image = subst (λ types. IsImageOf c.in_ok-program.program accepted.typed.tree types) (rated.slots ∙ names)
+          (subst (λ p. IsImageOf p accepted.typed.tree accepted.typed.slots) (sym c.in_ok-program.ensures) c.requires.image);
       computes = subst (λ p. Computes p accepted.typed.tree) (sym c.in_ok-program.ensures) c.requires.computes;
       preserves = subst (λ types. Preserves types accepted.typed.tree) (rated.slots ∙ names) c.requires.preserves;
       bounds = subst (λ types. Bounds types accepted.typed.tree accepted.estimate) names rated.bounds;

@@ -1,7 +1,7 @@
 use Rattle.std.proofs.Common.{◌≡◌, drop}
 use Rattle.cel_operators.specs.Outcomes.{slots_fit}
-use Rattle.cel_apply.specs.Lent.{all_lent}
 use Rattle.cel_machine.proofs.slots.each_fits.Given as goal
 
-abbrev pub invariant-loop-cel_type : goal.invariant-loop-cel_type
-invariant-loop-cel_type l = slots_fit (drop l.cel_type-index l.types) (all_lent l.rest) ≡ slots_fit l.types (all_lent l.initial.rest)
+-- what the slots behind hold decides
+abbrev pub invariant-loop-number : goal.invariant-loop-number
+invariant-loop-number l = slots_fit (drop l.number l.types) (drop l.number l.slots) ≡ slots_fit l.types l.slots

@@ -1,6 +1,7 @@
 use Rattle.std.specs.Prelude.{IsErrOf}
 use Rattle.std.proofs.lemmas.Result.{err_from_is_err_and}
 use Rattle.vap_lines.specs.Counted.{inner_of}
+use Rattle.vap_replay.specs.declared.fault.LineFault.TheVariants.{Pattern, Unverified}
 use Rattle.vap_replay.specs.declared.fault.ReplayError.TheVariants.{Line}
 use Rattle.vap_replay.proofs.Next.{stops_first}
 use Rattle.vap_replay.proofs.Told.{replays_each, stopped_each}
@@ -40,3 +41,19 @@ returns-clause-stopped g c =
     stopped_each c.finish.result c.args.audit (g.R.Read.remaining (inner_of c.args.input.now)) c.take_all.new.session
     (g.W.Write.contents (inner_of c.args.output.now)) (g.W.Write.contents (inner_of c.take_all.new.output))
     (g.W.Write.contents (inner_of c.finish.new.out)) all.whole all.none all.written c.finish.ensures.stopped
+
+pub returns-in_err-take_all-clause-pattern : goal.returns-in_err-take_all-clause-pattern
+returns-in_err-take_all-clause-pattern g c =
+    let from = c.from_residual-in_err-take_all in
+    let p = err_from_is_err_and from.result from.ensures.1 in
+    λ line told.
+    let same : IsErrOf c.take_all.result (Line line Pattern) = cc (c.in_err-take_all.was) in
+    c.take_all.ensures.pattern line same
+
+pub returns-in_err-take_all-clause-unverified : goal.returns-in_err-take_all-clause-unverified
+returns-in_err-take_all-clause-unverified g c =
+    let from = c.from_residual-in_err-take_all in
+    let p = err_from_is_err_and from.result from.ensures.1 in
+    λ line told.
+    let same : IsErrOf c.take_all.result (Line line Unverified) = cc (c.in_err-take_all.was) in
+    c.take_all.ensures.unverified line same

@@ -1,13 +1,16 @@
-use Rattle.std.proofs.Common.{◌≡◌, ◌^◌, ◌+◌, ◌∙◌, arith, rules}
+use Rattle.std.proofs.Common.{◌≡◌, ◌≢◌, ◌^◌, ◌+◌, ◌∙◌, rules}
 use Rattle.std.specs.Prelude.{IsErrOf}
 use Rattle.std.specs.Io.KnownBytes.{IsAtEnd}
 use Rattle.std.proofs.lemmas.Result.{err_from_is_err_and}
 use Rattle.vap_lines.specs.Counted.{inner_of}
 use Rattle.vap_lines.specs.Lines.{room, unread}
 use Rattle.vap_lines.specs.declared.lines.Ending.TheVariants.{Feed}
-use Rattle.vap_replay.specs.declared.fault.ReplayError.TheVariants.{Line}
+use Rattle.vap_replay.specs.declared.fault.ReplayError.TheVariants.{Line, Read}
+use Rattle.vap_replay.proofs.Given.{given_next, spent_reading}
 use Rattle.vap_replay.proofs.Next.{ended_of, lines_within, stops_first}
-use Rattle.vap_replay.proofs.Told.{refused_next, stopped_last, stopped_next, taken_next, written_next}
+use Rattle.vap_replay.specs.declared.fault.LineFault.TheVariants.{Pattern, Unverified}
+use Rattle.vap_replay.proofs.Told.{read_last, refused_next, stopped_last, stopped_next, taken_next, told_unwritten, unanswered_last}
+use Rattle.vap_replay.proofs.Told.{unanswered_next, unverified_next, written_next}
 use Rattle.vap_replay.proofs.replaying.take_all.Goals as goal
 
 pub returns-in_err-reader-clause-stopped : goal.returns-in_err-reader-clause-stopped
@@ -56,6 +59,11 @@ loop-alloc-preserved g c =
           written_next g.W.Write.contents (g.W.Write.contents (inner_of c.args.output.now)) c.loop-alloc.session
           c.take_next.new.session c.loop-alloc.output c.take_next.new.output at.written on.written;
       counted = on.counts.all ∙ at.counted;
+      given =
+          given_next c.loop-alloc.ending c.in_ok-ending.ending (g.R.Read.remaining (inner_of c.args.input.now))
+          (g.R.Read.remaining (inner_of c.loop-alloc.input)) (g.R.Read.remaining (inner_of c.take_next.new.input)) c.in_ok-reader.reader
+          c.loop-alloc.reader c.take_next.new.reader feed at.given on.given;
+      no_failure = on.no_failure ∙ at.no_failure;
       lines =
           lines_within c.loop-alloc.ending c.in_ok-ending.ending c.loop-alloc.session.lines c.take_next.new.session.lines
           (room c.loop-alloc.reader) (room c.take_next.new.reader) (2 ^ 56 + 1) feed at.lines on.lines on.less on.no_more;
@@ -67,3 +75,55 @@ returns-clause-stopped g c =
     (unread g.R.Read.remaining c.loop-alloc.input c.loop-alloc.reader) c.loop-alloc.session
     (g.W.Write.contents (inner_of c.args.output.now)) c.loop-alloc.output c.answer_group.new.out c.loop-alloc.invariant.taken
     c.loop-alloc.invariant.written c.answer_group.ensures.stopped
+
+pub returns-in_err-ending-clause-read : goal.returns-in_err-ending-clause-read
+returns-in_err-ending-clause-read g c =
+    let from = c.from_residual-in_err-ending in
+    let p = err_from_is_err_and from.result from.ensures.1 in
+    let at = c.loop-alloc.invariant in
+    let feed : c.loop-alloc.ending ≡ Feed = search rules in
+    λ told.
+    let same : IsErrOf c.take_next.result Read = cc (c.in_err-ending.was) in
+    spent_reading g.R.Read.remaining c.loop-alloc.ending c.args.input.now c.loop-alloc.input c.take_next.new.input
+    c.in_ok-reader.reader c.loop-alloc.reader c.take_next.new.reader feed c.in_ok-reader.ensures.reads at.given at.no_failure
+    (c.take_next.ensures.read same)
+
+pub returns-in_err-ending-clause-pattern : goal.returns-in_err-ending-clause-pattern
+returns-in_err-ending-clause-pattern g c =
+    let from = c.from_residual-in_err-ending in
+    let p = err_from_is_err_and from.result from.ensures.1 in
+    λ number told.
+    let same : IsErrOf c.take_next.result (Line number Pattern) = cc (c.in_err-ending.was) in
+    unanswered_next g.W.Write.contents (g.R.Read.remaining (inner_of c.args.input.now))
+    (unread g.R.Read.remaining c.loop-alloc.input c.loop-alloc.reader) c.loop-alloc.session
+    (g.W.Write.contents (inner_of c.args.output.now)) c.loop-alloc.output c.take_next.new.output number
+    c.loop-alloc.invariant.taken c.loop-alloc.invariant.written (c.take_next.ensures.pattern number same)
+
+pub returns-in_err-ending-clause-unverified : goal.returns-in_err-ending-clause-unverified
+returns-in_err-ending-clause-unverified g c =
+    let from = c.from_residual-in_err-ending in
+    let p = err_from_is_err_and from.result from.ensures.1 in
+    λ number told.
+    let same : IsErrOf c.take_next.result (Line number Unverified) = cc (c.in_err-ending.was) in
+    unverified_next g.W.Write.contents (g.R.Read.remaining (inner_of c.args.input.now))
+    (unread g.R.Read.remaining c.loop-alloc.input c.loop-alloc.reader) c.loop-alloc.session
+    (g.W.Write.contents (inner_of c.args.output.now)) c.loop-alloc.output c.take_next.new.output number
+    c.loop-alloc.invariant.taken c.loop-alloc.invariant.written (c.take_next.ensures.unverified number same)
+
+pub returns-clause-all : goal.returns-clause-all
+returns-clause-all g c =
+    let not : c.loop-alloc.ending ≢ Feed = search rules in
+    read_last c.answer_group.result g.R.Read.remaining g.W.Write.contents c.args.input.now c.loop-alloc.input
+    c.loop-alloc.reader.bytes c.args.output.now c.loop-alloc.output c.answer_group.new.out c.loop-alloc.session
+    c.answer_group.new.self c.loop-alloc.invariant.taken (c.loop-alloc.invariant.ended not) c.loop-alloc.invariant.written
+    c.answer_group.ensures.answered c.answer_group.ensures.written
+
+pub returns-clause-pattern : goal.returns-clause-pattern
+returns-clause-pattern g c =
+    λ number told.
+    unanswered_last g.W.Write.contents (g.R.Read.remaining (inner_of c.args.input.now))
+    (unread g.R.Read.remaining c.loop-alloc.input c.loop-alloc.reader) c.loop-alloc.session
+    (g.W.Write.contents (inner_of c.args.output.now)) c.loop-alloc.output c.answer_group.new.out number Pattern
+    c.loop-alloc.invariant.taken c.loop-alloc.invariant.written (c.answer_group.ensures.pattern number Pattern told)
+    (told_unwritten c.answer_group.result c.loop-alloc.output c.answer_group.new.out number Pattern told
+    c.answer_group.ensures.stopped)

@@ -1,7 +1,7 @@
 use Rattle.std.proofs.Common.{◌≡◌, ◌≤◌, ◌+◌, ◌^◌, ◌≢◌}
 use Rattle.std.specs.Io.KnownBytes.{Appends, IsAtEnd}
 use Rattle.vap_lines.specs.Counted.{failures_of, inner_of}
-use Rattle.vap_lines.specs.Lines.{room, unread}
+use Rattle.vap_lines.specs.Lines.{AllGive, empty_reads, room, unread}
 use Rattle.vap_lines.specs.declared.lines.Ending.TheVariants.{Feed}
 use Rattle.vap_replay.specs.Replay.{answers_text}
 use Rattle.vap_replay.specs.Sessions.{IsInStep}
@@ -16,6 +16,10 @@ invariant-loop-alloc g l = record {
   ended : l.ending ≢ Feed → IsAtEnd (unread g.R.Read.remaining l.input l.reader);
   written : Appends (g.W.Write.contents (inner_of l.fn.output)) (g.W.Write.contents (inner_of l.output)) (answers_text l.session.history);
   counted : failures_of l.output ≡ failures_of l.fn.output;
+  given :
+      AllGive (empty_reads l.ending) (g.R.Read.remaining (inner_of l.fn.input)) (g.R.Read.remaining (inner_of l.input))
+      l.initial.reader l.reader;
+  no_failure : failures_of l.input ≡ failures_of l.fn.input;
   lines : l.session.lines + (room l.reader + turns l.ending) ≤ 2 ^ 56 + 1;
 }
 

@@ -1,5 +1,11 @@
-use Rattle.cel_expression.proofs.Runs.{run_is, run_fits, run_within}
+use Rattle.std.proofs.Common.{◌≡◌, Result, Ok, Err, IsErrAnd, IsErrOf, sym, ap, ◌∙◌}
+use Rattle.cel_expression.proofs.Runs.{run_is, run_fits, run_within, run_matches}
 use Rattle.cel_expression.proofs.compiled.Compiled.run.Goals as goal
+
+-- an error that is handed on is the one that was answered
+same_error : {A B E : Type 0} (r : Result A E) (e f : E) → IsErrAnd r (λ x. x ≡ e) → IsErrOf r f → IsErrOf {T = B} (Err e) f
+same_error (Ok a) e f h k = absurd h
+same_error (Err x) e f h k = let same : x ≡ f = cc in ap Err (sym h ∙ same)
 
 pub returns-clause-run : goal.returns-clause-run
 returns-clause-run c =
@@ -12,3 +18,8 @@ returns-clause-fits c =
 pub returns-clause-within : goal.returns-clause-within
 returns-clause-within c =
     run_within c.self.inside c.self.invariant _ c.self.view_is _ c.get.ensures _ _ _ _ c.requires c.in_ok-ended.ensures.run
+
+pub returns-in_err-ended-clause-pattern : goal.returns-in_err-ended-clause-pattern
+returns-in_err-ended-clause-pattern c = λ is.
+    run_matches c.self.inside c.self.invariant _ c.self.view_is _ c.get.ensures
+    (c.in_err-ended.ensures.pattern (same_error _ _ _ c.from_residual.ensures.1 is))

@@ -14,6 +14,8 @@ invariant-loop-request l =
     record {
       log : l.self.writer ≡ l.fn.self.writer;
       lines : l.self.lines ≡ l.fn.self.lines;
+      first : l.self.first ≡ l.fn.self.first;
+      waiting : length (into_iter_items l.request-iterator) ≤ length l.fn.self.group.items;
       none : l.self.group.items ≡ [];
       entries : l.self.history ++ left ≡ l.fn.self.history ++ all;
       text : string_bytes l.text ++ answers_text left ≡ answers_text all;

@@ -1,8 +1,10 @@
-use Rattle.std.proofs.Common.{refl, sym, subst}
+use Rattle.std.proofs.Common.{◌≡◌, refl, sym, subst}
 use Rattle.std.specs.Prelude.{OnOk}
 use Rattle.vap_replay.specs.Moves.{RefusesAt, Takes}
 use Rattle.vap_replay.specs.declared.line.Line.{Line}
 use Rattle.vap_replay.proofs.Arms.{event_step, refused_event, refused_line, refused_review, took_each}
+use Rattle.vap_replay.specs.declared.fault.LineFault.TheVariants.{Pattern, Unverified}
+use Rattle.vap_replay.proofs.Unjudged.{asks_waits, event_unpublished, group_unjudged, none_waits, plain_fault, review_unjudged, same_waits}
 use Rattle.vap_replay.proofs.session.Session.take.Goals as goal
 
 pub returns-in-Asks-clause-refused : goal.returns-in-Asks-clause-refused
@@ -43,3 +45,45 @@ returns-in-Refused-clause-refused g c =
     (sym c.in-Refused.is)
     (refused_line g.W.Write.contents c.in-Refused.fault c.args.self.now _ c.args.out.now c.refuse.new.out number why
     (c.refuse.ensures.told number why is told) refl refl)
+
+pub returns-in-Skipped-clause-waiting : goal.returns-in-Skipped-clause-waiting
+returns-in-Skipped-clause-waiting g c = λ some. same_waits _ c.args.self.now _ refl refl refl refl some
+
+pub returns-in-Asks-clause-waiting : goal.returns-in-Asks-clause-waiting
+returns-in-Asks-clause-waiting g c =
+    asks_waits c.take_review.result c.args.line c.in-Asks.request c.args.self.now _ c.take_review.new.self c.in-Asks.is
+    refl refl refl refl refl c.take_review.ensures.taken c.take_review.ensures.waiting
+
+pub returns-in-Asks-clause-pattern : goal.returns-in-Asks-clause-pattern
+returns-in-Asks-clause-pattern g c =
+    λ number told plain.
+    review_unjudged c.args.line c.in-Asks.request c.args.self.now c.args.out.now c.take_review.new.out number c.in-Asks.is
+    (c.take_review.ensures.pattern number told)
+
+pub returns-in_ok-answer_group-in-Happens-clause-waiting :
+    goal.returns-in_ok-answer_group-in-Happens-clause-waiting
+returns-in_ok-answer_group-in-Happens-clause-waiting g c =
+    none_waits c.take_event.result _ c.args.self.now c.answer_group.new.self c.take_event.new.self
+    c.in_ok-answer_group-in-Happens.ensures.answered.none c.take_event.ensures.rest.1
+
+pub returns-in_ok-answer_group-in-Happens-clause-unverified :
+    goal.returns-in_ok-answer_group-in-Happens-clause-unverified
+returns-in_ok-answer_group-in-Happens-clause-unverified g c =
+    λ number told plain.
+    event_unpublished g.W.Write.contents c.args.line c.in-Happens.event c.args.self.now _ c.answer_group.new.self c.args.out.now
+    c.answer_group.new.out number c.in-Happens.is c.in_ok-answer_group-in-Happens.ensures.answered refl refl refl
+    (c.take_event.ensures.unverified number told) c.in_ok-answer_group-in-Happens.ensures.written
+
+pub returns-in-Refused-clause-pattern : goal.returns-in-Refused-clause-pattern
+returns-in-Refused-clause-pattern g c =
+    λ number told plain.
+    let both = c.refuse.ensures.pattern number Pattern refl (plain_fault c.args.line c.in-Refused.fault plain c.in-Refused.is) told in
+    group_unjudged _ c.args.self.now _ c.args.out.now c.refuse.new.out number Pattern both.0 refl refl both.1
+
+pub returns-in-Refused-clause-unverified : goal.returns-in-Refused-clause-unverified
+returns-in-Refused-clause-unverified g c =
+    λ number told plain.
+    let both =
+    c.refuse.ensures.pattern number Unverified refl (plain_fault c.args.line c.in-Refused.fault plain c.in-Refused.is) told in
+    let bad : Unverified ≡ Pattern = both.0.pattern in
+    cc

@@ -1,6 +1,8 @@
-use Rattle.std.proofs.Common.{sym, ap, ◌∙◌}
+use Rattle.std.proofs.Common.{◌≡◌, refl, sym, ap, ◌∙◌}
 use Rattle.vap_watch.specs.Places.{Position}
+use Rattle.vap_replay.specs.declared.fault.LineFault.TheVariants.{Pattern, Unverified}
 use Rattle.vap_replay.proofs.Arms.{answered_last, answered_step, entries_length}
+use Rattle.vap_replay.proofs.Unjudged.{group_first}
 use Rattle.vap_replay.proofs.session.Session.take_review.Goals as goal
 
 pub returns-then-waiting-eq-MOST_ENTRIES-clause-full :
@@ -18,3 +20,18 @@ pub returns-in_ok-answer_group-clause-taken : goal.returns-in_ok-answer_group-cl
 returns-in_ok-answer_group-clause-taken g c =
     answered_last c.args.request c.args.self.now c.wait.new.self c.answer_group.new.self c.in_ok-wait.ensures.taken
     c.in_ok-answer_group.ensures.answered
+
+pub returns-then-waiting-eq-MOST_ENTRIES-clause-pattern :
+    goal.returns-then-waiting-eq-MOST_ENTRIES-clause-pattern
+returns-then-waiting-eq-MOST_ENTRIES-clause-pattern g c =
+    λ number told.
+    let both = c.refuse.ensures.pattern number Pattern refl refl told in
+    (both.1, group_first c.args.self.now c.args.self.now.lines number Pattern both.0)
+
+pub returns-then-waiting-eq-MOST_ENTRIES-clause-no_image :
+    goal.returns-then-waiting-eq-MOST_ENTRIES-clause-no_image
+returns-then-waiting-eq-MOST_ENTRIES-clause-no_image g c =
+    λ number told.
+    let both = c.refuse.ensures.pattern number Unverified refl refl told in
+    let bad : Unverified ≡ Pattern = both.0.pattern in
+    cc

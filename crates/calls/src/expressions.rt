@@ -1,0 +1,9 @@
+//! What stands on expressions: trees, types, estimates, images, programs, `eval` and `check`.
+
+pub mod commands;
+pub mod images;
+pub mod made;
+pub mod operands;
+pub mod overloads;
+pub mod runs;
+pub mod trees;

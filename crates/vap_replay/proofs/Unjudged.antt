@@ -1,0 +1,244 @@
+-- Groups that wait, and at which line it is told that one is not judged.
+use Rattle.std.proofs.Common.{◌≡◌, ◌≢◌, ℕ, ◌+◌, List, [], ◌∷◌, length, Option, None, Some, Result, Ok, Err}
+use Rattle.std.proofs.Common.{true, refl, sym, ap, ◌∙◌, subst}
+use Rattle.std.specs.Prelude.{OnOk, IfSome}
+use Rattle.std.specs.Io.KnownBytes.{Appends}
+use Rattle.vap_read.specs.Reading.{read_event}
+use Rattle.vap_read.specs.Lines.{line_kind}
+use Rattle.vap_read.specs.declared.event.Event.{Event}
+use Rattle.vap_read.specs.declared.event_fault.EventFault.{EventFault}
+use Rattle.vap_read.specs.declared.line.LineKind.{LineKind}
+use Rattle.vap_read.specs.declared.line.LineKind.TheVariants as kind
+use Rattle.vap_request.specs.Reading.{read_review}
+use Rattle.vap_request.specs.declared.request.Request.{Request}
+use Rattle.vap_request.specs.declared.review_fault.ReviewFault.{ReviewFault}
+use Rattle.serde_json.specs.View.{view}
+use Rattle.serde_json.specs.declared.value.Value.{Value as Json}
+use Rattle.vap_lines.specs.Counted.{inner_of}
+use Rattle.vap_lines.specs.Lines.{IsFirst, lines_of}
+use Rattle.vap_lines.specs.declared.counted.Counted.{Counted}
+use Rattle.vap_lines.specs.declared.lines.Ending.{Ending}
+use Rattle.vap_lines.specs.declared.lines.Ending.TheVariants.{Feed, End, TooLong}
+use Rattle.vap_watch.specs.Given.{AreUnverified}
+use Rattle.vap_watch.specs.Logs.{objects_after, objects_of}
+use Rattle.vap_watch.specs.Places.{Position}
+use Rattle.vap_replay.specs.Lines.{Reads, event_line, line_by, review_line}
+use Rattle.vap_replay.specs.Moves.{BeginsWith, IsReadAs, IsUnjudged, IsUnpublished, Waits, lines_ended}
+use Rattle.vap_replay.specs.Replay.{answers_text}
+use Rattle.vap_replay.specs.Sessions.{Answered, TakesReview, TellsGroup, first_with, waiting_entries}
+use Rattle.vap_replay.specs.Streams.{IsPlain, is_of_the_lines}
+use Rattle.vap_replay.specs.declared.fault.LineFault.{LineFault}
+use Rattle.vap_replay.specs.declared.fault.LineFault.TheVariants as fault
+use Rattle.vap_replay.specs.declared.line.Line.{Line as LineOf}
+use Rattle.vap_replay.specs.declared.line.Line.TheVariants.{Skipped, Happens, Asks, Refused}
+use Rattle.vap_replay.specs.declared.session.Session.{Session}
+
+-- ---- the first line of a group
+
+pub first_none : (group : List Request) (first line : ℕ) → length group ≡ 0 → first_with group first line ≡ line
+first_none [] first line none = refl
+first_none (r ∷ group) first line none = cc
+
+pub first_some : (group : List Request) (first line : ℕ) → length group ≢ 0 → first_with group first line ≡ first
+first_some [] first line some = absurd (some refl)
+first_some (r ∷ group) first line some = refl
+
+pub first_stays : (group : List Request) (first line : ℕ) → group ≢ [] → first_with group first line ≡ first
+first_stays [] first line some = absurd (some refl)
+first_stays (r ∷ group) first line some = refl
+
+-- a group that is not judged is told at its first line, whatever waits with it
+pub group_first : (s : Session) (line number : ℕ) (why : LineFault) → TellsGroup s number why
+    → number ≡ first_with s.group.items s.first line
+group_first s line number why tells = tells.numbered ∙ sym (first_stays s.group.items s.first line tells.waiting)
+
+-- a group that is told has a request
+pub group_tells : (s : Session) (number : ℕ) (why : LineFault) (request : Request) (requests : List Request)
+    → (number ≡ s.first) × (why ≡ fault.Pattern) → s.group.items ≡ request ∷ requests → TellsGroup s number why
+group_tells s number why request requests told is = record {
+  numbered = told.0;
+  pattern = told.1;
+  waiting = λ none. (let bad : request ∷ requests ≡ [] = sym is ∙ none in cc);
+}
+
+-- ---- one line
+
+-- nothing waits behind an answered group
+pub none_waits : {A E : Type 0} (r : Result A E) (Is : LineOf → Type 0) (old two new : Session) → two.group.items ≡ []
+    → new.group ≡ two.group → OnOk r (new.group.items ≢ [] → Waits Is old new)
+none_waits (Ok x) Is old two new none same = λ some. absurd (some (rw same none))
+none_waits (Err e) Is old two new none same = tt
+
+-- what waits still waits where a line is skipped
+pub same_waits : (Is : LineOf → Type 0) (old new : Session) → new.writer ≡ old.writer → new.history ≡ old.history → new.group ≡ old.group
+    → new.first ≡ old.first → new.group.items ≢ [] → Waits Is old new
+same_waits Is old new writer history group first some =
+    let still : old.group.items ≢ [] = rw group at some in
+    record {
+      log = ap (λ (p : Position). p.published) writer;
+      history = history;
+      first = first ∙ sym (first_stays old.group.items old.first (old.lines + 1) still);
+      review = λ none. absurd (still none);
+    }
+
+-- a review waits, the first or behind others
+pub asks_waits : {A E : Type 0} (r : Result A E) (line : LineOf) (request : Request) (old one new : Session) → line ≡ Asks request
+    → one.writer ≡ old.writer → one.history ≡ old.history → one.group ≡ old.group → one.first ≡ old.first → one.lines ≡ old.lines + 1
+    → OnOk r (TakesReview request one new)
+    → OnOk r (new.group.items ≢ [] → (new.history ≡ one.history) × (new.first ≡ first_with one.group.items one.first one.lines))
+    → OnOk r (new.group.items ≢ [] → Waits (λ l. line ≡ l) old new)
+asks_waits (Ok x) line request old one new is writer history group first lines taken waits = λ some.
+    let on = waits some in
+    record {
+      log = ap (λ (p : Position). p.published) (taken.log ∙ writer);
+      history = on.0 ∙ history;
+      first = on.1 ∙ rw (group, first, lines) refl;
+      review = λ none. (request, is);
+    }
+asks_waits (Err e) line request old one new is writer history group first lines taken waits = tt
+
+-- a group that is not judged before a line is taken
+pub group_unjudged : {W : Type 0} (Is : LineOf → Type 0) (old one : Session) (before after : Counted W) (number : ℕ) (why : LineFault)
+    → TellsGroup one number why → one.group ≡ old.group → one.first ≡ old.first → after ≡ before
+    → IsUnjudged Is old before after number
+group_unjudged Is old one before after number why tells group first same =
+    let some : old.group.items ≢ [] = rw group at tells.waiting in
+    record {
+      unwritten = same;
+      numbered = tells.numbered ∙ (first ∙ sym (first_stays old.group.items old.first (old.lines + 1) some));
+      review = λ none. absurd (some none);
+    }
+
+-- a group that is not judged with the review of a line
+pub review_unjudged : {W : Type 0} (line : LineOf) (request : Request) (old : Session) (before after : Counted W) (number : ℕ)
+    → line ≡ Asks request → (after ≡ before) × (number ≡ first_with old.group.items old.first (old.lines + 1))
+    → IsUnjudged (λ l. line ≡ l) old before after number
+review_unjudged line request old before after number is told = record {
+  unwritten = told.0;
+  numbered = told.1;
+  review = λ none. (request, is);
+}
+
+-- the event of a line is not published
+pub event_unpublished : {W : Type 0} (contents : W → Option (List ℕ)) (line : LineOf) (event : Event) (old one two : Session)
+    (before after : Counted W) (number : ℕ) → line ≡ Happens event → Answered one two → one.writer ≡ old.writer
+    → one.lines ≡ old.lines + 1 → waiting_entries one ≡ waiting_entries old
+    → (number ≡ two.lines) × AreUnverified (objects_after (objects_of two.writer.published) (event ∷ []))
+    → Appends (contents (inner_of before)) (contents (inner_of after)) (answers_text (waiting_entries one))
+    → IsUnpublished contents (λ l. line ≡ l) old before after number
+event_unpublished contents line event old one two before after number is done writer lines waiting told written =
+    let same : two.writer ≡ old.writer = done.log ∙ writer in
+    record {
+      event = event;
+      line = is;
+      numbered = told.0 ∙ (done.lines ∙ lines);
+      unverified = rw same at told.1;
+      written = rw (← waiting) written;
+    }
+
+-- ---- what is read
+
+plain_event : (r : Result Event EventFault) → IsPlain (event_line r)
+plain_event (Ok event) = tt
+plain_event (Err f) = refl
+
+plain_review : (r : Result Request ReviewFault) → IsPlain (review_line r)
+plain_review (Ok request) = tt
+plain_review (Err f) = refl
+
+plain_kind : (k : LineKind) (json : Json) → IsPlain (line_by k json)
+plain_kind kind.WatchEvent json = plain_event (read_event (view json))
+plain_kind kind.ObjectList json = plain_event (read_event (view json))
+plain_kind kind.Review json = plain_review (read_review json)
+plain_kind kind.Unknown json = refl
+
+-- a line that is read is refused of the lines alone
+pub plain_read : (bytes : List ℕ) (line : LineOf) → Reads bytes line → IsPlain line
+plain_read bytes Skipped read = tt
+plain_read bytes (Happens event) read = tt
+plain_read bytes (Asks request) read = tt
+plain_read bytes (Refused fault.TooLong) read = refl
+plain_read bytes (Refused fault.BadJson) read = refl
+plain_read bytes (Refused fault.UnknownLine) read = refl
+plain_read bytes (Refused (fault.OfEvent f)) read = refl
+plain_read bytes (Refused (fault.OfReview f)) read = refl
+plain_read bytes (Refused fault.LogFull) read = refl
+plain_read bytes (Refused fault.TooManyObjects) read = refl
+plain_read bytes (Refused fault.AuditFull) read = refl
+plain_read bytes (Refused fault.Unverified) read =
+    let json = read.2.json in
+    subst IsPlain (sym read.2.is) (plain_kind (line_kind (view json)) json)
+plain_read bytes (Refused fault.Pattern) read =
+    let json = read.2.json in
+    subst IsPlain (sym read.2.is) (plain_kind (line_kind (view json)) json)
+
+-- the fault of such a line
+pub plain_fault : (line : LineOf) (f : LineFault) → IsPlain line → line ≡ Refused f → is_of_the_lines f ≡ true
+plain_fault line f plain is = subst IsPlain is plain
+
+pub read_as : (ending : Ending) (bytes : List ℕ) (line l : LineOf) → lines_ended ending bytes ≡ bytes ∷ [] → ending ≢ TooLong
+    → Reads bytes line → line ≡ l → IsReadAs ending bytes l
+read_as ending bytes line l one short read is = record { one = one; short = short; read = subst (Reads bytes) is read }
+
+-- ---- lines seen in another way
+
+pub waits_as : {A E : Type 0} (r : Result A E) (Is Was : LineOf → Type 0) (old new : Session)
+    → ((request : Request) → Is (Asks request) → Was (Asks request)) → OnOk r (new.group.items ≢ [] → Waits Is old new)
+    → OnOk r (new.group.items ≢ [] → Waits Was old new)
+waits_as (Ok x) Is Was old new asked waits = λ some.
+    let on = waits some in
+    record {
+      log = on.log;
+      history = on.history;
+      first = on.first;
+      review = λ none. (let (request, is) = on.review none in (request, asked request is));
+    }
+waits_as (Err e) Is Was old new asked waits = tt
+
+pub unjudged_as : {W : Type 0} (Is Was : LineOf → Type 0) (old : Session) (before after : Counted W) (number : ℕ)
+    → ((request : Request) → Is (Asks request) → Was (Asks request)) → IsUnjudged Is old before after number
+    → IsUnjudged Was old before after number
+unjudged_as Is Was old before after number asked at = record {
+  unwritten = at.unwritten;
+  numbered = at.numbered;
+  review = λ none. (let (request, is) = at.review none in (request, asked request is));
+}
+
+pub unpublished_as : {W : Type 0} (contents : W → Option (List ℕ)) (Is Was : LineOf → Type 0) (old : Session) (before after : Counted W)
+    (number : ℕ) → ((event : Event) → Is (Happens event) → Was (Happens event)) → IsUnpublished contents Is old before after number
+    → IsUnpublished contents Was old before after number
+unpublished_as contents Is Was old before after number asked at = record {
+  event = at.event;
+  line = asked at.event at.line;
+  numbered = at.numbered;
+  unverified = at.unverified;
+  written = at.written;
+}
+
+-- the bytes of the next line are those of the first of the text
+begins_of : (ending : Ending) (text : List ℕ) (left : Option (List ℕ)) (bytes : List ℕ) (line : LineOf)
+    → IsFirst (Some text) left bytes ending → IsReadAs ending bytes line → BeginsWith text line
+begins_of ending text None bytes line first asked = absurd first
+begins_of Feed text (Some left) bytes line first asked = record { first = bytes; others = lines_of left; split = first; read = asked.read }
+begins_of End text (Some left) [] line first asked =
+    let one : [] ≡ [] ∷ [] = asked.one in
+    cc
+begins_of End text (Some left) (x ∷ bytes) line first asked = record { first = x ∷ bytes; others = []; split = first; read = asked.read }
+begins_of TooLong text (Some left) bytes line first asked = absurd (asked.short refl)
+
+pub next_unjudged : {W : Type 0} (ending : Ending) (text left : Option (List ℕ)) (bytes : List ℕ) (old : Session) (before after : Counted W)
+    (number : ℕ) → IsFirst text left bytes ending → IsUnjudged (IsReadAs ending bytes) old before after number
+    → IfSome text (λ t. IsUnjudged (BeginsWith t) old before after number)
+next_unjudged ending None left bytes old before after number first at = tt
+next_unjudged ending (Some text) left bytes old before after number first at =
+    unjudged_as (IsReadAs ending bytes) (BeginsWith text) old before after number
+    (λ request asked. begins_of ending text left bytes (Asks request) first asked) at
+
+pub next_unpublished : {W : Type 0} (contents : W → Option (List ℕ)) (ending : Ending) (text left : Option (List ℕ)) (bytes : List ℕ)
+    (old : Session) (before after : Counted W) (number : ℕ) → IsFirst text left bytes ending
+    → IsUnpublished contents (IsReadAs ending bytes) old before after number
+    → IfSome text (λ t. IsUnpublished contents (BeginsWith t) old before after number)
+next_unpublished contents ending None left bytes old before after number first at = tt
+next_unpublished contents ending (Some text) left bytes old before after number first at =
+    unpublished_as contents (IsReadAs ending bytes) (BeginsWith text) old before after number
+    (λ event asked. begins_of ending text left bytes (Happens event) first asked) at

@@ -1,0 +1,48 @@
+-- The revision of a verdict.
+use Rattle.std.proofs.Common.{◌≡◌, ◌+◌, ℕ, Bool, true, false, List, [], ◌∷◌, length, Result, Ok, Err, refl, ap, ◌∙◌, suc, arith}
+use Rattle.std.specs.Prelude.{if◌then◌else◌}
+use Rattle.vap_read.specs.declared.event.Event.{Event}
+use Rattle.vap_request.specs.declared.request.Request.{Request}
+use Rattle.vap_set.specs.Sets.{kinds_of}
+use Rattle.vap_judge.specs.Findings.{no_findings}
+use Rattle.vap_judge.specs.Judging as judging
+use Rattle.vap_judge.specs.Places.{is_exempt, kind_at}
+use Rattle.vap_watch.specs.Given.{Objects, PolicySet, Verdict, after, no_objects, verdict_of}
+use Rattle.vap_watch.specs.Logs.{events_of, objects_after, set_of, verdict_at}
+use Rattle.vap_watch.specs.declared.log.Logged.{Logged}
+
+-- two verdicts of one revision
+either : (b : Bool) (v w : Verdict) (n : ℕ) → v.revision ≡ n → w.revision ≡ n → (if b then v else w).revision ≡ n
+either true v w n h k = h
+either false v w n h k = k
+
+-- verdicts of what is or is not, all of one revision
+of_each : {A E : Type 0} (f : Result A E → Verdict) (n : ℕ) → ((a : A) → (f (Ok a)).revision ≡ n) → ((e : E) → (f (Err e)).revision ≡ n)
+    → (r : Result A E) → (f r).revision ≡ n
+of_each f n h k (Ok a) = h a
+of_each f n h k (Err e) = k e
+
+-- the revision of what a set decides is the count of the events of its objects
+set_revision : (set : PolicySet) (request : Request) → (verdict_of set request).revision ≡ set.objects.events
+unfolding verdict_of judging.verdict_of
+set_revision set request =
+    let kind = kind_at (kinds_of set) request.admission in
+    either (is_exempt request.admission.resource) (judging.verdict_by set.objects.events no_findings)
+    (judging.verdict_at set request.admission kind) set.objects.events refl
+    (of_each (judging.verdict_with set request.admission kind) set.objects.events (λ held. refl) (λ fault. refl) _)
+
+-- each event is counted
+counted : (objects : Objects) (events : List Event) → (objects_after objects events).events ≡ objects.events + length events
+counted objects [] = omega arith
+counted objects (e ∷ events) = omega (arith, counted (after objects e) events)
+
+length_events : (log : List Logged) → length (events_of log) ≡ length log
+length_events [] = refl
+length_events (x ∷ log) = ap suc (length_events log)
+
+-- the revision of the verdict at a log is the log's length
+pub verdict_revision : (log : List Logged) (request : Request) → (verdict_at log request).revision ≡ length log
+verdict_revision log request =
+    let all : (objects_after no_objects (events_of log)).events ≡ length (events_of log) =
+    omega (arith, counted no_objects (events_of log)) in
+    set_revision (set_of log) request ∙ (all ∙ length_events log)

@@ -1,0 +1,141 @@
+"""The record of refused edits, refused.txt: of each crate how many edits the prover has refused, and a checksum of all that this rests on.
+
+Whether the prover refuses an edit is a function of what its check reads and of how it is tried, and the checksum covers that: the
+toolchain's line; edits.py, which makes and tries edits; of the crate itself its libraries' names and all files of src/, specs/, proofs/
+and must-fail/; and of each library below it what a check of a crate above can see. That is specs/, the lemma files of proofs/, and
+src/ without comments, without functions that are not public, and without the bodies of those that are: of a function a crate
+above sees its signature and its contract.
+"""
+import functools
+import hashlib
+import re
+import subprocess
+from pathlib import Path
+from typing import NamedTuple
+
+PARTS = ("src", "specs", "proofs", "must-fail")
+FUNCTION = re.compile(r"(?P<indent>(?: {4})?)(?P<public>pub )?(?:pub\([a-z]+\) )?(?:const )?(?:unsafe )?fn \w")
+CLAUSE = re.compile(r" *(?:(?:requires|ensures|ghost)\b|where$)")
+OWNER = re.compile(r"impl\b|(?:pub(?:\([a-z]+\))? )?trait ")
+TRAIT = re.compile(r"(?:pub(?:\([a-z]+\))? )?trait ")
+# The first line of an impl that is of no trait: its methods are seen above where they are public.
+OWN_METHODS = re.compile(r"impl(?:(?! for ).)*\{$")
+# What is written of a function's own proof, which no crate above reads.
+OWN_PROOF = ("Answers.antt", "Invariants.antt", "Proof.antt")
+HEAD = """# Of each crate: how many of its edits the prover has refused, and a checksum of all that this rests on (docs/GATE.md).
+# tests/wrong_bodies.py writes a line once all edits of its crate are refused.
+"""
+
+
+def without_bodies(text):
+    """What a crate above can see of a source in rt fmt's layout: all but comments, functions that are not public, and the bodies of those
+    that are. (The methods of traits keep theirs.)"""
+    kept, closing, indent, has_clauses, is_hidden, owner = [], None, None, False, False, ""
+    for line in text.split("\n"):
+        if closing is not None:
+            closing = None if line == closing else closing
+            continue
+        if line.lstrip().startswith("//"):
+            continue
+        owner = line if OWNER.match(line) else "" if line == "}" else owner
+        begins = FUNCTION.match(line)
+        if begins:
+            indent, has_clauses = begins["indent"], False
+            is_hidden = not begins["public"] and (not indent or bool(OWN_METHODS.match(owner)))
+        if not is_hidden:
+            kept.append(line)
+        if indent is None:
+            continue
+        has_clauses = has_clauses or bool(CLAUSE.match(line))
+        opens = line == indent + "{" or not has_clauses and line.endswith(" {")
+        if opens and not TRAIT.match(owner):
+            closing = indent + "}"
+        if opens or begins and line.endswith(("}", ";")) or line == indent + ");":
+            indent, is_hidden = None, False
+    # (a body without an end is no such layout)
+    return "\n".join(kept) if closing is None else text
+
+
+def seen(path):
+    """What a check of a crate above can see of a file, or None where that is nothing."""
+    if path.suffix == ".rt":
+        return without_bodies(path.read_text(encoding="utf-8"))
+    return None if path.name in OWN_PROOF else path.read_text(encoding="utf-8")
+
+
+def sum_of(things):
+    return hashlib.sha256(repr(things).encode()).hexdigest()
+
+
+@functools.cache
+def toolchain():
+    return subprocess.run(["rt", "version"], capture_output=True, text=True, check=True).stdout.strip()
+
+
+class Tree(NamedTuple):
+    """The files that refusals rest on: a folder of crates, the folder that has their edits, and the libraries of each crate."""
+
+    crates: Path
+    edits: Path
+    libraries: dict
+
+    def below(self, crate):
+        """The crates of this repository that a crate stands on."""
+        found = []
+        for name in self.libraries[crate]:
+            if name in self.libraries:
+                found += [it for it in [*self.below(name), name] if it not in found]
+        return found
+
+    def files(self, crate, parts):
+        for part in parts:
+            folder = (self.edits if part == "must-fail" else self.crates) / crate / part
+            for file in sorted(folder.rglob("*")):
+                if file.is_file():
+                    yield f"{crate}/{part}/{file.relative_to(folder)}", file
+
+    def seen_of(self, crate):
+        """What a check of a crate above can see of a crate."""
+        found = [(name, seen(file)) for name, file in self.files(crate, ("src", "specs", "proofs"))]
+        return [it for it in found if it[1] is not None]
+
+    def rests_on(self, crate):
+        """The checksum of all that the refusal of a crate's edits rests on."""
+        trying = Path(__file__).with_name("edits.py").read_bytes()
+        own = [(name, file.read_bytes()) for name, file in self.files(crate, PARTS)]
+        below = [(name, self.libraries[name], self.seen_of(name)) for name in self.below(crate)]
+        return sum_of([toolchain(), trying, self.libraries[crate], own, below])
+
+
+class Record:
+    """The lines of a record's file."""
+
+    def __init__(self, file):
+        self.file = Path(file)
+        self.lines = self.read()
+
+    def read(self):
+        texts = self.file.read_text(encoding="utf-8").splitlines() if self.file.is_file() else []
+        return {it.split()[0]: it for it in texts if it and not it.startswith("#")}
+
+    def has(self, crate, count, rests_on):
+        return self.lines.get(crate) == self.line(crate, count, rests_on)
+
+    @staticmethod
+    def line(crate, count, rests_on):
+        return f"{crate} {count} {rests_on}"
+
+    def put(self, crate, count, rests_on):
+        """Writes the line of a crate whose edits are all refused."""
+        # (another run may have written lines meanwhile)
+        self.lines = {**self.read(), crate: self.line(crate, count, rests_on)}
+        self.write()
+
+    def keep(self, crates):
+        """Leaves out the lines of other crates than these."""
+        if not set(self.lines) <= set(crates):
+            self.lines = {crate: line for crate, line in self.lines.items() if crate in crates}
+            self.write()
+
+    def write(self):
+        self.file.write_text(HEAD + "".join(f"{self.lines[it]}\n" for it in sorted(self.lines)), encoding="utf-8")

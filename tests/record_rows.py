@@ -1,0 +1,79 @@
+#!/usr/bin/env python3
+"""Changes a copy of the crates in one place at a time, and looks whether the record's line of a crate above, cel_lex, still matches.
+
+It has to match where nothing is changed that a check of its edits reads, and must not where something is. The first word may be
+a repository whose crates are copied, in place of this one's. The last line is 'N passed, M failed'.
+"""
+import shutil
+import sys
+import tempfile
+from pathlib import Path
+
+import record
+from edits import CRATES, TOP
+
+ABOVE = "cel_lex"
+PARTS = ["plain/src", "plain/specs", "plain/proofs", "vap_lines/src", *(f"{ABOVE}/{part}" for part in record.PARTS)]
+# What is changed: a file, a text that it has, what takes its place, and whether the line still matches.
+CHANGES = [
+    ("the body of a public function below", "plain/src/text.rt", "text: self.text.clone()?", "text: String::new(alloc)", True),
+    ("a comment below", "plain/src/text.rt", "/// A `String` that", "/// A text that", True),
+    ("a function below that is not public", "plain/src/text_map.rt", "fn place_of(", "fn place_under(", True),
+    ("answers of a function's own proof below", "plain/proofs/text/Text/copy/Answers.antt", "\n", "\n\n", True),
+    ("a crate that is not below", "vap_lines/src/lib.rt", "//! ", "use x;\n//! ", True),
+    ("a clause below", "plain/src/text.rt", "t ≡ self.now", "t ≡ []", False),
+    ("a signature below", "plain/src/text_map.rt", "pub fn len(&self) -> usize", "pub fn len(self) -> usize", False),
+    ("what contracts see of a type below", "plain/src/text.rt", "string_bytes t.text", "[]", False),
+    ("a definition below", "plain/specs/Keys.antt", "keys_in es = map", "keys_in es = rev", False),
+    ("a lemma below", "plain/proofs/Order.antt", "Below a b", "Above a b", False),
+    ("a body of its own", f"{ABOVE}/src/scan.rt", "{\n", "{\n\n", False),
+    ("an answer of its own", f"{ABOVE}/proofs/Lib.antt", "mod ", "pub  mod ", False),
+    ("an edit of its own", f"{ABOVE}/must-fail/tokens-tokens_only_fail.edit", "new:", "new: ", False),
+]
+
+
+def rests_on(crates, libraries=CRATES):
+    return record.Tree(crates, crates, libraries).rests_on(ABOVE)
+
+
+def matches_with(crates, path, old, new):
+    """Whether the line that matched before still does where a file has another text in place of its first of this."""
+    before, file = rests_on(crates), crates / path
+    text = file.read_text(encoding="utf-8")
+    if old not in text:
+        return None
+    file.write_text(text.replace(old, new, 1), encoding="utf-8")
+    try:
+        return rests_on(crates) == before
+    finally:
+        file.write_text(text, encoding="utf-8")
+
+
+def rows(crates):
+    """What is changed, whether the line still matches, and whether it has to."""
+    for what, path, old, new, is_valid in CHANGES:
+        yield what, matches_with(crates, path, old, new), is_valid
+    before = rests_on(crates)
+    yield "its libraries", rests_on(crates, {**CRATES, ABOVE: [*CRATES[ABOVE], "vap_lines"]}) == before, False
+    toolchain, record.toolchain = record.toolchain, lambda: "another"
+    yield "the toolchain", rests_on(crates) == before, False
+    record.toolchain = toolchain
+    yield "nothing", rests_on(crates) == before, True
+
+
+def main(words):
+    top = Path(words[0]) if words else TOP
+    passed = failed = 0
+    with tempfile.TemporaryDirectory() as folder:
+        for part in PARTS:
+            shutil.copytree(top / "crates" / part, Path(folder) / part)
+        for what, matches, is_valid in rows(Path(folder)):
+            passed, failed = passed + (matches == is_valid), failed + (matches != is_valid)
+            if matches != is_valid:
+                print(f"record: {what} is changed: the line {'matches' if matches else 'does not match'}")
+    print(f"{passed} passed, {failed} failed")
+    return 1 if failed else 0
+
+
+if __name__ == "__main__":
+    sys.exit(main(sys.argv[1:]))
