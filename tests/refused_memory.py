@@ -3,8 +3,8 @@
 
 The program is run on the first expression, on one with loops and on vectors of each answer, and then must give its right answer, or end
 with status 4 and nothing on standard output; and so are `check` and `replay` on their examples, which may have written
-whole lines of their answer before. The program crates/calls is run on each line of tests/vectors/calls-*.jsonl that has
-`"refused"`, and must give its right answer, or end with another status than 0 and write nothing else.
+whole lines of their answer before. The programs that make calls are run on each of their lines, tests/vectors/*_calls-*.jsonl, that
+has `"refused"`, and must give its right answer, or end with another status than 0 and write nothing else.
 
 Then the allocations for the lines of what is lent are counted: that ten runs more of the same expressions take as many, of
 as many bytes, where the slots hold much as where they hold little. The last line is 'N passed, M failed', each refused allocation
@@ -21,7 +21,7 @@ from pathlib import Path
 
 TOP = Path(__file__).resolve().parent.parent
 PROGRAM = TOP / "crates/vap/out/vap"
-CALLS = TOP / "crates/calls/out/calls"
+LENT = TOP / "tests/vectors/language_calls-lent.jsonl"
 FIRST = "1 + 2 * 3 == 7 && !(4 < 3)"
 LOOPS = "[[1, 2], [3]].map(r, r.filter(c, {'a': c}.exists(k, k == 'a') && c != 2))"
 VECTORS = 50
@@ -69,23 +69,29 @@ def commands():
 
 
 def calls():
-    """The lines of crates/calls that are tried so."""
-    for file in sorted((TOP / "tests/vectors").glob("calls-*.jsonl")):
+    """The lines of calls that are tried so."""
+    for file in sorted((TOP / "tests/vectors").glob("*_calls-*.jsonl")):
         for line in map(json.loads, file.read_text(encoding="utf-8").split("\n")[:-1]):
             if line.get("refused"):
                 is_right = lambda out, line=line: answers_of(out) == [line["answer"]]
                 is_well = lambda status, out, is_right=is_right: is_right(out) if status == 0 else not out or is_right(out)
-                yield line["call"], [CALLS], asked(line), is_right, is_well
+                yield line["call"], [caller(file)], asked(line), is_right, is_well
+
+
+def caller(file):
+    """The program that makes the calls of a file."""
+    name = file.stem.partition("-")[0]
+    return TOP / "crates" / name / "out" / name
 
 
 def asked(line, width=0):
-    """What crates/calls is given for a line, so many bytes at least."""
+    """What that program is given for a line, so many bytes at least."""
     text = json.dumps({key: line[key] for key in ("call", "with", "input") if key in line})
     return text.ljust(width).encode() + b"\n"
 
 
 def answers_of(out):
-    """The answers of crates/calls, or None."""
+    """The answers of such a program, or None."""
     try:
         return [json.loads(text) for text in out.decode().splitlines()]
     except ValueError:
@@ -126,10 +132,10 @@ def sweep(library, name, words, given, is_right, is_well):
 
 
 def counted(library, lines):
-    """How many allocations crates/calls makes for these lines, and of how many bytes together."""
+    """How many allocations are made for these lines of what is lent, and of how many bytes together."""
     environment = {"LD_PRELOAD": str(library), "COUNTED": "1"}
     given = b"".join(asked(line, 200) for line in lines)
-    ran = subprocess.run([CALLS], env=environment, input=given, capture_output=True, timeout=60)
+    ran = subprocess.run([caller(LENT)], env=environment, input=given, capture_output=True, timeout=60)
     if ran.returncode or answers_of(ran.stdout) != [line["answer"] for line in lines]:
         raise SystemExit(f"what is lent: status {ran.returncode}, {ran.stdout!r}")
     return [int(word) for word in ran.stderr.split()[-2:]]
@@ -137,7 +143,7 @@ def counted(library, lines):
 
 def taken(library, texts):
     """What the further runs of the same expressions take where slots hold so many texts: allocations and bytes."""
-    lines = [json.loads(text) for text in (TOP / "tests/vectors/calls-lent.jsonl").read_text(encoding="utf-8").splitlines()]
+    lines = [json.loads(text) for text in LENT.read_text(encoding="utf-8").splitlines()]
     once = counted(library, [line for line in lines if line["with"] == [texts, 1]])
     often = counted(library, [line for line in lines if line["with"] == [texts, 11]])
     return [more - less for more, less in zip(often, once)]

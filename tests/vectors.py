@@ -2,8 +2,9 @@
 """Runs the program on each line of tests/vectors/*.jsonl and names each line that is not met.
 
 The first word of a file's name is the command that its lines are for. Lines of `replay` are run with one worker, with
-two and with 16. Lines of `calls` and `fit` are for crates/calls, the program that makes the calls that lines ask for: all
-lines of a file in one run. With names of files, it runs those alone. The last line is 'N passed, M failed'.
+two and with 16. Lines of `language_calls`, `cluster_calls` and `stream_calls` are for the programs of these names, which make the
+calls that lines ask for: all lines of a file in one run. So are those of `fit`, for `language_calls`. With names of files, it runs
+those alone. The last line is 'N passed, M failed'.
 """
 import json
 import os
@@ -14,7 +15,6 @@ from pathlib import Path
 
 TOP = Path(__file__).resolve().parent.parent
 PROGRAM = TOP / "crates/vap/out/vap"
-CALLS = os.environ.get("CALLS", "").split() or [TOP / "crates/calls/out/calls"]
 
 
 def file_of(line):
@@ -67,20 +67,32 @@ def unmet(command, text):
     return next(filter(None, (unmet_with(words + more, given, line) for more in others)), None)
 
 
-# What the program of calls is given for a line.
+def asked_in(line):
+    """What a line of calls asks."""
+    return {key: line[key] for key in ("call", "with", "input") if key in line}
+
+
+# The programs that make calls, and what each is given for a line.
 ASKED = {
-    "calls": lambda line: {key: line[key] for key in ("call", "with", "input") if key in line},
-    "fit": lambda line: {"call": "schemas.row", "input": line["line"]},
+    "language_calls": ("language_calls", asked_in),
+    "cluster_calls": ("cluster_calls", asked_in),
+    "stream_calls": ("stream_calls", asked_in),
+    "fit": ("language_calls", lambda line: {"call": "schemas.row", "input": line["line"]}),
 }
+
+
+def program(name):
+    return TOP / "crates" / name / "out" / name
 
 
 def unmet_calls(command, texts):
     """Why each line of a file of calls is not met, or None."""
     try:
         lines = [json.loads(text) for text in texts]
-        asked = [json.dumps(ASKED[command](line), ensure_ascii=False) for line in lines]
+        name, asked_of = ASKED[command]
+        asked = [json.dumps(asked_of(line), ensure_ascii=False) for line in lines]
         given = "".join(line + "\n" for line in asked).encode()
-        ran = subprocess.run(CALLS, input=given, stdout=subprocess.PIPE, timeout=600)
+        ran = subprocess.run([program(name)], input=given, stdout=subprocess.PIPE, timeout=600)
         answers = [json.loads(answer) for answer in ran.stdout.decode().split("\n")[:-1]]
     except (KeyError, OSError, ValueError, subprocess.TimeoutExpired) as error:
         return [f"it cannot be run: {error!r}"] * len(texts)

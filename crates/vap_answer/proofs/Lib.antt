@@ -1,2 +1,3 @@
 pub mod Floors
+pub mod Once
 pub mod WorkedRows

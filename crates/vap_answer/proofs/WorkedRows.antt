@@ -1,7 +1,7 @@
 -- Rows of verdicts, worked by computing.
 use Rattle.std.proofs.Common.{◌≡◌, true, [], ◌∷◌, codes, refl}
 use Rattle.std.specs.Fmt.Cut.{floor_char_boundary}
-use Rattle.vap_answer.specs.Annotations.{joined, values_of, noted}
+use Rattle.vap_answer.specs.Annotations.{joined, values_at}
 use Rattle.vap_answer.specs.Cut.{cut_text}
 use Rattle.vap_answer.specs.Verdicts.{decision_of}
 
@@ -24,12 +24,11 @@ not_cut = refl
 
 -- a value that comes again does not stand twice, and one of another key does not stand there
 each_once :
-    joined (values_of (codes "k") [] (
+    joined (values_at (codes "k") (
     record { key = codes "k"; value = codes "b" }
     ∷ record { key = codes "m"; value = codes "c" }
     ∷ record { key = codes "k"; value = codes "a" }
     ∷ record { key = codes "k"; value = codes "b" }
     ∷ []))
     ≡ codes "b, a"
-unfolding noted
 each_once = refl

@@ -1,5 +1,5 @@
 -- The annotations that are kept with a decision.
-use Rattle.std.specs.Prelude.{ℕ, Bool, codes, List, [], ◌∷◌, ◌++◌, is_some, if◌then◌else◌}
+use Rattle.std.specs.Prelude.{ℕ, Bool, not, codes, List, [], ◌∷◌, ◌++◌, map, filter, is_some, if◌then◌else◌}
 use Rattle.std.specs.List.{flat_map, list_any}
 use Rattle.std.specs.Str.{bytes_eq}
 use Rattle.plain.specs.Keys.{value_under, with_entry}
@@ -37,10 +37,14 @@ with_text ts t = if list_any (bytes_eq t) ts then ts else ts ++ t ∷ []
 unfoldable pub noted : List ℕ → List (List ℕ) → Keyed (List ℕ) → List (List ℕ)
 noted key ts n = if bytes_eq n.key key then with_text ts n.value else ts
 
--- the values so far, and those under this key, each once
-abbrev pub values_of : List ℕ → List (List ℕ) → List (Keyed (List ℕ)) → List (List ℕ)
-values_of key ts [] = ts
-values_of key ts (n ∷ ns) = values_of key (noted key ts n) ns
+-- texts, each once, where it first appears
+abbrev pub each_once : List (List ℕ) → List (List ℕ)
+each_once [] = []
+each_once (t ∷ ts) = t ∷ filter (λ u. not (bytes_eq u t)) (each_once ts)
+
+-- the values under a key, each once
+abbrev pub values_at : List ℕ → List (Keyed (List ℕ)) → List (List ℕ)
+values_at key es = each_once (map (λ e. e.value) (filter (λ e. bytes_eq e.key key) es))
 
 -- texts, each behind a comma and a space
 abbrev pub after_first : List (List ℕ) → List ℕ
@@ -54,7 +58,7 @@ joined (t ∷ ts) = t ++ after_first ts
 
 -- what is there, and under a new key all its values
 unfoldable pub with_key : List (Keyed (List ℕ)) → List (Keyed (List ℕ)) → List ℕ → List (Keyed (List ℕ))
-with_key all m key = if is_some (value_under key m) then m else with_entry key (joined (values_of key [] all)) m
+with_key all m key = if is_some (value_under key m) then m else with_entry key (joined (values_at key all)) m
 
 -- what is there, and each new key of these entries with all its values
 abbrev pub grouped_from : List (Keyed (List ℕ)) → List (Keyed (List ℕ)) → List (Keyed (List ℕ)) → List (Keyed (List ℕ))

@@ -1,9 +1,9 @@
 //! Each key with all its values, each value once, in the order in which they are first seen.
 
-ghost use Rattle.std.specs.Prelude.{◌≡◌, [], IfOk, OnOk};
+ghost use Rattle.std.specs.Prelude.{◌≡◌, IfOk, OnOk};
 ghost use Rattle.std.specs.List.{list_any};
 ghost use Rattle.std.specs.Str.{bytes_eq};
-ghost use Rattle.vap_answer.specs.Annotations.{noted, values_of, joined, with_key};
+ghost use Rattle.vap_answer.specs.Annotations.{noted, values_at, joined, with_key};
 
 use plain::{Keyed, Text, TextMap};
 use std::alloc::{AllocError, Global};
@@ -34,7 +34,7 @@ fn distinct_values(
     key: &str,
     entries: &[Keyed<Text>],
 ) -> Result<Vec<Text>, AllocError>
-    ensures { IfOk result (λ texts. texts.items ≡ values_of key.now [] entries.now) }
+    ensures { IfOk result (λ texts. texts.items ≡ values_at key.now entries.now) }
 {
     let mut texts = Vec::new(alloc);
     for entry in entries {

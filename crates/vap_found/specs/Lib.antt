@@ -6,3 +6,4 @@ pub mod Validations
 pub mod Annotations
 pub mod Found
 pub mod CanRun
+pub mod Patterns

@@ -1,13 +1,14 @@
 //! Annotations.
 
-ghost use Rattle.std.specs.Prelude.{◌≡◌, ◌≤◌, ◌++◌, true, List, sum_by, IfOk, OnOk, None};
-ghost use Rattle.std.specs.List.{flat_map};
+ghost use Rattle.std.specs.Prelude.{◌≡◌, ◌≤◌, ◌++◌, true, List, sum_by, IfOk, IsErrOf, OnOk, None};
+ghost use Rattle.std.specs.List.{Any, flat_map};
 ghost use Rattle.cel_value.specs.declared.cel_type.CelType.{CelType};
 ghost use Rattle.cel_operators.specs.Outcomes.{slots_fit};
 ghost use Rattle.cel_estimate.specs.Estimate.{budget};
 ghost use Rattle.vap_programs.specs.Pairs.{annotation_estimate, most};
 ghost use Rattle.vap_programs.specs.Ready.{IsAt, AreAnnotationsAt};
 ghost use Rattle.vap_found.specs.Annotations.{note_of, note_by, note, note_failure_by, note_failure, note_charge};
+ghost use Rattle.vap_found.specs.Patterns.{AnnotationMayMatch};
 
 use crate::failing::push_error;
 use crate::found::{Failure, Note};
@@ -88,6 +89,7 @@ fn annotate(
     ensures charged { IfOk result (λ n. n ≡ note_charge slots.now annotation.now) }
     ensures within { IfOk result (λ n. n ≤ annotation_estimate annotation.now) }
     ensures small { IfOk result (λ n. n ≤ budget) }
+    ensures pattern { IsErrOf result RunFault.Pattern → AnnotationMayMatch annotation.now }
 {
     let ran = run(alloc, &annotation.value, slots, matchers)?;
     let Ran { outcome, charged } = ran;
@@ -114,6 +116,7 @@ pub fn annotate_all(
     ensures notes { OnOk result (notes.new.items ≡ notes.old.items ++ flat_map (note slots.now) annotations.now) }
     ensures charged { IfOk result (λ n. n ≡ sum_by (note_charge slots.now) annotations.now) }
     ensures within { IfOk result (λ n. n ≤ sum_by annotation_estimate annotations.now) }
+    ensures pattern { IsErrOf result RunFault.Pattern → Any AnnotationMayMatch annotations.now }
 {
     let mut charged: u64 = 0;
     for annotation in annotations {

@@ -1,12 +1,14 @@
 //! Match conditions.
 
-ghost use Rattle.std.specs.Prelude.{◌≡◌, ◌≤◌, true, List, sum_by, Err, IfOk};
+ghost use Rattle.std.specs.Prelude.{◌≡◌, ◌≤◌, true, List, sum_by, Err, IfOk, IsErrOf};
+ghost use Rattle.std.specs.List.{Any};
 ghost use Rattle.cel_value.specs.declared.cel_type.CelType.{CelType};
 ghost use Rattle.cel_operators.specs.Outcomes.{slots_fit};
 ghost use Rattle.vap_programs.specs.Pairs.{condition_estimate, most};
 ghost use Rattle.vap_programs.specs.Ready.{AreConditionsAt};
 ghost use Rattle.vap_found.specs.declared.conditions.Gate.{Gate};
 ghost use Rattle.vap_found.specs.Conditions.{behind, conditions_pass, conditions_charge, past};
+ghost use Rattle.vap_found.specs.Patterns.{ConditionMayMatch};
 
 use crate::running::{Tested, test};
 use crate::words::condition_error;
@@ -57,6 +59,7 @@ pub fn pass(
     ensures gate { IfOk result (λ p. p.gate ≡ conditions_pass conditions.now slots.now) }
     ensures charged { IfOk result (λ p. p.charged ≡ conditions_charge conditions.now slots.now) }
     ensures within { IfOk result (λ p. p.charged ≤ sum_by condition_estimate conditions.now) }
+    ensures pattern { IsErrOf result RunFault.Pattern → Any ConditionMayMatch conditions.now }
 {
     let mut broken = Gate::Open;
     let mut total: u64 = 0;

@@ -1,6 +1,6 @@
 //! A policy at one param.
 
-ghost use Rattle.std.specs.Prelude.{◌≡◌, ◌≤◌, ◌++◌, true, List, IfOk, OnOk};
+ghost use Rattle.std.specs.Prelude.{◌≡◌, ◌≤◌, ◌++◌, true, List, IfOk, IsErrOf, OnOk};
 ghost use Rattle.cel_value.specs.declared.cel_type.CelType.{CelType};
 ghost use Rattle.cel_operators.specs.Outcomes.{slots_fit};
 ghost use Rattle.cel_apply.specs.Lent.{all_lent};
@@ -9,6 +9,7 @@ ghost use Rattle.vap_programs.specs.Pairs.{price_behind, price_of, most};
 ghost use Rattle.vap_programs.specs.Ready.{IsReady, AreChecksAt, AreAnnotationsAt};
 ghost use Rattle.vap_found.specs.Annotations.{note};
 ghost use Rattle.vap_found.specs.Found.{failures_behind, charge_behind, failures_of, notes_of, charge_of};
+ghost use Rattle.vap_found.specs.Patterns.{DecisionMayMatch, PolicyMayMatch};
 
 use crate::annotating::annotate_all;
 use crate::conditions::{Gate, Passed, pass};
@@ -41,6 +42,7 @@ fn decide(
     ensures notes { OnOk result (notes.new.items ≡ notes.old.items ++ flat_map (note slots.now) programs.now.annotations) }
     ensures charged { IfOk result (λ n. n ≡ charge_behind programs.now slots.now) }
     ensures within { IfOk result (λ n. n ≤ price_behind programs.now) }
+    ensures pattern { IsErrOf result RunFault.Pattern → DecisionMayMatch programs.now }
 {
     let first = validate_all(
         alloc,
@@ -84,13 +86,15 @@ fn decide_behind(
         (notes.new.items ≡ notes.old.items ++ flat_map (note (all_lent lent.now ++ values.now)) programs.now.annotations) }
     ensures charged { IfOk result (λ n. n ≡ charge_behind programs.now (all_lent lent.now ++ values.now)) }
     ensures within { IfOk result (λ n. n ≤ price_behind programs.now) }
+    ensures pattern { IsErrOf result RunFault.Pattern → DecisionMayMatch programs.now }
 {
     let slots = Slots::new(&*lent, &*values);
     decide(alloc, policy, programs, &slots, matchers, failures, notes)
 }
 
 /// What a policy finds at one param, where its names hold what is lent: the failures and the notes are pushed in order, and the
-/// answer is what was charged. It is given up where memory is wanting, or where a pattern is not built.
+/// answer is what was charged. It is given up where memory is wanting, or where a pattern is not built: that only where `matches`
+/// is given a literal text in one of the policy's expressions.
 #[tactic(auto, unfolding(crate::specs::Found::failures_of, crate::specs::Found::notes_of, crate::specs::Found::charge_of))]
 pub fn judge(
     alloc: Global,
@@ -109,6 +113,7 @@ pub fn judge(
     ensures notes { OnOk result (notes.new.items ≡ notes.old.items ++ notes_of programs.now (all_lent lent.now)) }
     ensures charged { IfOk result (λ n. n ≡ charge_of programs.now (all_lent lent.now)) }
     ensures within { IfOk result (λ n. n ≤ price_of programs.now) }
+    ensures pattern { IsErrOf result RunFault.Pattern → PolicyMayMatch programs.now }
 {
     let none: Vec<Result<Value, CelError>> = Vec::new(alloc);
     let slots = Slots::new(&*lent, none.as_slice());

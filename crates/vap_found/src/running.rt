@@ -1,10 +1,11 @@
 //! Running one expression.
 
-ghost use Rattle.std.specs.Prelude.{◌≡◌, ◌≤◌, true, Some, IfOk};
+ghost use Rattle.std.specs.Prelude.{◌≡◌, ◌≤◌, true, Some, IfOk, IsErrOf};
 ghost use Rattle.cel_operators.specs.Outcomes.{outcome_fits, slots_fit};
 ghost use Rattle.cel_check.specs.Typing.{types_in};
 ghost use Rattle.cel_estimate.specs.Estimate.{budget};
 ghost use Rattle.cel_expression.specs.Expressions.{estimate_at, type_at};
+ghost use Rattle.cel_expression.specs.Patterns.{MayMatch};
 ghost use Rattle.vap_found.specs.Runs.{given, charge, holds, truth_of};
 
 use cel_expression::{Compiled, Ran};
@@ -26,6 +27,7 @@ pub fn run(
     ensures fits { IfOk result (λ r. outcome_fits (type_at expression.now) (Some r.outcome) ≡ true) }
     ensures within { IfOk result (λ r. r.charged ≤ estimate_at expression.now) }
     ensures small { IfOk result (λ r. r.charged ≤ budget) }
+    ensures pattern { IsErrOf result RunFault.Pattern → MayMatch expression.now }
 {
     let ran = expression.run(alloc, slots, matchers)?;
     Ok(ran)
@@ -60,6 +62,7 @@ pub fn test(
     ensures charged { IfOk result (λ t. t.charged ≡ charge expression.now slots.now) }
     ensures within { IfOk result (λ t. t.charged ≤ estimate_at expression.now) }
     ensures small { IfOk result (λ t. t.charged ≤ budget) }
+    ensures pattern { IsErrOf result RunFault.Pattern → MayMatch expression.now }
 {
     let ran = run(alloc, expression, slots, matchers)?;
     Ok(Tested {

@@ -1,11 +1,13 @@
 //! Validations.
 
-ghost use Rattle.std.specs.Prelude.{◌≡◌, ◌≤◌, ◌*◌, ◌++◌, true, List, sum_by, Some, IfOk, OnOk};
+ghost use Rattle.std.specs.Prelude.{◌≡◌, ◌≤◌, ◌*◌, ◌++◌, true, List, sum_by, Some, IfOk, IsErrOf, OnOk};
+ghost use Rattle.std.specs.List.{Any};
 ghost use Rattle.cel_value.specs.declared.cel_type.CelType.{CelType};
 ghost use Rattle.cel_operators.specs.Outcomes.{slots_fit};
 ghost use Rattle.cel_estimate.specs.Estimate.{budget};
 ghost use Rattle.vap_programs.specs.Pairs.{message_estimate, check_estimate, most};
 ghost use Rattle.vap_programs.specs.Ready.{IsCheckAt, AreChecksAt};
+ghost use Rattle.vap_found.specs.Patterns.{CheckMayMatch, MessageMayMatch};
 ghost use Rattle.vap_found.specs.Validations.{message_of, told_charge, failure_at, failures_from, check_charge};
 
 use crate::failing::{push_error, push_failure};
@@ -41,6 +43,7 @@ fn message(
     ensures charged { IfOk result (λ t. t.charged ≡ told_charge check.now.message_expression slots.now) }
     ensures within { IfOk result (λ t. t.charged ≤ message_estimate check.now.message_expression) }
     ensures small { IfOk result (λ t. t.charged ≤ budget) }
+    ensures pattern { IsErrOf result RunFault.Pattern → MessageMayMatch check.now.message_expression }
 {
     let rest = written(alloc, check.expression.text(), &check.message)?;
     match &check.message_expression {
@@ -77,6 +80,7 @@ fn validate(
     ensures charged { IfOk result (λ n. n ≡ check_charge slots.now check.now) }
     ensures within { IfOk result (λ n. n ≤ check_estimate check.now) }
     ensures small { IfOk result (λ n. n ≤ 2 * budget) }
+    ensures pattern { IsErrOf result RunFault.Pattern → CheckMayMatch check.now }
 {
     let tested = test(alloc, &check.expression, slots, matchers)?;
     let Tested { truth, charged } = tested;
@@ -115,6 +119,7 @@ pub fn validate_all(
     ensures failures { OnOk result (failures.new.items ≡ failures.old.items ++ failures_from policy slots.now 0 checks.now) }
     ensures charged { IfOk result (λ n. n ≡ sum_by (check_charge slots.now) checks.now) }
     ensures within { IfOk result (λ n. n ≤ sum_by check_estimate checks.now) }
+    ensures pattern { IsErrOf result RunFault.Pattern → Any CheckMayMatch checks.now }
 {
     let mut charged: u64 = 0;
     let mut index: usize = 0;

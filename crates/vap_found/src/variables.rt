@@ -1,12 +1,14 @@
 //! Variables.
 
-ghost use Rattle.std.specs.Prelude.{◌≡◌, ◌≤◌, ◌++◌, List, [], ◌∷◌, Some, true, sum_by, IfOk, OnOk};
+ghost use Rattle.std.specs.Prelude.{◌≡◌, ◌≤◌, ◌++◌, List, [], ◌∷◌, Some, true, sum_by, IfOk, IsErrOf, OnOk};
+ghost use Rattle.std.specs.List.{Any};
 ghost use Rattle.cel_value.specs.declared.cel_type.CelType.{CelType};
 ghost use Rattle.cel_operators.specs.Outcomes.{outcome_fits, slots_fit};
 ghost use Rattle.cel_apply.specs.Lent.{all_lent};
 ghost use Rattle.cel_check.specs.Typing.{types_in};
 ghost use Rattle.cel_estimate.specs.Estimate.{budget};
 ghost use Rattle.cel_expression.specs.Expressions.{estimate_at, type_at};
+ghost use Rattle.cel_expression.specs.Patterns.{MayMatch};
 ghost use Rattle.vap_programs.specs.Pairs.{most};
 ghost use Rattle.vap_programs.specs.Ready.{Follow};
 ghost use Rattle.vap_found.specs.Runs.{given, charge};
@@ -50,6 +52,7 @@ fn run_next(
     ensures charged { IfOk result (λ n. n ≡ charge variable.now (all_lent lent.now ++ made.old.items)) }
     ensures within { IfOk result (λ n. n ≤ estimate_at variable.now) }
     ensures small { IfOk result (λ n. n ≤ budget) }
+    ensures pattern { IsErrOf result RunFault.Pattern → MayMatch variable.now }
 {
     let ran = run(
         alloc,
@@ -77,6 +80,7 @@ pub fn evaluate(
     ensures fit { IfOk result (λ v. slots_fit types.1 (all_lent lent.now ++ v.values.items) ≡ true) }
     ensures charged { IfOk result (λ v. v.charged ≡ values_charge [] variables.now (all_lent lent.now)) }
     ensures within { IfOk result (λ v. v.charged ≤ sum_by estimate_at variables.now) }
+    ensures pattern { IsErrOf result RunFault.Pattern → Any MayMatch variables.now }
 {
     let mut values = Vec::new(alloc);
     let mut charged: u64 = 0;

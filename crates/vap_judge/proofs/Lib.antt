@@ -1,6 +1,9 @@
 pub mod Fitting
+pub mod Joined
 pub mod KeptParams
+pub mod Looked
 pub mod Named
 pub mod PassedOver
 pub mod Priced
+pub mod Steps
 pub mod WorkedRows

@@ -1,10 +1,11 @@
 pub mod Places
-pub mod Findings
-pub mod Shown
+pub mod Evaluations
+pub mod Faults
 pub mod Params
-pub mod Spaces
 pub mod Judging
-pub mod Cases
+pub mod Shown
 pub mod Ready
+pub mod Adds
 pub mod PassedOver
 pub mod Priced
+pub mod Patterns

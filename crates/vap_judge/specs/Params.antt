@@ -1,44 +1,39 @@
 -- Which objects are the params of a policy under a binding (Kubernetes, "Parameter resources").
-use Rattle.std.specs.Prelude.{ℕ, Bool, true, false, ◌&&◌, if◌then◌else◌, List, [], ◌∷◌, Option, Some, None, filter}
+use Rattle.std.specs.Prelude.{ℕ, Bool, true, false, ◌&&◌, if◌then◌else◌, List, [], ◌∷◌, Option, Some, None}
 use Rattle.std.specs.Str.{bytes_eq}
 use Rattle.vap_bindings.specs.declared.binding.ParamRef.{ParamRef}
-use Rattle.vap_objects.specs.Cluster.{Cluster}
-use Rattle.vap_policies.specs.declared.policy.ParamKind.{ParamKind}
 use Rattle.vap_read.specs.declared.object.Object.{Object}
 use Rattle.vap_select.specs.Select.{labels_of, selects}
 use Rattle.vap_select.specs.declared.selector.Selector.{Selector}
-use Rattle.vap_set.specs.Fitted.{objects_of}
 
--- where params are looked for: whatever their namespace, in one, or nowhere, since there should be one and is none, or the other way
-pub data Space : Type 0 where
-  Everywhere : Space
-  Within : List ℕ → Space
-  Nowhere : Space
+-- where params are looked for: in the whole cluster, or in a namespace
+pub data Place : Type 0 where
+  Cluster : Place
+  Namespace : List ℕ → Place
 
--- a namespace, if there is one
-abbrev pub in_namespace : List ℕ → Space
-in_namespace [] = Nowhere
-in_namespace (b ∷ bs) = Within (b ∷ bs)
+-- a namespace, if one is given
+abbrev pub in_namespace : List ℕ → Option Place
+in_namespace [] = None
+in_namespace (b ∷ bs) = Some (Namespace (b ∷ bs))
 
--- of a kind that stands in namespaces: in the one that is given, or else in the request's
-abbrev pub given_or : List ℕ → List ℕ → Space
+-- of a kind in namespaces: the one that is given, or else the request's
+abbrev pub given_or : List ℕ → List ℕ → Option Place
 given_or [] requested = in_namespace requested
-given_or (b ∷ bs) requested = Within (b ∷ bs)
+given_or (b ∷ bs) requested = Some (Namespace (b ∷ bs))
 
--- of a kind that stands in none
-abbrev pub if_none_given : List ℕ → Space
-if_none_given [] = Everywhere
-if_none_given (b ∷ bs) = Nowhere
+-- of a kind in no namespace
+abbrev pub if_none_given : List ℕ → Option Place
+if_none_given [] = Some Cluster
+if_none_given (b ∷ bs) = None
 
--- where the params of a kind are looked for
-abbrev pub space_of : Bool → List ℕ → List ℕ → Space
-space_of namespaced given requested = if namespaced then given_or given requested else if_none_given given
+-- where the params of a kind are looked for: nowhere, if a namespace is given and there should be none, or the other way
+abbrev pub place_of : Bool → List ℕ → List ℕ → Option Place
+place_of namespaced given requested = if namespaced then given_or given requested else if_none_given given
 
--- a namespace is there
-abbrev pub is_in : Space → List ℕ → Bool
-is_in Everywhere namespace = true
-is_in (Within wanted) namespace = bytes_eq namespace wanted
-is_in Nowhere namespace = false
+-- a namespace is in a place
+abbrev pub is_in : Place → List ℕ → Bool
+is_in Cluster namespace = true
+is_in (Namespace wanted) namespace = bytes_eq namespace wanted
 
 -- an object is selected, if there is a selector
 abbrev pub is_selected : Option Selector → Object → Bool
@@ -51,9 +46,5 @@ is_chosen (Some name) selector o = bytes_eq o.key.name name
 is_chosen None selector o = is_selected selector o
 
 -- an object is a param
-abbrev pub is_param : Space → ParamRef → Object → Bool
-is_param space p o = is_in space o.key.namespace && is_chosen p.name p.selector o
-
--- the params, by namespace, then by name
-abbrev pub params_in : Space → ParamKind → ParamRef → Cluster → List Object
-params_in space k p c = filter (is_param space p) (objects_of k c)
+abbrev pub is_param : Place → ParamRef → Object → Bool
+is_param place p o = is_in place o.key.namespace && is_chosen p.name p.selector o

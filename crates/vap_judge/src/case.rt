@@ -1,12 +1,24 @@
 //! What is judged.
 
+ghost use Rattle.std.specs.Prelude.{◌≡◌, IfOk};
+ghost use Rattle.std.specs.Option.{option_copied};
+ghost use Rattle.vap_set.specs.Ready.{type_at};
+ghost use Rattle.vap_set.specs.Sets.{kinds_of};
+ghost use Rattle.vap_slots.specs.Held.{IsHeldAt};
+ghost use Rattle.vap_judge.specs.Judging.{case_with, is_matched};
+ghost use Rattle.vap_judge.specs.Places.{kind_at};
+ghost use Rattle.vap_judge.specs.Ready.{IsCase};
+ghost use Rattle.vap_judge.specs.Shown.{case_of};
+
+use std::alloc::{AllocError, Global};
 use vap_kinds::Kind;
+use vap_match::{Rules, matches};
 use vap_request::Request;
 use vap_select::Labels;
 use vap_set::PolicySet;
 use vap_slots::Held;
 
-/// A request at a set, with what its names hold and what is held of its namespace's labels.
+/// A request at a set, with its kind, if that is known, what its names hold, and the labels of its namespace.
 #[derive(Drop)]
 pub struct Case<'a> {
     pub set: &'a PolicySet,
@@ -14,4 +26,37 @@ pub struct Case<'a> {
     pub kind: Option<&'a Kind>,
     pub held: &'a Held,
     pub labels: Labels<'a>,
+}
+
+impl<'a> Case<'a> {
+    pub fn new(
+        alloc: Global,
+        set: &'a PolicySet,
+        request: &'a Request,
+        kind: Option<&'a Kind>,
+        held: &'a Held,
+    ) -> Result<Case<'a>, AllocError>
+        requires kind { option_copied kind ≡ kind_at (kinds_of set.now) request.now.admission }
+        requires held { IsHeldAt (type_at (option_copied kind)) held.now }
+        ensures is { IfOk result (λ case. case_of case ≡ case_with set.now request.now.admission (option_copied kind.entry) held.now) }
+        ensures ready { IfOk result IsCase }
+    {
+        let namespace = request.admission().namespace.as_str();
+        let labels = set.objects().namespace_labels(alloc, namespace)?;
+        Ok(Case {
+            set,
+            request,
+            kind,
+            held,
+            labels,
+        })
+    }
+
+    /// Whether rules match the request.
+    pub fn is_matched(&self, rules: &Rules) -> bool
+        requires { IsCase self.now }
+        ensures { result ≡ is_matched (case_of self.now) rules.now }
+    {
+        matches(rules, self.request, &self.labels)
+    }
 }

@@ -1,44 +1,24 @@
-//! What judging finds, one thing behind the other.
+//! What evaluations find.
 
-ghost use Rattle.std.specs.Prelude.{◌≡◌, ◌++◌, None, IfOk, OnOk, map};
-ghost use Rattle.vap_judge.specs.Findings.{finding_of, no_findings, note_of, with_failure};
+ghost use Rattle.std.specs.Prelude.{◌≡◌, ◌++◌, List, ◌∷◌, [], IfOk, OnOk, map};
+ghost use Rattle.vap_judge.specs.Evaluations.{Failed, finding_of, found_by, joined, note_of};
+ghost use Rattle.vap_judge.specs.Judging.{verdict_by};
 ghost use Rattle.vap_judge.specs.Shown.{findings_of, rule_of};
 
 use plain::Text;
 use std::alloc::{AllocError, Global};
-use vap_answer::{Finding, Note};
+use vap_answer::{Finding, Note, Verdict, verdict_of};
 use vap_bindings::ValidationActions;
 use vap_found::{Failure, Note as FoundNote};
 use vap_policies::{FailurePolicy, Reason};
 
-/// Under which names something is found, and what becomes of it.
+/// The names of a policy and of a binding, and what becomes of a failure under them.
 #[derive(Clone, Copy)]
 pub struct Rule<'a> {
     pub policy: &'a Text,
     pub binding: &'a Text,
     pub actions: ValidationActions,
     pub failure_policy: FailurePolicy,
-}
-
-/// Failures and notes in the order in which they were found, and what was charged.
-#[derive(Drop)]
-pub struct Findings {
-    pub failures: Vec<Finding>,
-    pub notes: Vec<Note>,
-    pub charged: u64,
-}
-
-impl Findings {
-    pub fn new(alloc: Global) -> Findings
-        ensures none { findings_of result ≡ no_findings }
-        ensures charged { result.charged ≡ 0 }
-    {
-        Findings {
-            failures: Vec::new(alloc),
-            notes: Vec::new(alloc),
-            charged: 0,
-        }
-    }
 }
 
 fn finding_of(rule: &Rule<'_>, failure: Failure) -> Result<Finding, AllocError>
@@ -56,20 +36,6 @@ fn finding_of(rule: &Rule<'_>, failure: Failure) -> Result<Finding, AllocError>
     })
 }
 
-/// Puts failures behind the others.
-pub fn put_failures(
-    rule: &Rule<'_>,
-    found: Vec<Failure>,
-    failures: &mut Vec<Finding>,
-) -> Result<(), AllocError>
-    ensures { OnOk result (failures.new.items ≡ failures.old.items ++ map (finding_of (rule_of rule.now)) found.items) }
-{
-    for failure in found {
-        failures.push(finding_of(rule, failure)?)?;
-    }
-    Ok(())
-}
-
 fn note_of(rule: &Rule<'_>, note: FoundNote) -> Result<Note, AllocError>
     ensures { IfOk result (λ made. made ≡ note_of (rule_of rule.now) note) }
 {
@@ -81,52 +47,76 @@ fn note_of(rule: &Rule<'_>, note: FoundNote) -> Result<Note, AllocError>
     })
 }
 
-/// Puts notes behind the others.
-pub fn put_notes(
-    rule: &Rule<'_>,
-    found: Vec<FoundNote>,
-    notes: &mut Vec<Note>,
-) -> Result<(), AllocError>
-    ensures { OnOk result (notes.new.items ≡ notes.old.items ++ map (note_of (rule_of rule.now)) found.items) }
-{
-    for note in found {
-        notes.push(note_of(rule, note)?)?;
-    }
-    Ok(())
+/// Failures and notes in the order in which they are found, and the charge.
+#[derive(Drop)]
+pub struct Findings {
+    pub failures: Vec<Finding>,
+    pub notes: Vec<Note>,
+    pub charged: u64,
 }
 
-fn finding_with(rule: &Rule<'_>, message: Text) -> Result<Finding, AllocError>
-    ensures { IfOk result (λ finding. finding ≡ finding_of (rule_of rule.now)
-        (record { expression_index = None; message = message; reason = Reason.Invalid })) }
-{
-    let policy = rule.policy.copy()?;
-    let binding = rule.binding.copy()?;
-    Ok(Finding {
-        policy,
-        binding,
-        actions: rule.actions,
-        reason: Reason::Invalid,
-        message,
-        expression_index: None,
-    })
-}
-
-/// Puts a failure behind the others that counts under the failure policy Fail alone.
-pub fn fail(
-    alloc: Global,
-    rule: &Rule<'_>,
-    message: &str,
-    findings: &mut Findings,
-) -> Result<(), AllocError>
-    ensures found { OnOk result (findings_of findings.new ≡ with_failure (rule_of rule.now) message.now (findings_of findings.old)) }
-    ensures charged { OnOk result (findings.new.charged ≡ findings.old.charged) }
-{
-    match rule.failure_policy {
-        FailurePolicy::Fail => {
-            let message = Text::from_str(alloc, message)?;
-            findings.failures.push(finding_with(rule, message)?)?;
-            Ok(())
+impl Findings {
+    pub fn new(alloc: Global) -> Findings
+        ensures none { findings_of result ≡ found_by [] }
+        ensures charged { result.charged ≡ 0 }
+    {
+        Findings {
+            failures: Vec::new(alloc),
+            notes: Vec::new(alloc),
+            charged: 0,
         }
-        FailurePolicy::Ignore => Ok(()),
+    }
+
+    /// Adds failures under their rule.
+    pub fn add_failures(&mut self, rule: &Rule<'_>, found: Vec<Failure>) -> Result<(), AllocError>
+        ensures failures { OnOk result (self.new.failures.items
+            ≡ self.old.failures.items ++ map (finding_of (rule_of rule.now)) found.items) }
+        ensures notes { OnOk result (self.new.notes.items ≡ self.old.notes.items) }
+        ensures charged { self.new.charged ≡ self.old.charged }
+    {
+        for failure in found {
+            self.failures.push(finding_of(rule, failure)?)?;
+        }
+        Ok(())
+    }
+
+    /// Adds notes under their rule.
+    pub fn add_notes(&mut self, rule: &Rule<'_>, found: Vec<FoundNote>) -> Result<(), AllocError>
+        ensures notes { OnOk result (self.new.notes.items ≡ self.old.notes.items ++ map (note_of (rule_of rule.now)) found.items) }
+        ensures failures { OnOk result (self.new.failures.items ≡ self.old.failures.items) }
+        ensures charged { self.new.charged ≡ self.old.charged }
+    {
+        for note in found {
+            self.notes.push(note_of(rule, note)?)?;
+        }
+        Ok(())
+    }
+
+    /// Adds a failure with a message, if the failure policy is Fail.
+    pub fn fail(&mut self, alloc: Global, rule: &Rule<'_>, message: &str) -> Result<(), AllocError>
+        ensures found { OnOk result (findings_of self.new
+            ≡ joined (findings_of self.old) (found_by (Failed (rule_of rule.now) message.now ∷ []))) }
+        ensures charged { OnOk result (self.new.charged ≡ self.old.charged) }
+    {
+        match rule.failure_policy {
+            FailurePolicy::Fail => {
+                let failure = Failure {
+                    expression_index: None,
+                    message: Text::from_str(alloc, message)?,
+                    reason: Reason::Invalid,
+                };
+                self.failures.push(finding_of(rule, failure)?)?;
+                Ok(())
+            }
+            FailurePolicy::Ignore => Ok(()),
+        }
+    }
+
+    /// The verdict of what is found, at a revision.
+    pub fn verdict(&self, alloc: Global, revision: u64) -> Result<Verdict, AllocError>
+        ensures { IfOk result (λ verdict. verdict ≡ verdict_by revision (findings_of self.now)) }
+    {
+        let (failures, notes) = (self.failures.as_slice(), self.notes.as_slice());
+        verdict_of(alloc, failures, notes, revision, self.charged)
     }
 }

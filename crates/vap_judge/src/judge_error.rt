@@ -1,6 +1,7 @@
 //! Why there is no verdict.
 
 ghost use Rattle.std.specs.Prelude.{◌≡◌};
+ghost use Rattle.vap_judge.specs.Faults.{given_up};
 ghost use Rattle.vap_judge.specs.declared.judge_error.JudgeError.TheVariants.{OutOfMemory};
 
 use cel_machine::RunFault;
@@ -30,6 +31,8 @@ impl<T: Drop> From<AllocFailed<T>> for JudgeError {
 }
 
 impl From<RunFault> for JudgeError {
+    ghost from_gives = { λ fault e. e ≡ given_up fault };
+
     fn from(error: RunFault) -> JudgeError {
         match error {
             RunFault::Pattern => JudgeError::Pattern,

@@ -2,8 +2,8 @@
 
 ghost use Rattle.std.specs.Prelude.{◌≡◌};
 ghost use Rattle.std.specs.List.{list_any};
-ghost use Rattle.vap_judge.specs.Params.{is_chosen, is_in, is_param, space_of};
-ghost use Rattle.vap_judge.specs.Spaces.{lent_space};
+ghost use Rattle.vap_judge.specs.Params.{is_chosen, is_in, is_param, place_of};
+ghost use Rattle.vap_judge.specs.Shown.{lent_place, lent_place_of};
 
 use vap_bindings::ParamRef;
 use vap_read::Object;
@@ -12,41 +12,31 @@ use vap_set::KindParams;
 
 /// Where params are looked for.
 #[derive(Clone, Copy)]
-pub enum Space<'a> {
-    /// Whatever their namespace is.
-    Everywhere,
-    Within(&'a str),
-    /// There should be a namespace and is none, or there is one and should be none.
-    Nowhere,
+pub enum Place<'a> {
+    Cluster,
+    Namespace(&'a str),
 }
 
-/// Where the params of a kind are looked for, by the namespace that is given, which may be empty, and the request's.
-pub fn space_of<'a>(namespaced: bool, given: &'a str, requested: &'a str) -> Space<'a>
-    ensures { lent_space result ≡ space_of namespaced given.now requested.now }
+/// Where the params of a kind are looked for, by the namespace that is given, which may be empty, and the request's. Nowhere, if
+/// a namespace is given and the kind is in none, or none is given and the kind is in namespaces.
+pub fn place_of<'a>(namespaced: bool, given: &'a str, requested: &'a str) -> Option<Place<'a>>
+    ensures { lent_place_of result ≡ place_of namespaced given.now requested.now }
 {
-    if !namespaced {
-        return if given.is_empty() {
-            Space::Everywhere
-        } else {
-            Space::Nowhere
-        };
-    }
-    if !given.is_empty() {
-        Space::Within(given)
-    } else if !requested.is_empty() {
-        Space::Within(requested)
-    } else {
-        Space::Nowhere
+    match (namespaced, given.is_empty(), requested.is_empty()) {
+        (false, true, _) => Some(Place::Cluster),
+        (false, false, _) => None,
+        (true, false, _) => Some(Place::Namespace(given)),
+        (true, true, false) => Some(Place::Namespace(requested)),
+        (true, true, true) => None,
     }
 }
 
-fn is_in(space: Space<'_>, namespace: &str) -> bool
-    ensures { result ≡ is_in (lent_space space.entry) namespace.now }
+fn is_in(place: Place<'_>, namespace: &str) -> bool
+    ensures { result ≡ is_in (lent_place place.entry) namespace.now }
 {
-    match space {
-        Space::Everywhere => true,
-        Space::Within(wanted) => namespace == wanted,
-        Space::Nowhere => false,
+    match place {
+        Place::Cluster => true,
+        Place::Namespace(wanted) => namespace == wanted,
     }
 }
 
@@ -62,21 +52,30 @@ fn is_chosen(reference: &ParamRef, object: &Object) -> bool
     }
 }
 
-/// Whether an object is a param.
-pub fn is_param(space: Space<'_>, reference: &ParamRef, object: &Object) -> bool
-    ensures { result ≡ is_param (lent_space space.entry) reference.now object.now }
-{
-    is_in(space, object.key.namespace.as_str()) && is_chosen(reference, object)
+/// What a binding chooses in a place.
+#[derive(Clone, Copy)]
+pub struct Selection<'a> {
+    pub place: Place<'a>,
+    pub reference: &'a ParamRef,
 }
 
-/// Whether one of the objects of a kind is a param.
-pub fn has_param(space: Space<'_>, reference: &ParamRef, params: &KindParams) -> bool
-    ensures { result ≡ list_any (is_param (lent_space space.entry) reference.now) params.now.objects }
-{
-    for param in params.params() {
-        if is_param(space, reference, param.object.get()) {
-            return true;
-        }
+impl Selection<'_> {
+    /// Whether an object is a param.
+    pub fn takes(&self, object: &Object) -> bool
+        ensures { result ≡ is_param (lent_place self.now.place) self.now.reference.now object.now }
+    {
+        is_in(self.place, object.key.namespace.as_str()) && is_chosen(self.reference, object)
     }
-    false
+
+    /// Whether one of the objects of a kind is a param.
+    pub fn takes_one(&self, params: &KindParams) -> bool
+        ensures { result ≡ list_any (is_param (lent_place self.now.place) self.now.reference.now) params.now.objects }
+    {
+        for param in params.params() {
+            if self.takes(param.object.get()) {
+                return true;
+            }
+        }
+        false
+    }
 }

@@ -26,7 +26,7 @@ pub fn matches(rules: &Rules, request: &Request, held: &Labels<'_>) -> bool
 pub fn selects_namespace(rules: &Rules, request: &Request, held: &Labels<'_>) -> bool
     ensures { result ≡ selects_namespace rules.now request.now.admission (lent_labels held.now) }
 {
-    let admission = request.admission.get();
+    let admission = request.admission();
     if is_namespace(admission) {
         passes(&rules.namespace_selector, &own_labels(admission))
     } else {
@@ -48,7 +48,7 @@ pub fn selects_object(rules: &Rules, request: &Request) -> bool
     ensures { result ≡ selects_object rules.now request.now.admission }
 {
     match &rules.object_selector {
-        Some(selector) => selects_either(selector, request.admission.get()),
+        Some(selector) => selects_either(selector, request.admission()),
         None => true,
     }
 }

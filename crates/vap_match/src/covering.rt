@@ -15,7 +15,7 @@ use vap_select::contains;
 pub fn covers(rules: &Rules, request: &Request) -> bool
     ensures { result ≡ covers rules.now request.now.admission }
 {
-    let admission = request.admission.get();
+    let admission = request.admission();
     is_covered(rules.resource_rules.as_slice(), admission)
         && !does_one_cover(rules.exclude_resource_rules.as_slice(), admission)
 }

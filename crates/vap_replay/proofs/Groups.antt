@@ -1,6 +1,9 @@
 -- A group, one request further.
-use Rattle.std.proofs.Common.{◌≡◌, ℕ, ◌+◌, List, [], ◌∷◌, ◌++◌, length, refl, sym, ap, ◌∙◌, append_assoc, add-zero, suc, arith}
+use Rattle.std.proofs.Common.{◌≡◌, ℕ, ◌+◌, ◌≤◌, List, [], ◌∷◌, ◌++◌, Some, length, refl, sym, ap, ◌∙◌}
+use Rattle.std.proofs.Common.{append_assoc, add-zero, suc, arith}
+use Rattle.std.specs.Prelude.{slice_get}
 use Rattle.vap_request.specs.declared.request.Request.{Request}
+use Rattle.vap_watch.specs.Places.{Position}
 use Rattle.vap_watch.specs.declared.log.Logged.{Logged}
 use Rattle.vap_audit.specs.declared.entry.Entry.{Entry}
 use Rattle.vap_replay.specs.Replay.{answer_line, answers_text, entry_of}
@@ -26,3 +29,53 @@ answers_more [] others = refl
 answers_more (e ∷ entries) others =
     ap (λ (l : List ℕ). answer_line e ++ l) (answers_more entries others)
     ∙ sym (append_assoc (answer_line e) (answers_text entries) (answers_text others))
+
+-- an entry that is put last stands there
+pub last_entry : (es : List Entry) (e : Entry) → slice_get (es ++ e ∷ []) (length es) ≡ Some e
+last_entry [] e = refl
+last_entry (x ∷ es) e = last_entry es e
+
+-- one request more is decided
+grown_length : (old new : List Entry) (e : Entry) → new ≡ old ++ e ∷ [] → length new ≡ length old + 1
+grown_length [] new e grown = ap (λ (es : List Entry). length es) grown
+grown_length (x ∷ old) new e grown =
+    let all : length new ≡ suc (length (old ++ e ∷ [])) = ap (λ (es : List Entry). length es) grown in
+    omega (arith, all, grown_length old (old ++ e ∷ []) e refl)
+
+pub decided_next : (w v : Position) (old new : List Entry) (request : Request) (left rest : List Request) (all : List Entry) → v ≡ w
+    → new ≡ old ++ entry_of w.published (length old) request ∷ [] → left ≡ request ∷ rest
+    → old ++ group_entries w.published (length old) left ≡ all → new ++ group_entries v.published (length new) rest ≡ all
+decided_next w v old new request left rest all same grown is so =
+    let e : Entry = entry_of w.published (length old) request in
+    ap (λ (p : Position). new ++ group_entries p.published (length new) rest) same
+    ∙ (ap (λ (n : ℕ). new ++ group_entries w.published n rest) (grown_length old new e grown)
+    ∙ (ap (λ (es : List Entry). es ++ group_entries w.published (length old + 1) rest) grown
+    ∙ (append_assoc old (e ∷ []) (group_entries w.published (length old + 1) rest)
+    ∙ (ap (λ (g : List Request). old ++ group_entries w.published (length old) g) (sym is) ∙ so))))
+
+pub told_next : (w v : Position) (old new : List Entry) (request : Request) (left rest : List Request) (text more all : List ℕ)
+    → v ≡ w → new ≡ old ++ entry_of w.published (length old) request ∷ [] → left ≡ request ∷ rest
+    → more ≡ text ++ answers_text (entry_of w.published (length old) request ∷ [])
+    → text ++ answers_text (group_entries w.published (length old) left) ≡ all
+    → more ++ answers_text (group_entries v.published (length new) rest) ≡ all
+told_next w v old new request left rest text more all same grown is put so =
+    let e : Entry = entry_of w.published (length old) request in
+    let others : List Entry = group_entries w.published (length old + 1) rest in
+    ap (λ (p : Position). more ++ answers_text (group_entries p.published (length new) rest)) same
+    ∙ (ap (λ (n : ℕ). more ++ answers_text (group_entries w.published n rest)) (grown_length old new e grown)
+    ∙ (ap (λ (l : List ℕ). l ++ answers_text others) put
+    ∙ (append_assoc text (answers_text (e ∷ [])) (answers_text others)
+    ∙ (ap (λ (l : List ℕ). text ++ l) (sym (answers_more (e ∷ []) others))
+    ∙ (ap (λ (g : List Request). text ++ answers_text (group_entries w.published (length old) g)) (sym is) ∙ so)))))
+
+pub waiting_next : (left rest : List Request) (request : Request) (most : ℕ) → left ≡ request ∷ rest → length left ≤ most
+    → length rest ≤ most
+waiting_next left rest request most is few =
+    let one : length left ≡ suc (length rest) = ap (λ (g : List Request). length g) is in
+    omega (arith, one, few)
+
+pub history_next : (old new : List Entry) (left rest : List Request) (request : Request) (e : Entry) (most : ℕ) → left ≡ request ∷ rest
+    → new ≡ old ++ e ∷ [] → length old + length left ≤ most → length new + length rest ≤ most
+history_next old new left rest request e most is grown room =
+    let one : length left ≡ suc (length rest) = ap (λ (g : List Request). length g) is in
+    omega (arith, one, grown_length old new e grown, room)

@@ -1,21 +1,25 @@
 -- What is written, told of the lines of the whole text.
 use Rattle.std.proofs.Common.{◌≡◌, ◌≢◌, ℕ, ◌+◌, Bool, true, false, List, [], ◌∷◌, ◌++◌, length, map, flat_map, take, drop, Option, None, Some}
+use Rattle.std.proofs.Common.{Contains, subst}
 use Rattle.std.proofs.Common.{Result, Ok, Err, ◌⊎◌, inl, inr, refl, sym, ap, ◌∙◌, append-nil, append_assoc, suc, arith}
 use Rattle.std.specs.Prelude.{⊤, IfErr, IfSome, OnOk}
 use Rattle.std.specs.Io.KnownBytes.{Appends, Keeps, IsAtEnd, prepend_known}
-use Rattle.std.proofs.Math.Seq.{take-append_seam, take-append-add, take-length}
+use Rattle.std.proofs.Math.Seq.{drop_at, take-append_seam, take-append-add, take-length}
 use Rattle.std.proofs.lemmas.Bool.{false≢true}
 use Rattle.std.proofs.lemmas.List.{map-append, take-append-drop}
+use Rattle.std.proofs.lemmas.List.Elements.{Contains-append_left, Contains-append_right}
 use Rattle.vap_lines.specs.Counted.{inner_of}
 use Rattle.vap_lines.specs.Lines.{IsFirstOf, lines_of}
 use Rattle.vap_lines.specs.declared.counted.Counted.{Counted}
 use Rattle.vap_lines.specs.declared.lines.Ending.{Ending}
 use Rattle.vap_lines.specs.declared.lines.Ending.TheVariants.{Feed, End, TooLong}
 use Rattle.vap_request.specs.declared.request.Request.{Request}
+use Rattle.vap_watch.specs.Given.{MayMatch}
+use Rattle.vap_watch.specs.Logs.{set_of}
 use Rattle.vap_watch.specs.Places.{Position}
 use Rattle.vap_watch.specs.declared.log.Logged.{Logged}
 use Rattle.vap_audit.specs.declared.entry.Entry.{Entry}
-use Rattle.vap_replay.specs.Lines.{EachReads, Reads}
+use Rattle.vap_replay.specs.Lines.{EachReads, IsAskedIn, Reads}
 use Rattle.vap_replay.specs.Moves.{Advances, BeginsWith, IsRead, IsReadAs, IsUnjudged, IsUnpublished, Reaches, RefusesAt, RefusesNext}
 use Rattle.vap_replay.specs.Moves.{StopsAt, TakesNext, Waits, Writes, after_lines, lines_ended}
 use Rattle.vap_replay.specs.Replay.{Choices, Refusal, Replayed, Sofar, answer_line, answers_text, audit_line, audit_lines, audit_where}
@@ -32,7 +36,7 @@ use Rattle.vap_replay.proofs.Choosing.{agrees_itself, agrees_start, choices_of}
 use Rattle.vap_replay.proofs.Groups.{answers_more}
 use Rattle.vap_replay.proofs.Growth.{lines_counted, log_goes_on}
 use Rattle.vap_replay.proofs.Steps.{reads_more, replayed_behind, replayed_whole, taken_more}
-use Rattle.vap_replay.proofs.Unjudged.{first_none, first_stays}
+use Rattle.vap_replay.proofs.Unjudged.{first_none, first_stays, some_wait}
 
 -- ---- known bytes
 
@@ -243,7 +247,7 @@ none_waiting session none =
 reached_same : (bytes front : List (List ℕ)) (session : Session) → bytes ≡ front → Reaches front session → Reaches bytes session
 reached_same bytes front session e h = rw e h
 
--- where reviews wait, the first of them stands in these lines, and so far is the replay before it
+-- where reviews wait, the first of them stands in these lines, the others behind it, and so far is the replay before it
 pub record WaitsIn (front : List (List ℕ)) (session : Session) : Type 0 where
   pub before : List (List ℕ)
   pub bytes : List ℕ
@@ -258,6 +262,7 @@ pub record WaitsIn (front : List (List ℕ)) (session : Session) : Type 0 where
   pub log : far.log ≡ session.writer.published
   pub entries : far.entries ≡ session.history
   pub taken : (choices : Choices) → Agrees choices session.writer.published → after_lines choices lines beginning ≡ Ok far
+  pub each : (request : Request) → Contains session.group.items request → IsAskedIn (bytes ∷ others) request
 
 -- the lines in front of what is left were taken
 pub record TakenUpTo (all left : List ℕ) (session : Session) : Type 0 where
@@ -309,6 +314,45 @@ none_or_some : (group : List Request) → (group ≡ []) ⊎ (group ≢ [])
 none_or_some [] = inl refl
 none_or_some (r ∷ group) = inr (λ none. cc)
 
+-- what is asked in lines is asked where others stand behind them
+asked_before : (lines more : List (List ℕ)) (request : Request) → IsAskedIn lines request → IsAskedIn (lines ++ more) request
+asked_before lines more request a =
+    record { bytes = a.bytes; line = Contains-append_left lines more a.bytes a.line; read = a.read }
+
+-- the same where others stand before them
+asked_behind : (before lines : List (List ℕ)) (request : Request) → IsAskedIn lines request → IsAskedIn (before ++ lines) request
+asked_behind before lines request a =
+    record { bytes = a.bytes; line = Contains-append_right before lines a.bytes a.line; read = a.read }
+
+-- the review of a line is asked in the bytes of this line
+ended_asks : (ending : Ending) (bytes : List ℕ) (request : Request) → IsReadAs ending bytes (Asks request)
+    → IsAskedIn (lines_ended ending bytes) request
+ended_asks ending bytes request is = record {
+  bytes = bytes;
+  line = subst (λ (ls : List (List ℕ)). Contains ls bytes) (sym is.one) (0, omega arith, refl);
+  read = is.read;
+}
+
+-- the same of the first line of a text
+begins_asks : (text : List ℕ) (request : Request) → BeginsWith text (Asks request) → IsAskedIn (lines_of text) request
+begins_asks text request is = record {
+  bytes = is.first;
+  line = subst (λ (ls : List (List ℕ)). Contains ls is.first) (sym is.split) (0, omega arith, refl);
+  read = is.read;
+}
+
+-- a review that waits, or that of the line behind, is asked in these lines with that one
+one_asked : (P : Type 0) (lines more : List (List ℕ)) (group : List Request) (request : Request)
+    → (Contains group request → IsAskedIn lines request) → (P → IsAskedIn more request) → Contains group request ⊎ P
+    → IsAskedIn (lines ++ more) request
+one_asked P lines more group request waited next (inl there) = asked_before lines more request (waited there)
+one_asked P lines more group request waited next (inr is) = asked_behind lines more request (next is)
+
+-- where none waits, none is asked
+none_asked : (lines : List (List ℕ)) (group : List Request) (request : Request) → group ≡ [] → Contains group request
+    → IsAskedIn lines request
+none_asked lines group request none there = absurd (some_wait group request there none)
+
 -- the first review that waits stands in the lines, with one line more
 waits_next : (ending : Ending) (bytes : List ℕ) (front : List (List ℕ)) (old new : Session) → Reaches front old
     → (old.group.items ≢ [] → WaitsIn front old) → Waits (IsReadAs ending bytes) old new
@@ -338,6 +382,10 @@ waits_next ending bytes front old new there waiting w = at (none_or_some old.gro
           log = sym w.log;
           entries = none_waiting old none ∙ sym w.history;
           taken = λ choices agrees. there.taken choices (seen choices agrees);
+          each = λ waits there_waits.
+              subst (λ (ls : List (List ℕ)). IsAskedIn ls waits) asked.one
+              (one_asked (IsReadAs ending bytes (Asks waits)) [] (lines_ended ending bytes) old.group.items waits
+              (none_asked [] old.group.items waits none) (ended_asks ending bytes waits) (w.each waits there_waits));
         }
     at (inr some) =
         let on : WaitsIn front old = waiting some in
@@ -357,6 +405,9 @@ waits_next ending bytes front old new there waiting w = at (none_or_some old.gro
           log = on.log ∙ sym w.log;
           entries = on.entries ∙ sym w.history;
           taken = λ choices agrees. on.taken choices (seen choices agrees);
+          each = λ waits there_waits.
+              one_asked (IsReadAs ending bytes (Asks waits)) (on.bytes ∷ on.others) (lines_ended ending bytes) old.group.items waits
+              (on.each waits) (ended_asks ending bytes waits) (w.each waits there_waits);
         }
 
 -- one line more was taken
@@ -418,17 +469,33 @@ comes_at all front first others choices lines line far start end number split ea
       written = written;
     }
 
+-- what is asked behind the first lines is asked behind as many lines
+asked_from : (all before lines : List (List ℕ)) (n : ℕ) (request : Request) → all ≡ before ++ lines → n ≡ length before
+    → IsAskedIn lines request → IsAskedIn (drop n all) request
+asked_from all before lines n request split many asked =
+    subst (λ (ls : List (List ℕ)). IsAskedIn ls request)
+    (sym (ap (λ (ls : List (List ℕ)). drop n ls) split ∙ drop_at before lines n (sym many))) asked
+
 -- the first review that waits is the first that is not answered
 waiting_unanswered : (all : List ℕ) (front rest : List (List ℕ)) (session : Session) (start done : Option (List ℕ)) (number : ℕ)
-    → lines_of all ≡ front ++ rest → WaitsIn front session → number ≡ session.first
-    → Appends start done (answers_text session.history) → IsUnansweredAt all start done number
-waiting_unanswered all front rest session start done number split on numbered written =
+    (P : Type 0) (asked : Request) → lines_of all ≡ front ++ rest → WaitsIn front session → number ≡ session.first
+    → Appends start done (answers_text session.history) → Contains session.group.items asked ⊎ P → (P → IsAskedIn rest asked)
+    → MayMatch (set_of session.writer.published) asked → IsUnansweredAt all start done number
+waiting_unanswered all front rest session start done number P asked split on numbered written waits next matches =
     let choices : Choices = choices_of session.writer.published in
     let whole : lines_of all ≡ on.before ++ on.bytes ∷ (on.others ++ rest) =
     split ∙ (ap (λ (l : List (List ℕ)). l ++ rest) on.split ∙ append_assoc on.before (on.bytes ∷ on.others) rest) in
+    let counted : on.far.lines ≡ length on.lines =
+    omega (arith, lines_counted choices on.lines beginning on.far (on.taken choices (agrees_itself session.writer.published))) in
     record {
       request = on.request;
       before = on.far;
+      asked = asked;
+      behind =
+          asked_from (lines_of all) on.before (on.bytes ∷ (on.others ++ rest)) on.far.lines asked whole
+          (counted ∙ sym (read_length on.before on.lines on.read))
+          (one_asked P (on.bytes ∷ on.others) rest session.group.items asked (on.each asked) next waits);
+      matches = subst (λ (log : List Logged). MayMatch (set_of log) asked) (sym on.log) matches;
       comes =
           comes_at all on.before on.bytes (on.others ++ rest) choices on.lines (Asks on.request) on.far start done number whole on.read
           on.asks (numbered ∙ on.numbered) (on.taken choices (agrees_itself session.writer.published))
@@ -455,6 +522,14 @@ unanswered_at contents all text session start before after number there written 
         record {
           request = request;
           before = sofar_of session;
+          asked = un.asked;
+          behind =
+              asked_from (lines_of all) there.front (lines_of text) session.lines un.asked there.split
+              (reached_counted there.front session there.reached
+              ∙ sym (read_length there.front there.reached.lines there.reached.read))
+              (one_asked (BeginsWith text (Asks un.asked)) [] (lines_of text) session.group.items un.asked
+              (none_asked [] session.group.items un.asked none) (begins_asks text un.asked) un.waits);
+          matches = un.matches;
           comes =
               comes_at all there.front asked.first asked.others choices there.reached.lines (Asks request) (sofar_of session) start
               (contents (inner_of after)) number
@@ -466,8 +541,10 @@ unanswered_at contents all text session start before after number there written 
               (answers_text session.history) (ap (λ (es : List Entry). answers_text es) entries) same);
         }
     at (inr some) =
-        waiting_unanswered all there.front (lines_of text) session start (contents (inner_of after)) number there.split
-        (there.waiting some) (un.numbered ∙ first_stays session.group.items session.first (session.lines + 1) some) same
+        waiting_unanswered all there.front (lines_of text) session start (contents (inner_of after)) number
+        (BeginsWith text (Asks un.asked)) un.asked there.split (there.waiting some)
+        (un.numbered ∙ first_stays session.group.items session.first (session.lines + 1) some) same un.waits
+        (begins_asks text un.asked) un.matches
 
 pub unanswered_next : {W : Type 0} (contents : W → Option (List ℕ)) (all text : Option (List ℕ)) (session : Session)
     (start : Option (List ℕ)) (before after : Counted W) (number : ℕ) → Taken all text session
@@ -493,8 +570,8 @@ pub unanswered_last : {W : Type 0} (contents : W → Option (List ℕ)) (all tex
 unanswered_last contents None text session start before after number why there written tells same = tt
 unanswered_last contents (Some all) None session start before after number why there written tells same = absurd there
 unanswered_last contents (Some all) (Some text) session start before after number why there written tells same =
-    waiting_unanswered all there.front (lines_of text) session start (contents (inner_of after)) number there.split
-    (there.waiting tells.waiting) tells.numbered (rw same written)
+    waiting_unanswered all there.front (lines_of text) session start (contents (inner_of after)) number ⊥ tells.one.request there.split
+    (there.waiting tells.waiting) tells.numbered (rw same written) (inl tells.one.waits) (λ none. absurd none) tells.one.matches
 
 -- the event of the next line is not published
 pub unverified_next : {W : Type 0} (contents : W → Option (List ℕ)) (all text : Option (List ℕ)) (session : Session)

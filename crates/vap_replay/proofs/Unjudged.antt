@@ -1,8 +1,9 @@
 -- Groups that wait, and at which line it is told that one is not judged.
-use Rattle.std.proofs.Common.{◌≡◌, ◌≢◌, ℕ, ◌+◌, List, [], ◌∷◌, length, Option, None, Some, Result, Ok, Err}
-use Rattle.std.proofs.Common.{true, refl, sym, ap, ◌∙◌, subst}
+use Rattle.std.proofs.Common.{◌≡◌, ◌≢◌, ◌⊎◌, inl, inr, ℕ, ◌+◌, List, [], ◌∷◌, ◌++◌, Contains, length, Option, None, Some, Result, Ok, Err}
+use Rattle.std.proofs.Common.{true, refl, sym, ap, ◌∙◌, subst, suc, arith}
 use Rattle.std.specs.Prelude.{OnOk, IfSome}
 use Rattle.std.specs.Io.KnownBytes.{Appends}
+use Rattle.std.proofs.lemmas.List.Elements.{Contains-append_left, Contains-push_cases}
 use Rattle.vap_read.specs.Reading.{read_event}
 use Rattle.vap_read.specs.Lines.{line_kind}
 use Rattle.vap_read.specs.declared.event.Event.{Event}
@@ -19,13 +20,13 @@ use Rattle.vap_lines.specs.Lines.{IsFirst, lines_of}
 use Rattle.vap_lines.specs.declared.counted.Counted.{Counted}
 use Rattle.vap_lines.specs.declared.lines.Ending.{Ending}
 use Rattle.vap_lines.specs.declared.lines.Ending.TheVariants.{Feed, End, TooLong}
-use Rattle.vap_watch.specs.Given.{AreUnverified}
-use Rattle.vap_watch.specs.Logs.{objects_after, objects_of}
+use Rattle.vap_watch.specs.Given.{AreUnverified, MayMatch}
+use Rattle.vap_watch.specs.Logs.{objects_after, objects_of, set_of}
 use Rattle.vap_watch.specs.Places.{Position}
 use Rattle.vap_replay.specs.Lines.{Reads, event_line, line_by, review_line}
 use Rattle.vap_replay.specs.Moves.{BeginsWith, IsReadAs, IsUnjudged, IsUnpublished, Waits, lines_ended}
 use Rattle.vap_replay.specs.Replay.{answers_text}
-use Rattle.vap_replay.specs.Sessions.{Answered, TakesReview, TellsGroup, first_with, waiting_entries}
+use Rattle.vap_replay.specs.Sessions.{Answered, OneMayMatch, TakesReview, TellsGroup, first_with, waiting_entries}
 use Rattle.vap_replay.specs.Streams.{IsPlain, is_of_the_lines}
 use Rattle.vap_replay.specs.declared.fault.LineFault.{LineFault}
 use Rattle.vap_replay.specs.declared.fault.LineFault.TheVariants as fault
@@ -52,14 +53,73 @@ pub group_first : (s : Session) (line number : ℕ) (why : LineFault) → TellsG
     → number ≡ first_with s.group.items s.first line
 group_first s line number why tells = tells.numbered ∙ sym (first_stays s.group.items s.first line tells.waiting)
 
--- a group that is told has a request
-pub group_tells : (s : Session) (number : ℕ) (why : LineFault) (request : Request) (requests : List Request)
-    → (number ≡ s.first) × (why ≡ fault.Pattern) → s.group.items ≡ request ∷ requests → TellsGroup s number why
-group_tells s number why request requests told is = record {
-  numbered = told.0;
+-- ---- the request at which a pattern is looked for
+
+-- where one waits, some do
+pub some_wait : (group : List Request) (request : Request) → Contains group request → group ≢ []
+some_wait [] request there = absurd (omega (arith, there.1))
+some_wait (r ∷ group) request there = λ none. cc
+
+-- the first of what is left is one of all
+pub first_among : (left rest all : List Request) (request : Request) → left ≡ request ∷ rest
+    → ((r : Request) → Contains left r → Contains all r) → Contains all request
+first_among left rest all request is among =
+    among request (subst (λ (rs : List Request). Contains rs request) (sym is) (0, omega arith, refl))
+
+-- those behind it are too
+pub others_among : (left rest all : List Request) (request : Request) → left ≡ request ∷ rest
+    → ((r : Request) → Contains left r → Contains all r) → (r : Request) → Contains rest r → Contains all r
+others_among left rest all request is among r there =
+    among r (subst (λ (rs : List Request). Contains rs r) (sym is) (suc there.0, omega (arith, there.1), there.2))
+
+-- a group that is told has a request at which a pattern is looked for
+pub group_tells : (old s : Session) (number : ℕ) (why : LineFault) (request : Request)
+    → (number ≡ s.first) × (why ≡ fault.Pattern) → s.first ≡ old.first → s.writer ≡ old.writer → Contains old.group.items request
+    → MayMatch (set_of s.writer.published) request → TellsGroup old number why
+group_tells old s number why request told first writer waits matches = record {
+  numbered = told.0 ∙ first;
   pattern = told.1;
-  waiting = λ none. (let bad : request ∷ requests ≡ [] = sym is ∙ none in cc);
+  waiting = some_wait old.group.items request waits;
+  one = record {
+    request = request;
+    waits = waits;
+    matches = subst (λ (p : Position). MayMatch (set_of p.published) request) writer matches;
+  };
 }
+
+-- what is looked for at a request is looked for where one more waits
+pub one_more_waits : (old : Session) (request : Request) → OneMayMatch old.writer.published old.group.items
+    → OneMayMatch old.writer.published (old.group.items ++ request ∷ [])
+one_more_waits old request one = record {
+  request = one.request;
+  waits = Contains-append_left old.group.items (request ∷ []) one.request one.waits;
+  matches = one.matches;
+}
+
+-- the same where the last of the group waits with the others
+pub last_waits : (old one : Session) (requests : List Request) → one.writer ≡ old.writer → one.group.items ≡ requests
+    → OneMayMatch one.writer.published one.group.items → OneMayMatch old.writer.published requests
+last_waits old one requests writer group at = record {
+  request = at.request;
+  waits = subst (λ (rs : List Request). Contains rs at.request) group at.waits;
+  matches = subst (λ (p : Position). MayMatch (set_of p.published) at.request) writer at.matches;
+}
+
+-- a request that waits with one more waited before, or is the line's
+pub asked_last : (Is : LineOf → Type 0) (before after : List Request) (request asked : Request) → Is (Asks request)
+    → after ≡ before ++ request ∷ [] → Contains after asked → Contains before asked ⊎ Is (Asks asked)
+asked_last Is before after request asked is grown there =
+    at (Contains-push_cases before request asked (subst (λ (rs : List Request). Contains rs asked) grown there))
+  where
+    at : Contains before asked ⊎ (request ≡ asked) → Contains before asked ⊎ Is (Asks asked)
+    at (inl waited) = inl waited
+    at (inr same) = inr (subst (λ (r : Request). Is (Asks r)) same is)
+
+-- the same where the line is seen in another way
+asked_as : (Is Was : LineOf → Type 0) (group : List Request) (asked : Request) → (Is (Asks asked) → Was (Asks asked))
+    → Contains group asked ⊎ Is (Asks asked) → Contains group asked ⊎ Was (Asks asked)
+asked_as Is Was group asked was (inl waited) = inl waited
+asked_as Is Was group asked was (inr is) = inr (was is)
 
 -- ---- one line
 
@@ -79,6 +139,7 @@ same_waits Is old new writer history group first some =
       history = history;
       first = first ∙ sym (first_stays old.group.items old.first (old.lines + 1) still);
       review = λ none. absurd (still none);
+      each = λ request there. inl (rw group at there);
     }
 
 -- a review waits, the first or behind others
@@ -86,37 +147,45 @@ pub asks_waits : {A E : Type 0} (r : Result A E) (line : LineOf) (request : Requ
     → one.writer ≡ old.writer → one.history ≡ old.history → one.group ≡ old.group → one.first ≡ old.first → one.lines ≡ old.lines + 1
     → OnOk r (TakesReview request one new)
     → OnOk r (new.group.items ≢ [] → (new.history ≡ one.history) × (new.first ≡ first_with one.group.items one.first one.lines))
+    → OnOk r (new.group.items ≢ [] → new.group.items ≡ one.group.items ++ request ∷ [])
     → OnOk r (new.group.items ≢ [] → Waits (λ l. line ≡ l) old new)
-asks_waits (Ok x) line request old one new is writer history group first lines taken waits = λ some.
+asks_waits (Ok x) line request old one new is writer history group first lines taken waits grown = λ some.
     let on = waits some in
     record {
       log = ap (λ (p : Position). p.published) (taken.log ∙ writer);
       history = on.0 ∙ history;
       first = on.1 ∙ rw (group, first, lines) refl;
       review = λ none. (request, is);
+      each = λ asked there. asked_last (λ l. line ≡ l) old.group.items new.group.items request asked is (rw group at grown some) there;
     }
-asks_waits (Err e) line request old one new is writer history group first lines taken waits = tt
+asks_waits (Err e) line request old one new is writer history group first lines taken waits grown = tt
 
 -- a group that is not judged before a line is taken
 pub group_unjudged : {W : Type 0} (Is : LineOf → Type 0) (old one : Session) (before after : Counted W) (number : ℕ) (why : LineFault)
-    → TellsGroup one number why → one.group ≡ old.group → one.first ≡ old.first → after ≡ before
+    → TellsGroup one number why → one.writer ≡ old.writer → one.group ≡ old.group → one.first ≡ old.first → after ≡ before
     → IsUnjudged Is old before after number
-group_unjudged Is old one before after number why tells group first same =
+group_unjudged Is old one before after number why tells writer group first same =
     let some : old.group.items ≢ [] = rw group at tells.waiting in
     record {
       unwritten = same;
       numbered = tells.numbered ∙ (first ∙ sym (first_stays old.group.items old.first (old.lines + 1) some));
       review = λ none. absurd (some none);
+      asked = tells.one.request;
+      waits = inl (rw group at tells.one.waits);
+      matches = subst (λ (p : Position). MayMatch (set_of p.published) tells.one.request) writer tells.one.matches;
     }
 
 -- a group that is not judged with the review of a line
 pub review_unjudged : {W : Type 0} (line : LineOf) (request : Request) (old : Session) (before after : Counted W) (number : ℕ)
     → line ≡ Asks request → (after ≡ before) × (number ≡ first_with old.group.items old.first (old.lines + 1))
-    → IsUnjudged (λ l. line ≡ l) old before after number
-review_unjudged line request old before after number is told = record {
+    → OneMayMatch old.writer.published (old.group.items ++ request ∷ []) → IsUnjudged (λ l. line ≡ l) old before after number
+review_unjudged line request old before after number is told one = record {
   unwritten = told.0;
   numbered = told.1;
   review = λ none. (request, is);
+  asked = one.request;
+  waits = asked_last (λ l. line ≡ l) old.group.items (old.group.items ++ request ∷ []) request one.request is refl one.waits;
+  matches = one.matches;
 }
 
 -- the event of a line is not published
@@ -192,6 +261,7 @@ waits_as (Ok x) Is Was old new asked waits = λ some.
       history = on.history;
       first = on.first;
       review = λ none. (let (request, is) = on.review none in (request, asked request is));
+      each = λ request there. asked_as Is Was old.group.items request (asked request) (on.each request there);
     }
 waits_as (Err e) Is Was old new asked waits = tt
 
@@ -202,6 +272,9 @@ unjudged_as Is Was old before after number asked at = record {
   unwritten = at.unwritten;
   numbered = at.numbered;
   review = λ none. (let (request, is) = at.review none in (request, asked request is));
+  asked = at.asked;
+  waits = asked_as Is Was old.group.items at.asked (asked at.asked) at.waits;
+  matches = at.matches;
 }
 
 pub unpublished_as : {W : Type 0} (contents : W → Option (List ℕ)) (Is Was : LineOf → Type 0) (old : Session) (before after : Counted W)

@@ -1,5 +1,6 @@
 -- What a line of a stream is.
-use Rattle.std.specs.Prelude.{◌≡◌, ◌≤◌, ◌<◌, ⊤, ℕ, Bool, true, false, ◌||◌, List, [], ◌∷◌, length, Some, None, Result, Ok, Err, IsUtf8}
+use Rattle.std.specs.Prelude.{◌≡◌, ◌≤◌, ◌<◌, ⊤, ℕ, Bool, true, false, ◌||◌, List, [], ◌∷◌, Contains, length}
+use Rattle.std.specs.Prelude.{Some, None, Result, Ok, Err, IsUtf8}
 use Rattle.std.specs.Str.{bytes_eq}
 use Rattle.serde_json.specs.Read.{read as read_text}
 use Rattle.serde_json.specs.View.{view}
@@ -71,3 +72,9 @@ abbrev pub EachReads : List (List ℕ) → List Line → Type 0
 EachReads [] [] = ⊤
 EachReads (bytes ∷ rest) (line ∷ lines) = Reads bytes line × EachReads rest lines
 EachReads _ _ = ⊥
+
+-- one of these lines is a review with this request
+pub record IsAskedIn (lines : List (List ℕ)) (request : Request) : Type 0 where
+  pub bytes : List ℕ
+  pub line : Contains lines bytes
+  pub read : Reads bytes (Asks request)

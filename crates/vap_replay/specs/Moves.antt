@@ -1,5 +1,5 @@
 -- How a replay goes on from line to line.
-use Rattle.std.specs.Prelude.{◌≡◌, ◌≢◌, ◌+◌, List, [], ◌∷◌, ◌++◌, ℕ, Option, IfSome, IsErrOf, OnOk, Result, Ok, Err}
+use Rattle.std.specs.Prelude.{◌≡◌, ◌≢◌, ◌⊎◌, ◌+◌, List, [], ◌∷◌, ◌++◌, Contains, ℕ, Option, IfSome, IsErrOf, OnOk, Result, Ok, Err}
 use Rattle.std.specs.Io.KnownBytes.{Appends, IsAtEnd}
 use Rattle.vap_lines.specs.Counted.{failures_of, inner_of, one_more}
 use Rattle.vap_lines.specs.Lines.{IsFirst, lines_of}
@@ -8,8 +8,8 @@ use Rattle.vap_lines.specs.declared.lines.Ending.{Ending}
 use Rattle.vap_lines.specs.declared.lines.Ending.TheVariants.{End, TooLong}
 use Rattle.vap_read.specs.declared.event.Event.{Event}
 use Rattle.vap_request.specs.declared.request.Request.{Request}
-use Rattle.vap_watch.specs.Given.{AreUnverified}
-use Rattle.vap_watch.specs.Logs.{objects_after, objects_of}
+use Rattle.vap_watch.specs.Given.{AreUnverified, MayMatch}
+use Rattle.vap_watch.specs.Logs.{objects_after, objects_of, set_of}
 use Rattle.vap_audit.specs.declared.entry.Entry.{Entry}
 use Rattle.vap_replay.specs.Lines.{EachReads, Reads}
 use Rattle.vap_replay.specs.Replay.{Choices, Sofar, after_line, answers_text, beginning}
@@ -48,18 +48,24 @@ abbrev pub Takes : Line → Session → Session → Type 0
 Takes line old new =
     (choices : Choices) → Agrees choices new.writer.published → after_line choices line (sofar_of old) ≡ Ok (sofar_of new)
 
--- reviews wait behind a line: nothing was published or answered with it, and the first of them waited before it or is the line's
+-- reviews wait behind a line: nothing was published or answered with it, and each of them, the first too, waited before it or is
+-- the line's
 pub record Waits (Is : Line → Type 0) (old new : Session) : Type 0 where
   pub log : new.writer.published ≡ old.writer.published
   pub history : new.history ≡ old.history
   pub first : new.first ≡ first_with old.group.items old.first (old.lines + 1)
   pub review : old.group.items ≡ [] → (request : Request) × Is (Asks request)
+  pub each : (request : Request) → Contains new.group.items request → Contains old.group.items request ⊎ Is (Asks request)
 
--- the reviews that wait with the line are not judged, which is told at the first of them, and nothing is written
+-- the reviews that wait with the line are not judged, which is told at the first of them, and nothing is written: at one of them
+-- the set of the log looks for a pattern
 pub record IsUnjudged {W : Type 0} (Is : Line → Type 0) (old : Session) (before after : Counted W) (number : ℕ) : Type 0 where
   pub unwritten : after ≡ before
   pub numbered : number ≡ first_with old.group.items old.first (old.lines + 1)
   pub review : old.group.items ≡ [] → (request : Request) × Is (Asks request)
+  pub asked : Request
+  pub waits : Contains old.group.items asked ⊎ Is (Asks asked)
+  pub matches : MayMatch (set_of old.writer.published) asked
 
 -- the line's event is not published: of the objects behind it the verifier refuses an image. The answers to the reviews before it
 -- are written

@@ -1,9 +1,10 @@
 -- A replay under way.
-use Rattle.std.specs.Prelude.{◌≡◌, ◌≢◌, ◌≤◌, ◌<◌, ◌+◌, ℕ, true, false, List, [], ◌∷◌, ◌++◌, length, slice_get, unwrap_or, option_and_then}
+use Rattle.std.specs.Prelude.{◌≡◌, ◌≢◌, ◌≤◌, ◌<◌, ◌+◌, ℕ, true, false, List, [], ◌∷◌, ◌++◌, Contains, length}
+use Rattle.std.specs.Prelude.{slice_get, unwrap_or, option_and_then}
 use Rattle.vap_read.specs.declared.event.Event.{Event}
 use Rattle.vap_request.specs.declared.request.Request.{Request}
-use Rattle.vap_watch.specs.Given.{Choice, no_choice, takes}
-use Rattle.vap_watch.specs.Logs.{objects_of, publication}
+use Rattle.vap_watch.specs.Given.{Choice, MayMatch, no_choice, takes}
+use Rattle.vap_watch.specs.Logs.{objects_of, publication, set_of}
 use Rattle.vap_watch.specs.Places.{most_events}
 use Rattle.vap_watch.specs.declared.log.Logged.{Logged}
 use Rattle.vap_audit.specs.Entries.{most_entries}
@@ -85,11 +86,18 @@ abbrev pub first_with : List Request → ℕ → ℕ → ℕ
 first_with [] first line = line
 first_with (request ∷ requests) first line = first
 
--- a group that waits is not judged, which is told at its first line
+-- at one of these requests the set of a log looks for a pattern
+pub record OneMayMatch (log : List Logged) (requests : List Request) : Type 0 where
+  pub request : Request
+  pub waits : Contains requests request
+  pub matches : MayMatch (set_of log) request
+
+-- a group that waits is not judged, which is told at its first line: at one of its requests a pattern is looked for
 pub record TellsGroup (s : Session) (number : ℕ) (why : LineFault) : Type 0 where
   pub numbered : number ≡ s.first
   pub pattern : why ≡ Pattern
   pub waiting : s.group.items ≢ []
+  pub one : OneMayMatch s.writer.published s.group.items
 
 -- what a failure to read a line is to the whole
 abbrev pub error_of_line : LineError → ReplayError

@@ -1,15 +1,15 @@
 -- What a replay leaves of its input and its output.
-use Rattle.std.specs.Prelude.{◌≡◌, ◌≤◌, ◌⊎◌, ◌+◌, ⊤, ℕ, Bool, true, false, List, [], ◌∷◌, ◌++◌, flat_map, length, take, IfSome, Option}
-use Rattle.std.specs.Prelude.{None, Some, Ok}
+use Rattle.std.specs.Prelude.{◌≡◌, ◌≤◌, ◌⊎◌, ◌+◌, ⊤, ℕ, Bool, true, false, List, [], ◌∷◌, ◌++◌, drop, flat_map, length, take}
+use Rattle.std.specs.Prelude.{IfSome, Option, None, Some, Ok}
 use Rattle.std.specs.Io.KnownBytes.{Appends}
 use Rattle.vap_lines.specs.Counted.{failures_of, inner_of, one_more}
 use Rattle.vap_lines.specs.Lines.{lines_of, most_reads}
 use Rattle.vap_lines.specs.declared.counted.Counted.{Counted}
 use Rattle.vap_read.specs.declared.event.Event.{Event}
 use Rattle.vap_request.specs.declared.request.Request.{Request}
-use Rattle.vap_watch.specs.Given.{AreUnverified}
-use Rattle.vap_watch.specs.Logs.{objects_after, objects_of}
-use Rattle.vap_replay.specs.Lines.{EachReads}
+use Rattle.vap_watch.specs.Given.{AreUnverified, MayMatch}
+use Rattle.vap_watch.specs.Logs.{objects_after, objects_of, set_of}
+use Rattle.vap_replay.specs.Lines.{EachReads, IsAskedIn}
 use Rattle.vap_replay.specs.Moves.{after_lines}
 use Rattle.vap_replay.specs.Replay.{Choices, Refusal, Sofar, answers_text, beginning, replay_of, replayed, told_lines}
 use Rattle.vap_replay.specs.declared.fault.LineFault.{LineFault}
@@ -81,8 +81,12 @@ pub record IsUnverifiedAt (input : List ℕ) (old new : Option (List ℕ)) (numb
   pub comes : Comes input old new number (Happens event) before
   pub unverified : AreUnverified (objects_after (objects_of before.log) (event ∷ []))
 
--- the line of this number is a review, the first whose answer is not written
+-- the line of this number is a review, the first whose answer is not written; and at its request, or at that of a review behind
+-- it, the set of the log before it looks for a pattern
 pub record IsUnansweredAt (input : List ℕ) (old new : Option (List ℕ)) (number : ℕ) : Type 0 where
   pub request : Request
   pub before : Sofar
   pub comes : Comes input old new number (Asks request) before
+  pub asked : Request
+  pub behind : IsAskedIn (drop before.lines (lines_of input)) asked
+  pub matches : MayMatch (set_of before.log) asked

@@ -80,7 +80,7 @@ fn put_named(entry: &Entry, out: &mut Writer) -> Result<(), AllocError>
     ensures before { out.new.before ≡ out.old.before }
 {
     put_numbers(entry.call, entry.verdict.revision, out)?;
-    put_text("uid", entry.request.admission.get().uid.as_str(), out)
+    put_text("uid", entry.request.admission().uid.as_str(), out)
 }
 
 /// The line for an entry, without its line feed: compact JSON, the members by the bytes of their keys.

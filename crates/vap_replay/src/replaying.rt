@@ -27,8 +27,9 @@ pub const MOST_WORKERS: u8 = 16;
 /// are asked for. Where it answers Ok, nothing is left unread, and the text of the lines is written and nothing else. Where the
 /// first line that is refused is told, the text up to it is written. At a failed read, at want of memory, and where a set is
 /// not built or a pattern not built again, whole answers are written and no others; at a failed write part of one may be. `Pattern`
-/// is told with the line of the first review that is not answered, `Unverified` with that of an event. `Read` is told where a
-/// read failed, or where there were as many as there may be and each gave a byte, and nowhere else.
+/// is told with the line of the first review that is not answered, and only where the set of the log before it looks for a pattern
+/// at this review or at one behind it; `Unverified` with the line of an event. `Read` is told where a read failed, or where there
+/// were as many as there may be and each gave a byte, and nowhere else.
 pub fn replay<R: Read, W: Write>(
     alloc: Global,
     input: &mut Counted<R>,

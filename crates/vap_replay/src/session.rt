@@ -6,14 +6,14 @@ ghost use Rattle.std.specs.Io.KnownBytes.{Appends, Keeps};
 ghost use Rattle.vap_lines.specs.Counted.{inner_of};
 ghost use Rattle.vap_audit.specs.Entries.{most_entries};
 ghost use Rattle.vap_audit.specs.declared.entry.Entry.{Entry as EntryOf};
-ghost use Rattle.vap_watch.specs.Given.{AreUnverified};
-ghost use Rattle.vap_watch.specs.Logs.{objects_after, objects_of};
+ghost use Rattle.vap_watch.specs.Given.{AreUnverified, MayMatch};
+ghost use Rattle.vap_watch.specs.Logs.{objects_after, objects_of, set_of};
 ghost use Rattle.vap_replay.specs.Moves.{CountsWrites, IsRefusal, IsUnjudged, IsUnpublished, RefusesAt, StopsAt, Takes, Waits, Writes};
 ghost use Rattle.vap_replay.specs.Streams.{IsPlain, is_of_the_lines};
 ghost use Rattle.vap_replay.specs.declared.fault.LineFault.{LineFault as FaultOf};
 ghost use Rattle.vap_replay.specs.Replay.{answer_line, answers_text, audit_line, audit_lines, audit_where, entry_of};
-ghost use Rattle.vap_replay.specs.Sessions.{Answered, Decided, HasRoom, IsInStep, IsOpening, RefusesEvent, TakesEvent, TakesReview};
-ghost use Rattle.vap_replay.specs.Sessions.{TellsGroup, first_with, sofar_of, waiting_entries};
+ghost use Rattle.vap_replay.specs.Sessions.{Answered, Decided, HasRoom, IsInStep, IsOpening, OneMayMatch, RefusesEvent, TakesEvent};
+ghost use Rattle.vap_replay.specs.Sessions.{TakesReview, TellsGroup, first_with, sofar_of, waiting_entries};
 
 use crate::audit_line::audit_text;
 use crate::fault::{LineFault, ReplayError, unpublished, unstaged};
@@ -173,8 +173,11 @@ impl Session {
         ensures counts { CountsWrites result out.old out.new }
         ensures waiting { OnOk result (self.new.group.items ≢ [] → (self.new.history ≡ self.old.history)
             × (self.new.first ≡ first_with self.old.group.items self.old.first self.old.lines)) }
+        ensures group { OnOk result (self.new.group.items ≢ [] → self.new.group.items ≡ self.old.group.items ++ request ∷ []) }
         ensures pattern { (number : ℕ) → IsErrOf result (ReplayError.Line number LineFault.Pattern) → (out.new ≡ out.old)
             × (number ≡ first_with self.old.group.items self.old.first self.old.lines) }
+        ensures asked { (number : ℕ) → IsErrOf result (ReplayError.Line number LineFault.Pattern)
+            → OneMayMatch self.old.writer.published (self.old.group.items ++ request ∷ []) }
         ensures no_image { (number : ℕ) → IsErrOf result (ReplayError.Line number LineFault.Unverified) → ⊥ }
         ensures no_read { IsErrOf result ReplayError.Read → ⊥ }
     {
@@ -198,6 +201,7 @@ impl Session {
         ensures history { OnOk result (self.new.history ≡ self.old.history) }
         ensures memory { IfErr result (λ error. error ≡ ReplayError.OutOfMemory) }
         ensures first { OnOk result (self.new.first ≡ first_with self.old.group.items self.old.first self.old.lines) }
+        ensures group { OnOk result (self.new.group.items ≡ self.old.group.items ++ request ∷ []) }
     {
         self.first = if self.group.is_empty() {
             self.lines
@@ -264,6 +268,8 @@ impl Session {
         ensures first { self.new.first ≡ self.old.first }
         ensures pattern { (number : ℕ) → (why : FaultOf) → IsErrOf result (ReplayError.Line number why)
             → (number ≡ self.old.first) × (why ≡ LineFault.Pattern) }
+        ensures asked { (number : ℕ) → (why : FaultOf) → IsErrOf result (ReplayError.Line number why)
+            → MayMatch (set_of self.old.writer.published) request }
         ensures no_read { IsErrOf result ReplayError.Read → ⊥ }
     {
         let number = self.record(request)?;
@@ -275,13 +281,14 @@ impl Session {
     /// The line that answers an entry's request.
     fn answer_line(&self, number: usize) -> Result<String, ReplayError>
         requires { number < length self.now.history }
-        ensures line { IfOk result (λ line. (e : EntryOf) → slice_get self.now.history number ≡ Some e → string_bytes line ≡ answer_line e) }
+        ensures line { IfOk result (λ line. (e : EntryOf) → slice_get self.now.history number ≡ Some e
+            → string_bytes line ≡ answer_line e) }
         ensures memory { IfErr result (λ error. error ≡ ReplayError.OutOfMemory) }
     {
         let entry = self.history.at(number);
         let mut answer = answer_text(
             self.alloc,
-            entry.request.admission.get().uid.as_str(),
+            entry.request.admission().uid.as_str(),
             &entry.verdict,
         )?;
         answer.push('\n')?;
@@ -300,6 +307,8 @@ impl Session {
         ensures first { self.new.first ≡ self.old.first }
         ensures pattern { (number : ℕ) → (why : FaultOf) → IsErrOf result (ReplayError.Line number why)
             → (number ≡ self.old.first) × (why ≡ LineFault.Pattern) }
+        ensures asked { (number : ℕ) → (why : FaultOf) → IsErrOf result (ReplayError.Line number why)
+            → MayMatch (set_of self.old.writer.published) request }
         ensures no_read { IsErrOf result ReplayError.Read → ⊥ }
     {
         let snapshot = self.writer.snapshot();
@@ -401,6 +410,7 @@ fn unjudged(first: u64, error: JudgeError) -> ReplayError
     ensures lines { (number : ℕ) → (why : FaultOf) → result ≡ ReplayError.Line number why → is_of_the_lines why ≡ false }
     ensures unwritten { result ≢ ReplayError.Write }
     ensures pattern { (number : ℕ) → (why : FaultOf) → result ≡ ReplayError.Line number why → (number ≡ first) × (why ≡ LineFault.Pattern) }
+    ensures told { (number : ℕ) → (why : FaultOf) → result ≡ ReplayError.Line number why → error ≡ JudgeError.Pattern }
     ensures no_read { result ≢ ReplayError.Read }
 {
     match error {

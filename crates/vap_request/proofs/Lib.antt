@@ -1,2 +1,4 @@
 pub mod Counts
 pub mod EntryOrder
+pub mod Spelled
+pub mod Within

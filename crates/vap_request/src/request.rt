@@ -4,10 +4,12 @@ ghost use Rattle.std.specs.Prelude.{◌≡◌, IfOk};
 ghost use Rattle.serde_json.specs.View.{view};
 ghost use Rattle.json_members.specs.Parts.{lent};
 ghost use Rattle.vap_request.specs.Requests.{document_in, object_of, old_object_of};
+ghost use Rattle.vap_request.specs.Within.{IsWithin};
 
 use plain::{Boxed, Items, Shared, Text, TextMap};
 use serde_json::Value as Json;
 use std::alloc::AllocError;
+use std::marker::Model;
 
 /// The kind of a request's object.
 #[derive(Drop)]
@@ -49,13 +51,35 @@ pub struct Admission {
     pub review: Boxed<Json>,
 }
 
-/// A request, which may have several owners.
+/// A request, which may have several owners. Contracts see it as what it asks: that this is within the limits is kept with it.
 #[derive(Drop)]
 pub struct Request {
-    pub admission: Shared<Admission>,
+    pub(crate) admission: Shared<Admission>,
+}
+
+impl Model for Request {
+    ghost use Rattle.std.specs.Coded.{codes};
+    ghost use Rattle.vap_request.specs.contracts.request.Admission as of_admissions;
+    ghost use Rattle.vap_request.specs.Within.{Asked, IsWithin};
+
+    ghost Value = { Asked };
+
+    ghost coded = { Prim.hlevel (codes, of_admissions.the_row.coded) };
+
+    ghost view = { λ r. record { admission = r.admission } };
+
+    ghost invariant = { λ r. IsWithin r.admission };
 }
 
 impl Request {
+    /// What is asked, which is within the limits.
+    pub fn admission(&self) -> &Admission
+        ensures exact { result.now ≡ self.now.admission }
+        ensures within { IsWithin result.now }
+    {
+        self.admission.get()
+    }
+
     /// An equal request: one more owner of the same.
     pub fn copy(&self) -> Result<Request, AllocError>
         ensures { IfOk result (λ request. request ≡ self.now) }

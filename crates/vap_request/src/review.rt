@@ -1,6 +1,6 @@
 //! From a review to its request.
 
-ghost use Rattle.std.specs.Prelude.{◌≡◌, IfOk, IfErr, IfSome, codes, option_and_then};
+ghost use Rattle.std.specs.Prelude.{◌≡◌, IfOk, IfErr, IfSome, None, codes, option_and_then};
 ghost use Rattle.serde_json.specs.Find.{get};
 ghost use Rattle.serde_json.specs.View.{view, members_view};
 ghost use Rattle.json_members.specs.Parts.{text_of, text_in, items_of, items_in, each_item};
@@ -198,6 +198,7 @@ fn target_of(alloc: Global, json: &Json) -> Result<Target, AllocError>
 }
 
 fn request_of(alloc: Global, review: Json) -> Result<Request, AllocError>
+    requires { least_fault (view review) ≡ None }
     ensures { IfOk result (λ request. request ≡ request_of review) }
 {
     let admission = admission_of(alloc, Boxed::new(alloc, review)?)?;

@@ -1,1 +1,2 @@
 pub mod EntryOrder
+pub mod RequestFits

@@ -45,16 +45,12 @@ held_namespace (Some o) = or_null (seen (codes "namespaceObject") namespace_type
 abbrev pub namespace_value : Cluster → Admission → Value
 namespace_value c r = if is_cluster r then value.Null else held_namespace (object_at (namespace_key r.namespace) c.objects)
 
--- what `request` holds, which is an error where it is no value of its type: no request that was read is such
-abbrev pub request_outcome : Admission → Outcome
-request_outcome r = if fits (request_value r) request_type then Ok (request_value r) else Err BadConversion
-
 -- what all names but `params` hold, where the object is this
 abbrev pub held_with : Cluster → CelType → Admission → Value → Held
 held_with c t r v = record {
   object = v;
   old_object = old_outcome (value_at (codes "oldObject") t (old_object_of r));
-  request = request_outcome r;
+  request = request_value r;
   namespace = namespace_value c r;
 }
 
@@ -69,7 +65,7 @@ held_at c t r = held_by c t r (value_at (codes "object") t (object_of r))
 
 -- what all names hold, in their order
 abbrev pub slots_of : Held → Value → List Outcome
-slots_of h params = Ok h.object ∷ h.old_object ∷ h.request ∷ Ok params ∷ Ok h.namespace ∷ []
+slots_of h params = Ok h.object ∷ h.old_object ∷ Ok h.request ∷ Ok params ∷ Ok h.namespace ∷ []
 
 -- the types of all names in their order, where the objects are of one type and `params` is of another
 abbrev pub slot_types : CelType → CelType → List CelType
@@ -80,5 +76,5 @@ slot_types t params =
 pub record IsHeldAt (t : CelType) (h : Held) : Type 0 where
   pub object : fits h.object (type.Nullable t) ≡ true
   pub old_object : outcome_fits (type.Nullable t) (Some h.old_object) ≡ true
-  pub request : outcome_fits request_type (Some h.request) ≡ true
+  pub request : fits h.request request_type ≡ true
   pub namespace : fits h.namespace (type.Nullable namespace_type) ≡ true

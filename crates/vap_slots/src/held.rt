@@ -10,12 +10,10 @@ ghost use Rattle.vap_kinds.specs.FixedKinds.{namespace_type};
 ghost use Rattle.vap_match.specs.Namespaces.{is_cluster};
 ghost use Rattle.vap_objects.specs.OfKind.{namespace_key};
 ghost use Rattle.vap_slots.specs.Held.{IsHeldAt, held_at, held_namespace, held_with, namespace_value, old_outcome};
-ghost use Rattle.vap_slots.specs.Held.{request_outcome, value_at};
-ghost use Rattle.vap_slots.specs.RequestType.{request_type};
+ghost use Rattle.vap_slots.specs.Held.{value_at};
 
-use crate::types::request_type;
 use crate::values::request_value;
-use cel_value::{CelError, CelType, Value, fits};
+use cel_value::{CelError, CelType, Value};
 use plain::Text;
 use serde_json::Value as Json;
 use std::alloc::{AllocError, Global};
@@ -23,14 +21,14 @@ use vap_fit::{FitError, FitFault, fit};
 use vap_kinds::namespace_type;
 use vap_objects::Objects;
 use vap_read::{Key, Object};
-use vap_request::Admission;
+use vap_request::{Admission, Request};
 
 /// What all names but `params` hold at a request.
 #[derive(Drop)]
 pub struct Held {
     pub object: Value,
     pub old_object: Result<Value, CelError>,
-    pub request: Result<Value, CelError>,
+    pub request: Value,
     /// The object of the request's namespace.
     pub namespace: Value,
 }
@@ -124,39 +122,23 @@ fn namespace_value(
     }
 }
 
-/// What `request` holds, which is an error where it is no value of its type.
-fn request_outcome(
-    alloc: Global,
-    request: &Admission,
-) -> Result<Result<Value, CelError>, AllocError>
-    ensures exact { IfOk result (λ outcome. outcome ≡ request_outcome request.now) }
-    ensures fits { IfOk result (λ outcome. outcome_fits request_type (Some outcome) ≡ true) }
-{
-    let cel_type = request_type(alloc)?;
-    let value = request_value(alloc, request)?;
-    if fits(&value, &cel_type) {
-        Ok(Ok(value))
-    } else {
-        Ok(Err(CelError::BadConversion))
-    }
-}
-
 fn held_with(
     alloc: Global,
     objects: &Objects,
     cel_type: &CelType,
-    request: &Admission,
+    request: &Request,
     object: Value,
 ) -> Result<Held, AllocError>
     requires { fits object (type.Nullable cel_type.now) ≡ true }
-    ensures exact { IfOk result (λ held. held ≡ held_with objects.now cel_type.now request.now object) }
+    ensures exact { IfOk result (λ held. held ≡ held_with objects.now cel_type.now request.now.admission object) }
     ensures fits { IfOk result (IsHeldAt cel_type.now) }
 {
+    let asked = request.admission();
     Ok(Held {
         object,
-        old_object: old_outcome(alloc, cel_type, request)?,
-        request: request_outcome(alloc, request)?,
-        namespace: namespace_value(alloc, objects, request)?,
+        old_object: old_outcome(alloc, cel_type, asked)?,
+        request: request_value(alloc, request)?,
+        namespace: namespace_value(alloc, objects, asked)?,
     })
 }
 
@@ -165,12 +147,12 @@ pub fn held_at(
     alloc: Global,
     objects: &Objects,
     cel_type: &CelType,
-    request: &Admission,
+    request: &Request,
 ) -> Result<Result<Held, FitFault>, AllocError>
-    ensures exact { IfOk result (λ held. held ≡ held_at objects.now cel_type.now request.now) }
+    ensures exact { IfOk result (λ held. held ≡ held_at objects.now cel_type.now request.now.admission) }
     ensures fits { IfOk result (λ held. IfOk held (IsHeldAt cel_type.now)) }
 {
-    match value_at(alloc, "object", cel_type, request.object())? {
+    match value_at(alloc, "object", cel_type, request.admission().object())? {
         Ok(object) => Ok(Ok(held_with(alloc, objects, cel_type, request, object)?)),
         Err(fault) => Ok(Err(fault)),
     }

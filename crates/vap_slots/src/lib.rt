@@ -1,7 +1,8 @@
 //! What the names of a policy's expressions hold at a request.
 //!
-//! [`request_type`] is the type of `request`, and [`request_value`] what it holds of a review. [`held_at`] makes what all names
-//! but `params` hold, or tells the fault of the object; an old object that does not fit is an error, which its name then holds.
+//! [`request_type`] is the type of `request`, and [`request_value`] what it holds of a review, which is of that type. [`held_at`]
+//! makes what all names but `params` hold, or tells the fault of the object; an old object that does not fit is an error, which its
+//! name then holds.
 #![tactic(auto)]
 
 mod held;

@@ -1,16 +1,18 @@
 //! What `request` holds.
 
-ghost use Rattle.std.specs.Prelude.{◌≡◌, ◌++◌, ◌∷◌, [], List, IfOk, OnOk, codes, map};
+ghost use Rattle.std.specs.Prelude.{◌≡◌, ◌++◌, ◌∷◌, [], List, IfOk, OnOk, codes, map, true};
+ghost use Rattle.cel_value.specs.CelType.{fits};
 ghost use Rattle.plain.specs.declared.text.Keyed.{Keyed as KeyedOf};
 ghost use Rattle.cel_value.specs.declared.value.Value.{Value as ValueOf};
 ghost use Rattle.cel_value.specs.declared.value.Value as V;
+ghost use Rattle.vap_slots.specs.RequestType.{request_type};
 ghost use Rattle.vap_slots.specs.RequestValue.{asked_values, request_value, texts_entry, texts_value, user_value, versioned_value};
 ghost use Rattle.vap_slots.specs.RequestValue.{with_field, with_text};
 
 use cel_value::Value;
 use plain::{Items, Keyed, Text, TextMap};
 use std::alloc::{AllocError, Global};
-use vap_request::{Admission, UserInfo};
+use vap_request::{Admission, Request, UserInfo};
 
 /// Fields that were made, as far as there was memory.
 type Fields = Result<TextMap<Value>, AllocError>;
@@ -148,8 +150,7 @@ fn resource_value(alloc: Global, request: &Admission) -> Result<Value, AllocErro
     )
 }
 
-/// What `request` holds.
-pub fn request_value(alloc: Global, request: &Admission) -> Result<Value, AllocError>
+fn value_of(alloc: Global, request: &Admission) -> Result<Value, AllocError>
     ensures { IfOk result (λ v. v ≡ request_value request.now) }
 {
     let kind = kind_value(alloc, request);
@@ -158,4 +159,12 @@ pub fn request_value(alloc: Global, request: &Admission) -> Result<Value, AllocE
     let fields = with_field(alloc, fields, "resource", resource);
     let user = user_value(alloc, &request.user_info);
     object_of(with_field(alloc, fields, "userInfo", user))
+}
+
+/// What `request` holds, which is of its type.
+pub fn request_value(alloc: Global, request: &Request) -> Result<Value, AllocError>
+    ensures exact { IfOk result (λ v. v ≡ request_value request.now.admission) }
+    ensures fits { IfOk result (λ v. fits v request_type ≡ true) }
+{
+    value_of(alloc, request.admission())
 }

@@ -4,7 +4,7 @@ use Rattle.std.specs.Prelude.{if◌then◌else◌}
 use Rattle.vap_read.specs.declared.event.Event.{Event}
 use Rattle.vap_request.specs.declared.request.Request.{Request}
 use Rattle.vap_set.specs.Sets.{kinds_of}
-use Rattle.vap_judge.specs.Findings.{no_findings}
+use Rattle.vap_judge.specs.Evaluations.{found_by}
 use Rattle.vap_judge.specs.Judging as judging
 use Rattle.vap_judge.specs.Places.{is_exempt, kind_at}
 use Rattle.vap_watch.specs.Given.{Objects, PolicySet, Verdict, after, no_objects, verdict_of}
@@ -27,7 +27,7 @@ set_revision : (set : PolicySet) (request : Request) → (verdict_of set request
 unfolding verdict_of judging.verdict_of
 set_revision set request =
     let kind = kind_at (kinds_of set) request.admission in
-    either (is_exempt request.admission.resource) (judging.verdict_by set.objects.events no_findings)
+    either (is_exempt request.admission.resource) (judging.verdict_by set.objects.events (found_by []))
     (judging.verdict_at set request.admission kind) set.objects.events refl
     (of_each (judging.verdict_with set request.admission kind) set.objects.events (λ held. refl) (λ fault. refl) _)
 

@@ -1,9 +1,10 @@
 use Rattle.std.proofs.Common.{arith}
-use Rattle.std.proofs.Common.{◌+◌, drop}
+use Rattle.std.proofs.Common.{◌+◌, drop, sym}
 use Rattle.vap_programs.specs.Pairs.{annotation_estimate}
 use Rattle.vap_found.specs.Annotations.{note, note_failure, note_charge}
 use Rattle.vap_found.proofs.Steps.{next_is, next_cost, next_found}
 use Rattle.vap_found.proofs.Sums.{next_sum}
+use Rattle.std.proofs.lemmas.Result.{err_from_is_err_and}
 use Rattle.vap_found.proofs.annotating.annotate_all.Goals as goal
 
 pub loop-annotation-preserved : goal.loop-annotation-preserved
@@ -24,4 +25,17 @@ loop-annotation-preserved g c =
       sum,
       omega (arith, sum, few),
       (rw d at inv.5).1,
+    )
+
+-- at the annotation where the loop stands
+pub returns-in_err-cost-clause-pattern : goal.returns-in_err-cost-clause-pattern
+returns-in_err-cost-clause-pattern g c = λ is.
+    let p = err_from_is_err_and c.from_residual.result c.from_residual.ensures.1 in
+    let q = p.1 in
+    let r = p.2 in (
+      c.loop-annotation.annotation-index,
+      c.annotation-item.result,
+      c.loop-annotation-test.true,
+      sym c.annotation-item.is,
+      c.in_err-cost.ensures.pattern (cc),
     )

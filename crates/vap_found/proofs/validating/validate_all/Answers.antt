@@ -1,8 +1,9 @@
-use Rattle.std.proofs.Common.{◌+◌, drop, arith, add-one}
+use Rattle.std.proofs.Common.{◌+◌, drop, arith, add-one, sym}
 use Rattle.vap_programs.specs.Pairs.{check_estimate}
 use Rattle.vap_found.specs.Validations.{check_charge}
 use Rattle.vap_found.proofs.Steps.{next_is, next_cost, next_failures}
 use Rattle.vap_found.proofs.Sums.{next_sum}
+use Rattle.std.proofs.lemmas.Result.{err_from_is_err_and}
 use Rattle.vap_found.proofs.validating.validate_all.Goals as goal
 
 pub loop-check-preserved : goal.loop-check-preserved
@@ -23,4 +24,17 @@ loop-check-preserved g c =
       omega (arith, sum, few),
       omega arith,
       (rw d at inv.5).1,
+    )
+
+-- at the validation where the loop stands
+pub returns-in_err-cost-clause-pattern : goal.returns-in_err-cost-clause-pattern
+returns-in_err-cost-clause-pattern g c = λ is.
+    let p = err_from_is_err_and c.from_residual.result c.from_residual.ensures.1 in
+    let q = p.1 in
+    let r = p.2 in (
+      c.loop-check.check-index,
+      c.check-item.result,
+      c.loop-check-test.true,
+      sym c.check-item.is,
+      c.in_err-cost.ensures.pattern (cc),
     )

@@ -3,6 +3,7 @@ use Rattle.cel_apply.specs.Lent.{all_lent}
 use Rattle.cel_expression.specs.Expressions.{estimate_at}
 use Rattle.vap_found.proofs.Fitting.{next_values, next_charge, next_can}
 use Rattle.vap_found.proofs.Sums.{next_sum}
+use Rattle.std.proofs.lemmas.Result.{err_from_is_err_and}
 use Rattle.vap_found.proofs.variables.evaluate.Goals as goal
 
 pub loop-variable-preserved : goal.loop-variable-preserved
@@ -23,4 +24,17 @@ loop-variable-preserved g c =
       sum,
       omega (arith, sum, few),
       next_can s (drop (i + 1) vs) (drop i vs) held made _ _ d e.value e.fits inv.4,
+    )
+
+-- at the variable where the loop stands
+pub returns-in_err-cost-clause-pattern : goal.returns-in_err-cost-clause-pattern
+returns-in_err-cost-clause-pattern g c = λ is.
+    let p = err_from_is_err_and c.from_residual.result c.from_residual.ensures.1 in
+    let q = p.1 in
+    let r = p.2 in (
+      c.loop-variable.variable-index,
+      c.variable-item.result,
+      c.loop-variable-test.true,
+      sym c.variable-item.is,
+      c.in_err-cost.ensures.pattern (cc),
     )

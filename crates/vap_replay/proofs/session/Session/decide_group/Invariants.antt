@@ -1,4 +1,5 @@
-use Rattle.std.proofs.Common.{◌≡◌, ◌≤◌, ◌+◌, ◌++◌, [], length}
+use Rattle.std.proofs.Common.{◌≡◌, ◌≤◌, ◌+◌, ◌++◌, [], Contains, length}
+use Rattle.vap_request.specs.declared.request.Request.{Request}
 use Rattle.std.specs.Prelude.{string_bytes}
 use Rattle.std.specs.Vec.Iter.{into_iter_items}
 use Rattle.vap_audit.specs.Entries.{most_entries}
@@ -16,6 +17,7 @@ invariant-loop-request l =
       lines : l.self.lines ≡ l.fn.self.lines;
       first : l.self.first ≡ l.fn.self.first;
       waiting : length (into_iter_items l.request-iterator) ≤ length l.fn.self.group.items;
+      among : (r : Request) → Contains (into_iter_items l.request-iterator) r → Contains l.fn.self.group.items r;
       none : l.self.group.items ≡ [];
       entries : l.self.history ++ left ≡ l.fn.self.history ++ all;
       text : string_bytes l.text ++ answers_text left ≡ answers_text all;

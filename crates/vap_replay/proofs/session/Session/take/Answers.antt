@@ -1,9 +1,12 @@
 use Rattle.std.proofs.Common.{◌≡◌, refl, sym, subst}
-use Rattle.std.specs.Prelude.{OnOk}
+use Rattle.std.specs.Prelude.{IsErrOf, OnOk}
+use Rattle.std.proofs.lemmas.Result.{err_from_is_err_and}
 use Rattle.vap_replay.specs.Moves.{RefusesAt, Takes}
+use Rattle.vap_replay.specs.declared.fault.ReplayError.TheVariants.{Line as AtLine}
 use Rattle.vap_replay.specs.declared.line.Line.{Line}
 use Rattle.vap_replay.proofs.Arms.{event_step, refused_event, refused_line, refused_review, took_each}
 use Rattle.vap_replay.specs.declared.fault.LineFault.TheVariants.{Pattern, Unverified}
+use Rattle.vap_replay.proofs.Told.{told_unwritten}
 use Rattle.vap_replay.proofs.Unjudged.{asks_waits, event_unpublished, group_unjudged, none_waits, plain_fault, review_unjudged, same_waits}
 use Rattle.vap_replay.proofs.session.Session.take.Goals as goal
 
@@ -52,13 +55,13 @@ returns-in-Skipped-clause-waiting g c = λ some. same_waits _ c.args.self.now _ 
 pub returns-in-Asks-clause-waiting : goal.returns-in-Asks-clause-waiting
 returns-in-Asks-clause-waiting g c =
     asks_waits c.take_review.result c.args.line c.in-Asks.request c.args.self.now _ c.take_review.new.self c.in-Asks.is
-    refl refl refl refl refl c.take_review.ensures.taken c.take_review.ensures.waiting
+    refl refl refl refl refl c.take_review.ensures.taken c.take_review.ensures.waiting c.take_review.ensures.group
 
 pub returns-in-Asks-clause-pattern : goal.returns-in-Asks-clause-pattern
 returns-in-Asks-clause-pattern g c =
     λ number told plain.
     review_unjudged c.args.line c.in-Asks.request c.args.self.now c.args.out.now c.take_review.new.out number c.in-Asks.is
-    (c.take_review.ensures.pattern number told)
+    (c.take_review.ensures.pattern number told) (c.take_review.ensures.asked number told)
 
 pub returns-in_ok-answer_group-in-Happens-clause-waiting :
     goal.returns-in_ok-answer_group-in-Happens-clause-waiting
@@ -78,7 +81,7 @@ pub returns-in-Refused-clause-pattern : goal.returns-in-Refused-clause-pattern
 returns-in-Refused-clause-pattern g c =
     λ number told plain.
     let both = c.refuse.ensures.pattern number Pattern refl (plain_fault c.args.line c.in-Refused.fault plain c.in-Refused.is) told in
-    group_unjudged _ c.args.self.now _ c.args.out.now c.refuse.new.out number Pattern both.0 refl refl both.1
+    group_unjudged _ c.args.self.now _ c.args.out.now c.refuse.new.out number Pattern both.0 refl refl refl both.1
 
 pub returns-in-Refused-clause-unverified : goal.returns-in-Refused-clause-unverified
 returns-in-Refused-clause-unverified g c =
@@ -87,3 +90,15 @@ returns-in-Refused-clause-unverified g c =
     c.refuse.ensures.pattern number Unverified refl (plain_fault c.args.line c.in-Refused.fault plain c.in-Refused.is) told in
     let bad : Unverified ≡ Pattern = both.0.pattern in
     cc
+
+pub returns-in_err-answer_group-in-Happens-clause-pattern :
+    goal.returns-in_err-answer_group-in-Happens-clause-pattern
+returns-in_err-answer_group-in-Happens-clause-pattern g c =
+    let from = c.from_residual in
+    let p = err_from_is_err_and from.result from.ensures.1 in
+    λ number told plain.
+    let same : IsErrOf c.answer_group.result (AtLine number Pattern) = cc (c.in_err-answer_group-in-Happens.was) in
+    let unwritten = told_unwritten c.answer_group.result c.args.out.now c.answer_group.new.out number Pattern same
+    c.answer_group.ensures.stopped in
+    group_unjudged _ c.args.self.now _ c.args.out.now c.answer_group.new.out number Pattern
+    (c.answer_group.ensures.pattern number Pattern same) refl refl refl unwritten

@@ -1,8 +1,9 @@
-use Rattle.std.proofs.Common.{◌≡◌, refl, sym, ap, ◌∙◌}
+use Rattle.std.proofs.Common.{◌≡◌, refl, rules, sym, ap, ◌∙◌}
 use Rattle.vap_watch.specs.Places.{Position}
 use Rattle.vap_replay.specs.declared.fault.LineFault.TheVariants.{Pattern, Unverified}
 use Rattle.vap_replay.proofs.Arms.{answered_last, answered_step, entries_length}
-use Rattle.vap_replay.proofs.Unjudged.{group_first}
+use Rattle.vap_replay.proofs.Told.{stops_here}
+use Rattle.vap_replay.proofs.Unjudged.{group_first, one_more_waits}
 use Rattle.vap_replay.proofs.session.Session.take_review.Goals as goal
 
 pub returns-then-waiting-eq-MOST_ENTRIES-clause-full :
@@ -35,3 +36,14 @@ returns-then-waiting-eq-MOST_ENTRIES-clause-no_image g c =
     let both = c.refuse.ensures.pattern number Unverified refl refl told in
     let bad : Unverified ≡ Pattern = both.0.pattern in
     cc
+
+pub returns-then-waiting-eq-MOST_ENTRIES-clause-asked :
+    goal.returns-then-waiting-eq-MOST_ENTRIES-clause-asked
+returns-then-waiting-eq-MOST_ENTRIES-clause-asked g c =
+    λ number told.
+    let both = c.refuse.ensures.pattern number Pattern refl refl told in
+    one_more_waits c.args.self.now c.args.request both.0.one
+
+pub returns-in_err-answer_group-clause-stopped :
+    goal.returns-in_err-answer_group-clause-stopped
+returns-in_err-answer_group-clause-stopped g c = search (rules, stops_here)

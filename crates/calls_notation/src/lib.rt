@@ -1,0 +1,16 @@
+//! What a line of `tests/vectors/*_calls-*.jsonl` asks, how lines write types and values, and how they are shown.
+//!
+//! A line is a JSON document: `call` names a part of the libraries and, behind a dot, what is asked of it; `with` has the texts
+//! and numbers that the call is given beside its input, where it is given any; and `input` is a text. The answer is a text, which
+//! is printed as a JSON string, a line each.
+#![tactic(auto)]
+
+mod asked;
+mod question;
+mod showing;
+mod types;
+
+pub use asked::{Asked, unknown};
+pub use question::{json, quoted, unreadable};
+pub use showing::{put, put_type, shown, shown_type};
+pub use types::{parts_of, put_types, type_of, typed, types_of, value_at};

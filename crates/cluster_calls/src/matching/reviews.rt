@@ -1,0 +1,83 @@
+//! Which documents are reviews, and what they ask.
+
+use crate::matching::limits;
+use crate::matching::read::{agreed, review_refusal};
+use calls_notation::{Asked, json, unknown};
+use std::alloc::{AllocError, Global};
+use vap_match::{Admission, Request};
+
+/// The answer to a call of reviews.
+pub fn answer(alloc: Global, asked: &Asked) -> Result<String, AllocError> {
+    match asked.call {
+        "request" => request(alloc, asked.input),
+        "longest" => limits::longest(alloc, asked.input, asked.text(0)),
+        "most" => limits::most(alloc, asked.input, asked.text(0), asked.text(1)),
+        _ => unknown(alloc),
+    }
+}
+
+fn push_user(out: &mut String, asked: &Admission) -> Result<(), AllocError> {
+    let user = &asked.user_info;
+    write!(out, ";{};{};", user.username.as_str(), user.uid.as_str())?;
+    for group in user.groups.as_slice() {
+        write!(out, "{},", group.as_str())?;
+    }
+    out.push_str(";")?;
+    for entry in user.extra.as_slice() {
+        write!(out, "{}=", entry.key.as_str())?;
+        for text in entry.value.as_slice() {
+            write!(out, "{},", text.as_str())?;
+        }
+    }
+    Ok(())
+}
+
+fn push_target(out: &mut String, asked: &Admission) -> Result<(), AllocError> {
+    let (kind, resource) = (&asked.kind, &asked.resource);
+    let (group, version) = (kind.group.as_str(), kind.version.as_str());
+    write!(out, ";{group}/{version}/{}", kind.kind.as_str())?;
+    let (group, version) = (resource.group.as_str(), resource.version.as_str());
+    write!(out, ";{group}/{version}/{}", resource.resource.as_str())?;
+    let (below, name) = (asked.sub_resource.as_str(), asked.name.as_str());
+    let (namespace, operation) = (asked.namespace.as_str(), asked.operation.as_str());
+    write!(out, ";{below};{name};{namespace};{operation}")
+}
+
+/// Which objects there are: `o` as it is to be, `p` as it was.
+fn objects(asked: &Admission) -> &'static str {
+    match (asked.object(), asked.old_object()) {
+        (Some(_), Some(_)) => "op",
+        (Some(_), None) => "o",
+        (None, Some(_)) => "p",
+        (None, None) => "",
+    }
+}
+
+/// What a review asks, of its objects which there are.
+pub fn shown(alloc: Global, asked: &Admission) -> Result<String, AllocError> {
+    let mut out = String::from_str(alloc, asked.uid.as_str())?;
+    push_target(&mut out, asked)?;
+    push_user(&mut out, asked)?;
+    out.push_str(if asked.dry_run { ";dry;" } else { ";;" })?;
+    out.push_str(objects(asked))?;
+    Ok(out)
+}
+
+fn shown_of(alloc: Global, request: Request) -> Result<String, AllocError> {
+    shown(alloc, request.admission())
+}
+
+/// What a request and its copy ask, where both ask the same.
+fn shown_twice(alloc: Global, request: &Request) -> Result<String, AllocError> {
+    let copy = shown_of(alloc, request.copy()?)?;
+    let first = shown(alloc, request.admission())?;
+    agreed(alloc, first.as_str(), copy.as_str())
+}
+
+/// What a review asks, which a copy does too, or the review's fault.
+fn request(alloc: Global, row: &str) -> Result<String, AllocError> {
+    match Request::from_json(alloc, json(alloc, row)?) {
+        Ok(request) => shown_twice(alloc, &request),
+        Err(error) => review_refusal(alloc, error),
+    }
+}

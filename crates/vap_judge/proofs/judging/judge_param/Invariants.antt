@@ -1,4 +1,0 @@
-use Rattle.vap_judge.proofs.judging.judge_param.Given as goal
-
-abbrev pub ghost-run_at : goal.ghost-run_at
-ghost-run_at g a = g.types

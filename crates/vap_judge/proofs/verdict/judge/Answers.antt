@@ -1,0 +1,50 @@
+use Rattle.std.proofs.Common.{List, sym, ap, ◌∙◌, subst}
+use Rattle.vap_kinds.specs.declared.kind.Kind.{Kind}
+use Rattle.vap_request.specs.declared.request.Admission.{Admission}
+use Rattle.vap_set.specs.Sets.{kinds_of}
+use Rattle.vap_judge.proofs.Named.{kind_first}
+use Rattle.vap_judge.proofs.PassedOver.{none_passed_over}
+use Rattle.vap_judge.proofs.Priced.{set_priced}
+use Rattle.vap_judge.specs.Patterns.{KindMayMatch}
+use Rattle.vap_judge.specs.Places.{is_exempt, kind_at}
+use Rattle.vap_judge.proofs.verdict.judge.Goals as goal
+
+pub returns-in_err-exempt_verdict-clause-none_passed_over : goal.returns-in_err-exempt_verdict-clause-none_passed_over
+returns-in_err-exempt_verdict-clause-none_passed_over c = none_passed_over c.args.set.now c.args.request.now.admission
+
+pub returns-then-is_exempt-clause-none_passed_over : goal.returns-then-is_exempt-clause-none_passed_over
+returns-then-is_exempt-clause-none_passed_over c = none_passed_over c.args.set.now c.args.request.now.admission
+
+pub returns-clause-none_passed_over : goal.returns-clause-none_passed_over
+returns-clause-none_passed_over c = none_passed_over c.args.set.now c.args.request.now.admission
+
+pub returns-in_err-exempt_verdict-clause-priced : goal.returns-in_err-exempt_verdict-clause-priced
+returns-in_err-exempt_verdict-clause-priced c =
+    let b = c.args.set.now in
+    let r = c.args.request.now.admission in
+    set_priced b (kind_at (kinds_of b) r) (kind_first (kinds_of b) r)
+
+pub returns-then-is_exempt-clause-priced : goal.returns-then-is_exempt-clause-priced
+returns-then-is_exempt-clause-priced c =
+    let b = c.args.set.now in
+    let r = c.args.request.now.admission in
+    set_priced b (kind_at (kinds_of b) r) (kind_first (kinds_of b) r)
+
+pub returns-clause-priced : goal.returns-clause-priced
+returns-clause-priced c =
+    let b = c.args.set.now in
+    let r = c.args.request.now.admission in
+    set_priced b (kind_at (kinds_of b) r) (kind_first (kinds_of b) r)
+
+pub returns-clause-pattern : goal.returns-clause-pattern
+returns-clause-pattern c = λ is.
+    let b = c.args.set.now in
+    let asked = c.admission-admission.ensures.exact in
+    record {
+      judged = ap (λ (r : Admission). is_exempt r.resource) (sym asked) ∙ (sym c.is_exempt.ensures ∙ c.if-is_exempt.false);
+      one =
+          subst (KindMayMatch b c.args.request.now.admission)
+          (c.kind_at-kind.ensures ∙ (ap (λ (ks : List Kind). kind_at ks c.admission-admission.result.now) c.kinds.ensures
+          ∙ ap (λ (r : Admission). kind_at (kinds_of b) r) asked))
+          (c.judge_at.ensures.pattern is);
+    }

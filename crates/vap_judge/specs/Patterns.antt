@@ -1,0 +1,33 @@
+-- Whether a request needs a pattern: a policy runs there that gives `matches` a literal text.
+use Rattle.std.specs.Prelude.{◌≡◌, ◌⊎◌, false, List, [], ◌∷◌, Option, Ok}
+use Rattle.vap_found.specs.Patterns.{PolicyMayMatch}
+use Rattle.vap_kinds.specs.declared.kind.Kind.{Kind}
+use Rattle.vap_request.specs.declared.request.Admission.{Admission}
+use Rattle.vap_set.specs.Ready.{type_at}
+use Rattle.vap_set.specs.Sets.{kinds_of}
+use Rattle.vap_slots.specs.Held.{held_at}
+use Rattle.vap_slots.specs.declared.held.Held.{Held}
+use Rattle.vap_judge.specs.Evaluations.{Evaluation, Ran, Failed}
+use Rattle.vap_judge.specs.Judging.{Built, case_with, evaluations_of}
+use Rattle.vap_judge.specs.Places.{is_exempt, kind_at}
+
+-- an evaluation looks for a pattern: it runs a policy, and one of the policy's expressions gives `matches` a literal text
+abbrev pub EvaluationMayMatch : Evaluation → Type 0
+EvaluationMayMatch (Ran w ps slots) = PolicyMayMatch ps
+EvaluationMayMatch (Failed w message) = ⊥
+
+-- one of these does
+abbrev pub OneMayMatch : List Evaluation → Type 0
+OneMayMatch [] = ⊥
+OneMayMatch (e ∷ es) = EvaluationMayMatch e ⊎ OneMayMatch es
+
+-- the object of a request of a kind, if it is known, is of the kind's type, and an evaluation looks for a pattern
+pub record KindMayMatch (b : Built) (r : Admission) (k : Option Kind) : Type 0 where
+  pub held : Held
+  pub fits : held_at b.objects (type_at k) r ≡ Ok held
+  pub one : OneMayMatch (evaluations_of (case_with b r k held))
+
+-- a set looks for a pattern at a request: the request is judged, and an evaluation looks for one
+pub record MayMatch (b : Built) (r : Admission) : Type 0 where
+  pub judged : is_exempt r.resource ≡ false
+  pub one : KindMayMatch b r (kind_at (kinds_of b) r)

@@ -1,0 +1,133 @@
+//! The verdict on a request.
+
+ghost use Rattle.std.specs.Prelude.{◌≡◌, [], IfOk, IsErrOf};
+ghost use Rattle.std.specs.Option.{option_copied};
+ghost use Rattle.cel_value.specs.declared.cel_type.CelType as type;
+ghost use Rattle.vap_answer.specs.Verdicts.{unfit_verdict};
+ghost use Rattle.vap_fit.specs.Names.{fit_fault_text};
+ghost use Rattle.vap_set.specs.Ready.{type_at};
+ghost use Rattle.vap_set.specs.Sets.{kinds_of};
+ghost use Rattle.vap_judge.specs.Evaluations.{found_by};
+ghost use Rattle.vap_judge.specs.Judging.{evaluations_of, verdict_at, verdict_by, verdict_of};
+ghost use Rattle.vap_judge.specs.PassedOver.{NoneIsPassedOver};
+ghost use Rattle.vap_judge.specs.Patterns.{KindMayMatch, MayMatch, OneMayMatch};
+ghost use Rattle.vap_judge.specs.Places.{kind_at};
+ghost use Rattle.vap_judge.specs.Priced.{ArePriced};
+ghost use Rattle.vap_judge.specs.Ready.{IsCase};
+ghost use Rattle.vap_judge.specs.Shown.{case_of};
+
+use crate::case::Case;
+use crate::findings::Findings;
+use crate::judge_error::JudgeError;
+use crate::judging::Judging;
+use crate::places::{is_exempt, kind_at};
+use cel_machine::Matchers;
+use cel_value::CelType;
+use std::alloc::{AllocError, Global};
+use vap_answer::{Verdict, unfit_verdict};
+use vap_fit::FitFault;
+use vap_kinds::Kind;
+use vap_request::Request;
+use vap_set::PolicySet;
+use vap_slots::held_at;
+
+/// The verdict on a case.
+fn judge_case(
+    alloc: Global,
+    case: &Case<'_>,
+    matchers: &mut Matchers,
+) -> Result<Verdict, JudgeError>
+    requires { IsCase case.now }
+    ensures verdict { IfOk result (λ verdict. verdict
+        ≡ verdict_by case.now.set.now.objects.events (found_by (evaluations_of (case_of case.now)))) }
+    ensures pattern { IsErrOf result JudgeError.Pattern → OneMayMatch (evaluations_of (case_of case.now)) }
+{
+    let findings = Findings::new(alloc);
+    let mut judging = Judging {
+        alloc,
+        case,
+        matchers,
+        findings,
+    };
+    judging.policies(case.set.policies())?;
+    Ok(
+        judging
+            .findings
+            .verdict(alloc, case.set.objects().events())?,
+    )
+}
+
+/// The verdict if nothing is evaluated.
+fn exempt_verdict(alloc: Global, set: &PolicySet) -> Result<Verdict, AllocError>
+    ensures { IfOk result (λ verdict. verdict ≡ verdict_by set.now.objects.events (found_by [])) }
+{
+    Findings::new(alloc).verdict(alloc, set.objects().events())
+}
+
+/// The type of a request's objects: Opaque, if the kind is not known.
+fn type_at<'a>(kind: Option<&'a Kind>, opaque: &'a CelType) -> &'a CelType
+    requires { opaque.now ≡ type.Opaque }
+    ensures { result.now ≡ type_at (option_copied kind.entry) }
+{
+    match kind {
+        Some(kind) => match &kind.object_type {
+            Some(cel_type) => cel_type,
+            None => opaque,
+        },
+        None => opaque,
+    }
+}
+
+/// The verdict if the object is no value of its type.
+fn unfit(alloc: Global, set: &PolicySet, fault: FitFault) -> Result<Verdict, AllocError>
+    ensures { IfOk result (λ verdict. verdict ≡ unfit_verdict (fit_fault_text fault) set.now.objects.events) }
+{
+    let message = format!(in alloc; "{fault}")?;
+    unfit_verdict(alloc, message.as_str(), set.objects().events())
+}
+
+/// The verdict on a request of a kind, if it is known.
+fn judge_at(
+    alloc: Global,
+    set: &PolicySet,
+    request: &Request,
+    kind: Option<&Kind>,
+    matchers: &mut Matchers,
+) -> Result<Verdict, JudgeError>
+    requires { option_copied kind ≡ kind_at (kinds_of set.now) request.now.admission }
+    ensures verdict { IfOk result (λ verdict. verdict ≡ verdict_at set.now request.now.admission (option_copied kind.entry)) }
+    ensures pattern { IsErrOf result JudgeError.Pattern → KindMayMatch set.now request.now.admission (option_copied kind.entry) }
+{
+    let opaque = CelType::Opaque;
+    match held_at(alloc, set.objects(), type_at(kind, &opaque), request) {
+        Ok(Ok(held)) => match Case::new(alloc, set, request, kind, &held) {
+            Ok(case) => judge_case(alloc, &case, matchers),
+            Err(error) => Err(JudgeError::from(error)),
+        },
+        Ok(Err(fault)) => Ok(unfit(alloc, set, fault)?),
+        Err(error) => Err(JudgeError::from(error)),
+    }
+}
+
+/// The verdict of a set on a request, at the revision that is the number of the set's events. It is given up if memory runs out,
+/// or if a pattern that was built before is not built again: that only if a policy runs that gives `matches` a literal text. No
+/// policy that matches the request is passed over, and none charges more than its price for one param.
+#[tactic(auto, unfolding(crate::specs::Judging::verdict_of))]
+pub fn judge(
+    alloc: Global,
+    set: &PolicySet,
+    request: &Request,
+    matchers: &mut Matchers,
+) -> Result<Verdict, JudgeError>
+    ensures exact { IfOk result (λ verdict. verdict ≡ verdict_of set.now request.now) }
+    ensures none_passed_over { NoneIsPassedOver set.now request.now.admission }
+    ensures priced { ArePriced set.now (kind_at (kinds_of set.now) request.now.admission) }
+    ensures pattern { IsErrOf result JudgeError.Pattern → MayMatch set.now request.now.admission }
+{
+    let admission = request.admission();
+    if is_exempt(&admission.resource) {
+        return Ok(exempt_verdict(alloc, set)?);
+    }
+    let kind = kind_at(set.kinds(), admission);
+    judge_at(alloc, set, request, kind, matchers)
+}

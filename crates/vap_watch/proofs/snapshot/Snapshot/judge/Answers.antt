@@ -1,0 +1,8 @@
+use Rattle.std.proofs.Common.{subst}
+use Rattle.vap_watch.specs.Given.{MayMatch, PolicySet}
+use Rattle.vap_watch.proofs.snapshot.Snapshot.judge.Goals as goal
+
+-- at the set of the log
+pub returns-clause-pattern : goal.returns-clause-pattern
+returns-clause-pattern c = λ is.
+    subst (λ (set : PolicySet). MayMatch set c.args.request.now) c.set.ensures (c.judge.ensures.pattern is)
