@@ -22,7 +22,8 @@ as_it_is (Some (Err e)) = refl
 as_it_is (Some (Ok a)) = refl
 
 -- what a row makes of operands of its kinds
-of_one : (r : Row) (w : Want) → operands_of r ≡ operands.One w → (f : Of w → Option Made) × ((x : Option Outcome) → at_one r x ≡ one f (taken w x))
+of_one : (r : Row) (w : Want) → operands_of r ≡ operands.One w
+    → (f : Of w → Option Made) × ((x : Option Outcome) → at_one r x ≡ one f (taken w x))
 of_one (One u r) w e =
     let P : Want → Type 0 = λ v. (f : Of v → Option Made) × ((x : Option Outcome) → at_one (One u r) x ≡ one f (taken v x)) in
     let same : u ≡ w = cc in
@@ -33,8 +34,10 @@ of_two : (r : Row) (v w : Want) → operands_of r ≡ operands.Two v w
     → (f : Of v → Of w → Option Made) × ((x y : Option Outcome) → at_two r x y ≡ two f (taken v x) (taken w y))
 of_two (One u r) v w e = let no : ⊥ = cc in absurd no
 of_two (Two u z r) v w e =
-    let P : Want → Type 0 = λ a. (f : Of a → Of z → Option Made) × ((x y : Option Outcome) → at_two (Two u z r) x y ≡ two f (taken a x) (taken z y)) in
-    let Q : Want → Type 0 = λ b. (f : Of v → Of b → Option Made) × ((x y : Option Outcome) → at_two (Two u z r) x y ≡ two f (taken v x) (taken b y)) in
+    let P : Want → Type 0 = λ a. (f : Of a → Of z → Option Made)
+    × ((x y : Option Outcome) → at_two (Two u z r) x y ≡ two f (taken a x) (taken z y)) in
+    let Q : Want → Type 0 = λ b. (f : Of v → Of b → Option Made)
+    × ((x y : Option Outcome) → at_two (Two u z r) x y ≡ two f (taken v x) (taken b y)) in
     let left : u ≡ v = cc in
     let right : z ≡ w = cc in
     subst Q right (subst P left (λ a b. makes (r.answer a b) (r.charge a b), λ x y. refl))
@@ -51,7 +54,8 @@ passes f g None a e = let no : ⊥ = cc in absurd no
 passes f g (Some (Err x)) a e = let no : ⊥ = cc in absurd no
 passes f g (Some (Ok b)) a e = cc
 
-both_stop : {A B C D : Type 0} (f : C → D → Option Made) (g : A → C) (h : B → D) (p : Option (Result A CelError)) (q : Option (Result B CelError)) (m : Option Made)
+both_stop : {A B C D : Type 0} (f : C → D → Option Made) (g : A → C) (h : B → D) (p : Option (Result A CelError))
+    (q : Option (Result B CelError)) (m : Option Made)
     → both p q ≡ Err m → m ≡ counted (two f (seen_by g p) (seen_by h q))
 both_stop f g h None q m e = cc
 both_stop f g h (Some (Err x)) None m e = cc
@@ -61,7 +65,8 @@ both_stop f g h (Some (Ok a)) None m e = cc
 both_stop f g h (Some (Ok a)) (Some (Err y)) m e = cc
 both_stop f g h (Some (Ok a)) (Some (Ok b)) m e = let no : ⊥ = cc in absurd no
 
-both_pass : {A B C D : Type 0} (f : C → D → Option Made) (g : A → C) (h : B → D) (p : Option (Result A CelError)) (q : Option (Result B CelError)) (ab : A × B)
+both_pass : {A B C D : Type 0} (f : C → D → Option Made) (g : A → C) (h : B → D) (p : Option (Result A CelError))
+    (q : Option (Result B CelError)) (ab : A × B)
     → both p q ≡ Ok ab → two f (seen_by g p) (seen_by h q) ≡ f (g ab.0) (h ab.1)
 both_pass f g h None q ab e = let no : ⊥ = cc in absurd no
 both_pass f g h (Some (Err x)) None ab e = let no : ⊥ = cc in absurd no

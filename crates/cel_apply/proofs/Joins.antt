@@ -1,5 +1,6 @@
 -- What texts in a list weigh, and what their row makes of them.
-use Rattle.std.proofs.Common.{◌≡◌, ℕ, ◌+◌, ◌-◌, ◌*◌, ◌^◌, min, List, [], ◌∷◌, length, Option, Some, None, Ok, refl, sym, ap, ◌∙◌, arith, inl, inr}
+use Rattle.std.proofs.Common.{◌≡◌, ℕ, ◌+◌, ◌-◌, ◌*◌, ◌^◌, min, List, [], ◌∷◌, length, Option, Some, None, Ok, refl, sym, ap, ◌∙◌, arith}
+use Rattle.std.proofs.Common.{inl, inr}
 use Rattle.std.proofs.lemmas.List.Sums.{sum_by-cons}
 use Rattle.std.specs.List.{join_by, sum_by}
 use Rattle.std.specs.Option.{option_map, option_and_then}
@@ -15,7 +16,8 @@ use Rattle.cel_apply.proofs.Folds.{option_known, out_list, out_text}
 use Rattle.cel_operators.specs.Wants.{taken, taken_at}
 use Rattle.cel_operators.specs.declared.operands.Want.TheVariants.{Texts, Characters}
 
-weight_at_text : (p : Value-F Value) (text : List ℕ) → text_at p ≡ Some text → weight_step (map-Value Value ℕ weight_of p) ≡ text_weight_of text
+weight_at_text : (p : Value-F Value) (text : List ℕ) → text_at p ≡ Some text
+    → weight_step (map-Value Value ℕ weight_of p) ≡ text_weight_of text
 weight_at_text (Value-F.Text bs) text e = let same : bs ≡ text = cc in ap text_weight_of same
 weight_at_text Value-F.Null text e = absurd (cc)
 weight_at_text (Value-F.Bool b) text e = absurd (cc)
@@ -50,7 +52,8 @@ texts_weigh (v ∷ vs) ts e = elim (option_known (text_of v)) [
 
 pub join_made : (vs : List Value) (t : List ℕ)
     → makes (option_map (λ b. Ok (value.Text b)) (joined t vs)) (min (2 + items_weight_of vs + length vs * (1 + tenths_in t)) (2 ^ 64 - 1))
-    ≡ counted (two (λ ts u. makes (answers_text (join_by (λ s. s) u ts)) (1 + (1 + sum_by text_weight_of ts) + length ts * (1 + tenths_in u)))
+    ≡ counted (two (λ ts u. makes (answers_text (join_by (λ s. s) u ts))
+    (1 + (1 + sum_by text_weight_of ts) + length ts * (1 + tenths_in u)))
     (option_map Ok (texts_of vs)) (Some (Ok t)))
 join_made vs t = elim (option_known (texts_of vs)) [
   | inl h ↦ rw h refl
@@ -61,11 +64,14 @@ join_made vs t = elim (option_known (texts_of vs)) [
 
 pub join_at : (vs : List Value) (t : List ℕ)
     → makes (option_map (λ b. Ok (value.Text b)) (joined t vs)) (min (2 + items_weight_of vs + length vs * (1 + tenths_in t)) (2 ^ 64 - 1))
-    ≡ counted (two (λ ts u. makes (answers_text (join_by (λ s. s) u ts)) (1 + (1 + sum_by text_weight_of ts) + length ts * (1 + tenths_in u)))
+    ≡ counted (two (λ ts u. makes (answers_text (join_by (λ s. s) u ts))
+    (1 + (1 + sum_by text_weight_of ts) + length ts * (1 + tenths_in u)))
     (taken Texts (Some (Ok (value.List vs)))) (taken Characters (Some (Ok (value.Text t)))))
 join_at vs t =
     join_made vs t
-    ∙ ap (λ p. counted (two (λ ts u. makes (answers_text (join_by (λ s. s) u ts)) (1 + (1 + sum_by text_weight_of ts) + length ts * (1 + tenths_in u)))
+    ∙ ap (λ p. counted (two (λ ts u. makes (answers_text (join_by (λ s. s) u ts))
+    (1 + (1 + sum_by text_weight_of ts) + length ts * (1 + tenths_in u)))
     (taken_at Texts (value.List vs) p) (Some (Ok t)))) (sym (out_list vs))
-    ∙ ap (λ p. counted (two (λ ts u. makes (answers_text (join_by (λ s. s) u ts)) (1 + (1 + sum_by text_weight_of ts) + length ts * (1 + tenths_in u)))
+    ∙ ap (λ p. counted (two (λ ts u. makes (answers_text (join_by (λ s. s) u ts))
+    (1 + (1 + sum_by text_weight_of ts) + length ts * (1 + tenths_in u)))
     (taken Texts (Some (Ok (value.List vs)))) (taken_at Characters (value.Text t) p))) (sym (out_text t))

@@ -344,7 +344,8 @@ called_on place f s xs names = after_each xs names (refused place NoOverload)
 -- a literal text: its own length is the most of its type
 abbrev pub text_literal : ℕ → List ℕ → Checked
 text_literal place bytes =
-    if nat_lt (code_points bytes) (2 ^ 32) then Ok (node (type.Text (code_points bytes)) (form.Literal (value.Text bytes))) else refused place TooLarge
+    if nat_lt (code_points bytes) (2 ^ 32) then Ok (node (type.Text (code_points bytes)) (form.Literal (value.Text bytes))) else refused
+    place TooLarge
 
 -- the number of the first of these, slots or open loops, that has the name, and its type, where they are numbered from i on
 abbrev pub slot_from : ℕ → List ℕ → List (Keyed CelType) → Option (ℕ × CelType)
@@ -477,7 +478,8 @@ checked_at place (syntax.Binary op a b) names =
     after (a (beside op a b names)) (λ s. after (b (beside op a b names)) (λ t. over_two place (binary_overloads op) s t))
 checked_at place (syntax.And a b) names = after (a names) (λ s. after (b names) (λ t. logic place form.And s t))
 checked_at place (syntax.Or a b) names = after (a names) (λ s. after (b names) (λ t. logic place form.Or s t))
-checked_at place (syntax.Conditional c a b) names = after (c names) (λ r. after (a names) (λ s. after (b names) (λ t. conditional place r s t)))
+checked_at place (syntax.Conditional c a b) names =
+    after (c names) (λ r. after (a names) (λ s. after (b names) (λ t. conditional place r s t)))
 
 -- where an expression stands
 abbrev pub place_of : Expr → ℕ

@@ -88,7 +88,8 @@ module _ (code : Code) where
     sized e from to (either a b m n f h i k j next) =
         let x = sized a from m h in let y = sized b (m + 1) n k in rw (laid e _ f.is) (omega (arith, x, y, next))
     sized e from to (conditional c a b m n f h i k j l) =
-        let x = sized c from m h in let y = sized a (m + 1) n k in let z = sized b (n + 1) to l in rw (laid e _ f.is) (omega (arith, x, y, z))
+        let x = sized c from m h in let y = sized a (m + 1) n k in let z = sized b (n + 1) to l
+        in rw (laid e _ f.is) (omega (arith, x, y, z))
     sized e from to (items xs m f hs i after) = let x = sized_each xs from m hs in rw (laid e _ f.is) (omega (arith, x, after))
     sized e from to (entries es m f hs i after) =
         let x = sized_each (by_turns es) from m hs in rw (laid_map e es f.is) (omega (arith, x, after))
@@ -215,7 +216,8 @@ module _ (code : Code) where
         let v = sized b m n k in
         rw (laid e _ f.is) (elim (cases_lt s m) [
           | inl less ↦
-              inl (target_left _ _ x (all_go (layout_of a) at m below x (omega arith) (go a from m h at same below s le less instr has x j)))
+              inl (target_left _ _ x (all_go (layout_of a) at m below x (omega arith)
+              (go a from m h at same below s le less instr has x j)))
           | inr more ↦ elim (cases_lt s n) [
             | inl less ↦
                 inl
@@ -229,7 +231,8 @@ module _ (code : Code) where
         let v = sized b (m + 1) n k in
         rw (laid e _ f.is) (elim (cases_lt s m) [
           | inl less ↦
-              inl (target_left _ _ x (all_go (layout_of a) at m below x (omega arith) (go a from m h at same below s le less instr has x j)))
+              inl (target_left _ _ x (all_go (layout_of a) at m below x (omega arith)
+              (go a from m h at same below s le less instr has x j)))
           | inr more ↦ elim (cases_lt s (m + 1)) [
             | inl less ↦ inr (sym (here s m instr (AndTest to) has i (omega arith) x j), refl)
             | inr right ↦ elim (cases_lt s n) [
@@ -246,7 +249,8 @@ module _ (code : Code) where
         let v = sized b (m + 1) n k in
         rw (laid e _ f.is) (elim (cases_lt s m) [
           | inl less ↦
-              inl (target_left _ _ x (all_go (layout_of a) at m below x (omega arith) (go a from m h at same below s le less instr has x j)))
+              inl (target_left _ _ x (all_go (layout_of a) at m below x (omega arith)
+              (go a from m h at same below s le less instr has x j)))
           | inr more ↦ elim (cases_lt s (m + 1)) [
             | inl less ↦ inr (sym (here s m instr (OrTest to) has i (omega arith) x j), refl)
             | inr right ↦ elim (cases_lt s n) [
@@ -315,7 +319,8 @@ module _ (code : Code) where
         let v = sized b (m + 2) n k in
         rw (laid e _ f.is) (elim (cases_lt s m) [
           | inl less ↦
-              inl (target_left _ _ x (all_go (layout_of a) at m below x (omega arith) (go a from m h at same below s le less instr' has x j)))
+              inl (target_left _ _ x (all_go (layout_of a) at m below x (omega arith)
+              (go a from m h at same below s le less instr' has x j)))
           | inr more ↦ elim (cases_lt s (m + 1)) [
             | inl less ↦ inr (sym (here s m instr' (instr.Loop l to) has i.begins (omega arith) x j), refl)
             | inr behind ↦ elim (cases_lt s (m + 2)) [
@@ -417,7 +422,8 @@ module _ (code : Code) where
         let u = sized a from m h in
         let v = sized b m n k in
         let under = below ++ (layout_of a).type ∷ [] in
-        elim (target_cases (targets_from (layout_of a) at below) (targets_from (layout_of b) (at + (layout_of a).size) under) x (rw (laid e _ f.is) at t)) [
+        elim (target_cases (targets_from (layout_of a) at below) (targets_from (layout_of b) (at + (layout_of a).size) under) x
+        (rw (laid e _ f.is) at t)) [
           | inl p ↦ all_come (layout_of a) at m below x (omega arith) (come a from m h at same below x) (come_end a from m h) p
           | inr p ↦
               all_come (layout_of b) _ n under x (omega arith) (come b m n k (at + (layout_of a).size) (omega arith) under x)
@@ -427,7 +433,8 @@ module _ (code : Code) where
         let u = sized a from m h in
         let v = sized b (m + 1) n k in
         let under = below ++ (layout_of a).type ∷ [] in
-        elim (target_cases (targets_from (layout_of a) at below) (targets_from (layout_of b) (at + (layout_of a).size + 1) under) x (rw (laid e _ f.is) at t)) [
+        elim (target_cases (targets_from (layout_of a) at below) (targets_from (layout_of b) (at + (layout_of a).size + 1) under) x
+        (rw (laid e _ f.is) at t)) [
           | inl p ↦ all_come (layout_of a) at m below x (omega arith) (come a from m h at same below x) (come_end a from m h) p
           | inr p ↦
               all_come (layout_of b) _ n under x (omega arith) (come b (m + 1) n k (at + (layout_of a).size + 1) (omega arith) under x)
@@ -437,7 +444,8 @@ module _ (code : Code) where
         let u = sized a from m h in
         let v = sized b (m + 1) n k in
         let under = below ++ (layout_of a).type ∷ [] in
-        elim (target_cases (targets_from (layout_of a) at below) (targets_from (layout_of b) (at + (layout_of a).size + 1) under) x (rw (laid e _ f.is) at t)) [
+        elim (target_cases (targets_from (layout_of a) at below) (targets_from (layout_of b) (at + (layout_of a).size + 1) under) x
+        (rw (laid e _ f.is) at t)) [
           | inl p ↦ all_come (layout_of a) at m below x (omega arith) (come a from m h at same below x) (come_end a from m h) p
           | inr p ↦
               all_come (layout_of b) _ n under x (omega arith) (come b (m + 1) n k (at + (layout_of a).size + 1) (omega arith) under x)
@@ -505,7 +513,8 @@ module _ (code : Code) where
     come_each xs from to (first_item a rest m is h hs) at same below x t =
         let u = sized a from m h in
         let under = below ++ (layout_of a).type ∷ [] in
-        elim (target_cases (targets_from (layout_of a) at below) (targets_of (layouts_of rest) (at + (layout_of a).size) under) x (rw is at t)) [
+        elim (target_cases (targets_from (layout_of a) at below) (targets_of (layouts_of rest) (at + (layout_of a).size) under) x
+        (rw is at t)) [
           | inl p ↦ all_come (layout_of a) at m below x (omega arith) (come a from m h at same below x) (come_end a from m h) p
           | inr p ↦ come_each rest m to hs (at + (layout_of a).size) (omega arith) under x p
         ]
@@ -533,7 +542,8 @@ targets_are_jumps image tree types is =
     record {
       increasing = rw (is.targets, is.whole) (rises_from _ 0 1 (layout.size + 1) (omega arith) rising);
       jumped = λ x. (
-        λ t. all_come code layout 0 layout.size [] x size (come code tree 0 layout.size is.stands 0 refl [] x) (come_end code tree 0 layout.size is.stands) (rw is.targets at t),
+        λ t. all_come code layout 0 layout.size [] x size (come code tree 0 layout.size is.stands 0 refl [] x)
+            (come_end code tree 0 layout.size is.stands) (rw is.targets at t),
         λ j. rw is.targets (goes x j),
       );
     }

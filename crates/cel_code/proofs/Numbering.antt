@@ -16,7 +16,8 @@ use Rattle.cel_code.proofs.Place.{contains_at, get_kept, get_last}
 -- the level that has a key
 at_key : ℕ × ℕ → Value-F Value
 at_key q =
-    if nat_eq q.0 0 then Value-F.Null else if nat_eq q.0 1 then Value-F.Bool (nat_eq q.1 1) else if nat_eq q.0 2 then Value-F.Int (pos q.1) else if nat_eq q.0 3 then Value-F.Int (negsuc (q.1 - 1)) else Value-F.Uint q.1
+    if nat_eq q.0 0 then Value-F.Null else if nat_eq q.0 1 then Value-F.Bool (nat_eq q.1 1) else if nat_eq q.0 2 then Value-F.Int (pos q.1)
+    else if nat_eq q.0 3 then Value-F.Int (negsuc (q.1 - 1)) else Value-F.Uint q.1
 
 less_one : (n : ℕ) → suc n - 1 ≡ n
 less_one n = omega arith

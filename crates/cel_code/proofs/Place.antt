@@ -100,7 +100,13 @@ module _ (old new : Code) where
 
   push_moved : (v : Value) (from to : ℕ) → Pushes old from to v → Same old new from to → Pushes new from to v
   push_moved v from to p s =
-      record { number = p.number; instr = has_moved _ from from to p.instr s (omega arith) (omega (arith, p.next)); constant = s.constant _ v p.constant; next = p.next }
+      record {
+        number = p.number;
+        instr = has_moved _ from from to p.instr s (omega arith) (omega (arith, p.next));
+        constant =
+            s.constant _ v p.constant;
+        next = p.next;
+      }
 
   text_moved : (op : TextOperator) (text : List ℕ) (at from to : ℕ) → HasText old at op text → Same old new from to → from ≤ at → at < to
       → HasText new at op text
@@ -204,7 +210,11 @@ keeps_on a b c k l =
 
 keeps_patched : (a b : Code) (m : ℕ) (i : Instr) → length a.instrs ≤ m → Keeps a b → Keeps a (patched b m i)
 keeps_patched a b m i le k =
-    record { grows = omega (arith, k.grows, length-set b.instrs m i); same = same_on a b (patched b m i) 0 _ k.same (narrow b _ 0 m 0 _ (same_before b m i) (omega arith) le) }
+    record {
+      grows = omega (arith, k.grows, length-set b.instrs m i);
+      same =
+          same_on a b (patched b m i) 0 _ k.same (narrow b _ 0 m 0 _ (same_before b m i) (omega arith) le);
+    }
 
 has_put : (c : Code) (i : Instr) → Has (with_instr c i) (length c.instrs) i
 has_put c i = record { is = get_last c.instrs i }
@@ -218,7 +228,11 @@ interned old new v w number same last added code =
 
 keeps_interned : (old new : Code) (v : Value) (k : ℕ) → Interns old new v k → Keeps old new
 keeps_interned old new v k n =
-    record { grows = omega (arith, ap length n.instrs); same = record { instr = λ i p q. ap (λ is. slice_get is i) n.instrs; constant = n.kept } }
+    record {
+      grows = omega (arith, ap length n.instrs);
+      same =
+          record { instr = λ i p q. ap (λ is. slice_get is i) n.instrs; constant = n.kept };
+    }
 
 pub emits_literal : (old c1 new : Code) (e : TypedTree) (v : Value) (k : ℕ) → (out-TypedTree e).form ≡ form.Literal v
     → Interns old c1 v k → new ≡ with_instr c1 (Const k) → Emits old new e
@@ -228,7 +242,11 @@ emits_literal old c1 new e v k is n put =
     let here : Has (with_instr c1 (Const k)) (length old.instrs) (Const k) =
     subst (λ is. Has (with_instr c1 (Const k)) (length is) (Const k)) n.instrs (has_put c1 (Const k)) in
     rw put
-    (record { stands = literal v (record { is = is }) (record { number = k; instr = here; constant = n.constant; next = grown }); keeps = keeps_on old c1 _ (keeps_interned old c1 v k n) (keeps_put c1 (Const k)) })
+    (record {
+      stands = literal v (record { is = is }) (record { number = k; instr = here; constant = n.constant; next = grown });
+      keeps =
+          keeps_on old c1 _ (keeps_interned old c1 v k n) (keeps_put c1 (Const k));
+    })
 
 pub emits_slot : (old new : Code) (e : TypedTree) (n : ℕ) → (out-TypedTree e).form ≡ form.Slot n
     → new ≡ with_instr old (Slot n) → Emits old new e
@@ -243,7 +261,12 @@ emits_unary old c1 new e op a a' k is same ea ek put =
     let i = Op (code_of op) in
     let ea : Emits old c1 a = rw (sym same) ea in
     rw (put, ek)
-    (record { stands = unary op a (length c1.instrs) (record { is = is }) (moved c1 (with_instr c1 i) a _ _ ea.stands (narrow c1 _ 0 _ _ _ (same_put c1 i) (omega arith) (omega arith))) (has_put c1 i) (length_put c1 i); keeps = keeps_on old c1 _ ea.keeps (keeps_put c1 i) })
+    (record {
+      stands = unary op a (length c1.instrs) (record { is = is })
+          (moved c1 (with_instr c1 i) a _ _ ea.stands (narrow c1 _ 0 _ _ _ (same_put c1 i) (omega arith) (omega arith))) (has_put c1 i)
+          (length_put c1 i);
+      keeps = keeps_on old c1 _ ea.keeps (keeps_put c1 i);
+    })
 
 pub emits_binary : (old c1 c2 new : Code) (e : TypedTree) (op : Operator) (a b a' b' : TypedTree) (k : ℕ)
     → (out-TypedTree e).form ≡ form.Binary op a b → a' ≡ a → b' ≡ b → Emits old c1 a' → Emits c1 c2 b' → k ≡ code_of op
@@ -256,7 +279,12 @@ emits_binary old c1 c2 new e op a b a' b' k is sa sb ea eb ek put =
     let s1 : Same c1 (with_instr c2 i) 0 (length c1.instrs) =
     same_on c1 c2 _ 0 _ eb.keeps.same (narrow c2 _ 0 _ 0 _ p (omega arith) eb.keeps.grows) in
     rw (put, ek)
-    (record { stands = binary op a b (length c1.instrs) (length c2.instrs) (record { is = is }) (moved c1 (with_instr c2 i) a _ _ ea.stands (narrow c1 _ 0 _ _ _ s1 (omega arith) (omega arith))) (moved c2 (with_instr c2 i) b _ _ eb.stands (narrow c2 _ 0 _ _ _ p (omega arith) (omega arith))) (has_put c2 i) (length_put c2 i); keeps = keeps_on old c1 _ ea.keeps (keeps_on c1 c2 _ eb.keeps (keeps_put c2 i)) })
+    (record {
+      stands = binary op a b (length c1.instrs) (length c2.instrs) (record { is = is })
+          (moved c1 (with_instr c2 i) a _ _ ea.stands (narrow c1 _ 0 _ _ _ s1 (omega arith) (omega arith)))
+          (moved c2 (with_instr c2 i) b _ _ eb.stands (narrow c2 _ 0 _ _ _ p (omega arith) (omega arith))) (has_put c2 i) (length_put c2 i);
+      keeps = keeps_on old c1 _ ea.keeps (keeps_on c1 c2 _ eb.keeps (keeps_put c2 i));
+    })
 
 pub emits_none : (old new : Code) → new ≡ old → EmitsEach old new []
 emits_none old new same =
@@ -359,8 +387,20 @@ two_sides old c1 c3 a b j last ea eb =
     let within : m < length c4.instrs = omega (arith, l2, l4, g) in
     let here : Has new m (j (length new.instrs)) = rw l5 (record { is = get_set c4.instrs m (j to) within }) in
     let there : Has new n last =
-    has_moved c4 new last n (m + 1) (n + 1) (has_put c3 last) (same_after c4 m (n + 1) (j to)) (omega (arith, l2, g)) (omega arith) in
-    (record { m = m; n = n; left = moved c1 new a _ _ ea.stands (narrow c1 new 0 m _ _ s1 (omega arith) (omega arith)); test = here; right = moved c3 new b (m + 1) n sb s3; join = there; next = l5 ∙ l4 }, keeps_patched old c4 m (j to) ea.keeps.grows (keeps_on old c1 c4 ea.keeps (keeps_on c1 c2 c4 (keeps_put c1 (j 0)) (keeps_on c2 c3 c4 eb.keeps (keeps_put c3 last)))))
+    has_moved c4 new last n (m + 1) (n + 1) (has_put c3 last) (same_after c4 m (n + 1) (j to)) (omega (arith, l2, g)) (omega arith) in (
+      record {
+        m = m;
+        n = n;
+        left = moved c1 new a _ _ ea.stands (narrow c1 new 0 m _ _ s1 (omega arith) (omega arith));
+        test =
+            here;
+        right = moved c3 new b (m + 1) n sb s3;
+        join = there;
+        next = l5 ∙ l4;
+      },
+      keeps_patched old c4 m (j to) ea.keeps.grows
+          (keeps_on old c1 c4 ea.keeps (keeps_on c1 c2 c4 (keeps_put c1 (j 0)) (keeps_on c2 c3 c4 eb.keeps (keeps_put c3 last)))),
+    )
 
 pub emits_both : (old c1 c2 c3 c4 new : Code) (e a b a' b' : TypedTree) (m to : ℕ) → (out-TypedTree e).form ≡ form.And a b
     → a' ≡ a → b' ≡ b → Emits old c1 a' → m ≡ length c1.instrs → c2 ≡ with_instr c1 (AndTest 0) → Emits c2 c3 b'
@@ -439,8 +479,20 @@ three_parts old c1 c3 c5 c a b ec ea eb =
     let sb' : Stands new b (n + 1) (length new.instrs) = rw l7 (moved c5 new b (n + 1) to sb s5) in
     let k5 =
     keeps_on old c1 c5 ec.keeps
-    (keeps_on c1 c2 c5 (keeps_put c1 (Cond 0 0)) (keeps_on c2 c3 c5 ea.keeps (keeps_on c3 c4 c5 (keeps_put c3 (Jump 0)) eb.keeps))) in
-    (record { m = m; n = n; condition = moved c1 new c _ _ ec.stands (narrow c1 new 0 m _ _ s1 (omega arith) (omega arith)); test = hm; yes = moved c3 new a (m + 1) n sa s3; jump = hn; no_branch = sb' }, keeps_patched old c6 n j (omega (arith, ec.keeps.grows, l2, ga)) (keeps_patched old c5 m i ec.keeps.grows k5))
+    (keeps_on c1 c2 c5 (keeps_put c1 (Cond 0 0)) (keeps_on c2 c3 c5 ea.keeps (keeps_on c3 c4 c5 (keeps_put c3 (Jump 0)) eb.keeps))) in (
+      record {
+        m = m;
+        n = n;
+        condition = moved c1 new c _ _ ec.stands (narrow c1 new 0 m _ _ s1 (omega arith) (omega arith));
+        test =
+            hm;
+        yes = moved c3 new a (m + 1) n sa s3;
+        jump = hn;
+        no_branch = sb';
+      },
+      keeps_patched old c6 n j
+          (omega (arith, ec.keeps.grows, l2, ga)) (keeps_patched old c5 m i ec.keeps.grows k5),
+    )
 
 pub emits_conditional : (old c1 c2 c3 c4 c4' c5 c6 new : Code) (e c a b : TypedTree) (m n to : ℕ)
     → (out-TypedTree e).form ≡ form.Conditional c a b → Emits old c1 c → m ≡ length c1.instrs → c2 ≡ with_instr c1 (Cond 0 0)
@@ -583,4 +635,9 @@ pub placed : (empty new all : Code) (e : TypedTree) (count : ℕ) → empty.inst
 placed empty new all e count e0 em e1 size =
     let s : Stands new e 0 (length new.instrs) = subst (λ is. Stands new e (length is) (length new.instrs)) e0 em.stands in
     rw (e1, sym size)
-    (record { stands = moved new (with_instr new End) e 0 (length new.instrs) s (same_put new End); ends = has_put new End; whole = length_put new End })
+    (record {
+      stands = moved new (with_instr new End) e 0 (length new.instrs) s (same_put new End);
+      ends = has_put new End;
+      whole =
+          length_put new End;
+    })

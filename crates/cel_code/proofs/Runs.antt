@@ -136,7 +136,8 @@ module _ (image : Image) (slots : List Outcome) where
   code = code_in image
 
   -- one stretch after another
-  pub follows_on : (s m t : State) (c d a j k b : ℕ) → Gets image slots s m c j → Gets image slots m t d k → a ≡ c + d → b ≡ j + k → Gets image slots s t a b
+  pub follows_on : (s m t : State) (c d a j k b : ℕ) → Gets image slots s m c j → Gets image slots m t d k → a ≡ c + d → b ≡ j + k
+      → Gets image slots s t a b
   follows_on s m t c d a j k b (Stays e f g) r ea eb =
       let x : a ≡ d = omega arith in
       let y : b ≡ k = omega arith in
@@ -178,15 +179,18 @@ module _ (image : Image) (slots : List Outcome) where
     abbrev Gives : ℕ → List Outcome → ℕ → Option Outcome → ℕ → Type 0
     Gives from stack to o cost = GivesFrom frames (on from stack frames) stack to o cost
 
-    at_instr : (at : ℕ) (i : Instr) (stack : List Outcome) → Has code at i → step image slots (on at stack frames) ≡ act (inputs_of image slots) i at stack frames
+    at_instr : (at : ℕ) (i : Instr) (stack : List Outcome) → Has code at i
+        → step image slots (on at stack frames) ≡ act (inputs_of image slots) i at stack frames
     at_instr = acts frames
 
-    push_runs : (v : Value) (from to : ℕ) (stack : List Outcome) → Pushes code from to v → Leads (on from stack frames) (on to (Ok v ∷ stack) frames) 0
+    push_runs : (v : Value) (from to : ℕ) (stack : List Outcome) → Pushes code from to v
+        → Leads (on from stack frames) (on to (Ok v ∷ stack) frames) 0
     push_runs v from to stack p =
         rw p.next (one_step _ _ 0 (at_instr from (Const p.number) stack p.instr ∙ ap (λ o. push (constant o) from stack frames) p.constant))
 
     -- what a slot holds
-    slot_by : (n from : ℕ) (stack : List Outcome) (o : Option Outcome) → step image slots (on from stack frames) ≡ read_slot o from stack frames → Gives from stack (from + 1) o 1
+    slot_by : (n from : ℕ) (stack : List Outcome) (o : Option Outcome)
+        → step image slots (on from stack frames) ≡ read_slot o from stack frames → Gives from stack (from + 1) o 1
     slot_by n from stack None e = tt
     slot_by n from stack (Some x) e = one_step _ _ 1 e
 
@@ -194,11 +198,14 @@ module _ (image : Image) (slots : List Outcome) where
     slot_runs n from stack h = slot_by n from stack (slice_get slots n) (at_instr from (Slot n) stack h)
 
     -- an operator's instruction
-    made_runs : (o : Option Made) (from m : ℕ) (stack s : List Outcome) (c : ℕ) → Leads (on from stack frames) (on m s frames) c → step image slots (on m s frames) ≡ made o m stack frames → Gives from stack (m + 1) (outcome_made o) (c + charge_made o)
+    made_runs : (o : Option Made) (from m : ℕ) (stack s : List Outcome) (c : ℕ) → Leads (on from stack frames) (on m s frames) c
+        → step image slots (on m s frames) ≡ made o m stack frames → Gives from stack (m + 1) (outcome_made o) (c + charge_made o)
     made_runs None from m stack s c l e = tt
     made_runs (Some d) from m stack s c l e = leads_on _ _ _ c d.charge l (one_step _ _ _ e)
 
-    unary_runs : (r : Row) (o : Option Outcome) (from m : ℕ) (stack : List Outcome) (c : ℕ) → ((s : List Outcome) → step image slots (on m s frames) ≡ operate r m s frames) → Gives from stack m o c → Gives from stack (m + 1) (outcome_made (at_one r o)) (c + charge_made (at_one r o))
+    unary_runs : (r : Row) (o : Option Outcome) (from m : ℕ) (stack : List Outcome) (c : ℕ)
+        → ((s : List Outcome) → step image slots (on m s frames) ≡ operate r m s frames) → Gives from stack m o c
+        → Gives from stack (m + 1) (outcome_made (at_one r o)) (c + charge_made (at_one r o))
     unary_runs (One w r) None from m stack c st l = tt
     unary_runs (One w r) (Some x) from m stack c st l = made_runs (at_one (One w r) (Some x)) from m stack (x ∷ stack) c l (st (x ∷ stack))
     unary_runs (Two v w r) o from m stack c st l = tt
@@ -209,92 +216,136 @@ module _ (image : Image) (slots : List Outcome) where
     two_none f (Some (Err e)) = refl
     two_none f (Some (Ok a)) = refl
 
-    binary_runs : (r : Row) (oa ob : Option Outcome) (from m n : ℕ) (stack : List Outcome) (c d : ℕ) → ((s : List Outcome) → step image slots (on n s frames) ≡ operate r n s frames) → Gives from stack m oa c → ((s : List Outcome) → Gives m s n ob d) → Gives from stack (n + 1) (outcome_made (at_two r oa ob)) (c + d + charge_made (at_two r oa ob))
+    binary_runs : (r : Row) (oa ob : Option Outcome) (from m n : ℕ) (stack : List Outcome) (c d : ℕ)
+        → ((s : List Outcome) → step image slots (on n s frames) ≡ operate r n s frames) → Gives from stack m oa c
+        → ((s : List Outcome) → Gives m s n ob d)
+        → Gives from stack (n + 1) (outcome_made (at_two r oa ob)) (c + d + charge_made (at_two r oa ob))
     binary_runs (One w r) oa ob from m n stack c d st la lb = tt
     binary_runs (Two v w r) None ob from m n stack c d st la lb = tt
-    binary_runs (Two v w r) (Some x) None from m n stack c d st la lb = rw (two_none (λ a b. makes (r.answer a b) (r.charge a b)) (taken v (Some x))) tt
+    binary_runs (Two v w r) (Some x) None from m n stack c d st la lb =
+        rw (two_none (λ a b. makes (r.answer a b) (r.charge a b)) (taken v (Some x))) tt
     binary_runs (Two v w r) (Some x) (Some y) from m n stack c d st la lb =
-        made_runs (at_two (Two v w r) (Some x) (Some y)) from n stack (y ∷ x ∷ stack) (c + d) (leads_on _ _ _ c d la (lb (x ∷ stack))) (st (y ∷ x ∷ stack))
+        made_runs (at_two (Two v w r) (Some x) (Some y)) from n stack (y ∷ x ∷ stack) (c + d) (leads_on _ _ _ c d la (lb (x ∷ stack)))
+        (st (y ∷ x ∷ stack))
 
     -- the right side, and the instruction that joins the two
-    join_runs : (f : Side → Side → Outcome) (sx : Side) (o : Option Side) (from n : ℕ) (stack s : List Outcome) (c : ℕ) → Leads (on from stack frames) (on n s frames) c → step image slots (on n s frames) ≡ joined (join f (Some sx) o) n stack frames → Gives from stack (n + 1) (both_sides f sx o) c
+    join_runs : (f : Side → Side → Outcome) (sx : Side) (o : Option Side) (from n : ℕ) (stack s : List Outcome) (c : ℕ)
+        → Leads (on from stack frames) (on n s frames) c → step image slots (on n s frames) ≡ joined (join f (Some sx) o) n stack frames
+        → Gives from stack (n + 1) (both_sides f sx o) c
     join_runs f sx None from n stack s c l e = tt
     join_runs f sx (Some sy) from n stack s c l e =
         costs _ _ (c + 0) c (omega arith) (leads_on _ _ _ c 0 l (one_step _ _ _ e))
 
-    right_runs : (f : Side → Side → Outcome) (x : Outcome) (sx : Side) (ob : Option Outcome) (from m n : ℕ) (stack : List Outcome) (c d : ℕ) → Leads (on from stack frames) (on m (x ∷ stack) frames) c → ((s : List Outcome) → Gives m s n ob d) → ((y : Outcome) → step image slots (on n (y ∷ x ∷ stack) frames) ≡ joined (join f (Some sx) (side_of (Some y))) n stack frames) → Gives from stack (n + 1) (both_sides f sx (side_of ob)) (c + d)
+    right_runs : (f : Side → Side → Outcome) (x : Outcome) (sx : Side) (ob : Option Outcome) (from m n : ℕ) (stack : List Outcome)
+        (c d : ℕ) → Leads (on from stack frames) (on m (x ∷ stack) frames) c → ((s : List Outcome) → Gives m s n ob d)
+        → ((y : Outcome) → step image slots (on n (y ∷ x ∷ stack) frames) ≡ joined (join f (Some sx) (side_of (Some y))) n stack frames)
+        → Gives from stack (n + 1) (both_sides f sx (side_of ob)) (c + d)
     right_runs f x sx None from m n stack c d la lb st = tt
     right_runs f x sx (Some y) from m n stack c d la lb st =
         join_runs f sx (side_of (Some y)) from n stack (y ∷ x ∷ stack) (c + d) (leads_on _ _ _ c d la (lb (x ∷ stack))) (st y)
 
     -- the truth value that an outcome is, and the state with it
-    leads_as : (x : Outcome) (b : Bool) (from m : ℕ) (stack : List Outcome) (c : ℕ) → side_of (Some x) ≡ Some (Ok b) → Leads (on from stack frames) (on m (x ∷ stack) frames) c → Leads (on from stack frames) (on m (outcome_of (Ok b) ∷ stack) frames) c
+    leads_as : (x : Outcome) (b : Bool) (from m : ℕ) (stack : List Outcome) (c : ℕ) → side_of (Some x) ≡ Some (Ok b)
+        → Leads (on from stack frames) (on m (x ∷ stack) frames) c
+        → Leads (on from stack frames) (on m (outcome_of (Ok b) ∷ stack) frames) c
     leads_as x b from m stack c e l = subst (λ y. Leads (on from stack frames) (on m (y ∷ stack) frames) c) (side_is x b e) l
 
     -- the instructions that look at a side
-    tests : (x : Outcome) (s : Side) (m n : ℕ) (stack : List Outcome) → side_of (Some x) ≡ Some s → Has code m (AndTest n) → step image slots (on m (x ∷ stack) frames) ≡ and_test (Some s) n m (x ∷ stack) frames
+    tests : (x : Outcome) (s : Side) (m n : ℕ) (stack : List Outcome) → side_of (Some x) ≡ Some s → Has code m (AndTest n)
+        → step image slots (on m (x ∷ stack) frames) ≡ and_test (Some s) n m (x ∷ stack) frames
     tests x s m n stack e h = at_instr m _ _ h ∙ ap (λ o. and_test o n m (x ∷ stack) frames) e
 
-    tests_or : (x : Outcome) (s : Side) (m n : ℕ) (stack : List Outcome) → side_of (Some x) ≡ Some s → Has code m (OrTest n) → step image slots (on m (x ∷ stack) frames) ≡ or_test (Some s) n m (x ∷ stack) frames
+    tests_or : (x : Outcome) (s : Side) (m n : ℕ) (stack : List Outcome) → side_of (Some x) ≡ Some s → Has code m (OrTest n)
+        → step image slots (on m (x ∷ stack) frames) ≡ or_test (Some s) n m (x ∷ stack) frames
     tests_or x s m n stack e h = at_instr m _ _ h ∙ ap (λ o. or_test o n m (x ∷ stack) frames) e
 
-    branches : (x : Outcome) (s : Side) (m n to : ℕ) (stack : List Outcome) → side_of (Some x) ≡ Some s → Has code m (Cond n to) → step image slots (on m (x ∷ stack) frames) ≡ branch (Some s) n to m stack frames
+    branches : (x : Outcome) (s : Side) (m n to : ℕ) (stack : List Outcome) → side_of (Some x) ≡ Some s → Has code m (Cond n to)
+        → step image slots (on m (x ∷ stack) frames) ≡ branch (Some s) n to m stack frames
     branches x s m n to stack e h = at_instr m _ _ h ∙ ap (λ o. branch o n to m stack frames) e
 
-    joins_and : (x : Outcome) (s : Side) (n : ℕ) (stack : List Outcome) → side_of (Some x) ≡ Some s → Has code n And → (y : Outcome) → step image slots (on n (y ∷ x ∷ stack) frames) ≡ joined (join and_of (Some s) (side_of (Some y))) n stack frames
+    joins_and : (x : Outcome) (s : Side) (n : ℕ) (stack : List Outcome) → side_of (Some x) ≡ Some s → Has code n And → (y : Outcome)
+        → step image slots (on n (y ∷ x ∷ stack) frames) ≡ joined (join and_of (Some s) (side_of (Some y))) n stack frames
     joins_and x s n stack e h y = at_instr n _ _ h ∙ ap (λ o. joined (join and_of o (side_of (Some y))) n stack frames) e
 
-    joins_or : (x : Outcome) (s : Side) (n : ℕ) (stack : List Outcome) → side_of (Some x) ≡ Some s → Has code n Or → (y : Outcome) → step image slots (on n (y ∷ x ∷ stack) frames) ≡ joined (join or_of (Some s) (side_of (Some y))) n stack frames
+    joins_or : (x : Outcome) (s : Side) (n : ℕ) (stack : List Outcome) → side_of (Some x) ≡ Some s → Has code n Or → (y : Outcome)
+        → step image slots (on n (y ∷ x ∷ stack) frames) ≡ joined (join or_of (Some s) (side_of (Some y))) n stack frames
     joins_or x s n stack e h y = at_instr n _ _ h ∙ ap (λ o. joined (join or_of o (side_of (Some y))) n stack frames) e
 
-    and_by : (x : Outcome) (o : Option Side) (ob : Option Outcome) (from m n : ℕ) (stack : List Outcome) (c d : ℕ) → side_of (Some x) ≡ o → Has code m (AndTest (n + 1)) → Has code n And → Leads (on from stack frames) (on m (x ∷ stack) frames) c → ((s : List Outcome) → Gives (m + 1) s n ob d) → Gives from stack (n + 1) (and_value o (side_of ob)) (c + 1 + unless_false o d)
+    and_by : (x : Outcome) (o : Option Side) (ob : Option Outcome) (from m n : ℕ) (stack : List Outcome) (c d : ℕ) → side_of (Some x) ≡ o
+        → Has code m (AndTest (n + 1)) → Has code n And → Leads (on from stack frames) (on m (x ∷ stack) frames) c
+        → ((s : List Outcome) → Gives (m + 1) s n ob d) → Gives from stack (n + 1) (and_value o (side_of ob)) (c + 1 + unless_false o d)
     and_by x None ob from m n stack c d e hm hn la lb = tt
     and_by x (Some (Ok false)) ob from m n stack c d e hm hn la lb =
-        costs _ _ (c + 1) _ (omega arith) (leads_on _ _ _ c 1 (leads_as x false from m stack c e la) (one_step _ _ 1 (tests (outcome_of (Ok false)) (Ok false) m (n + 1) stack (side_of_outcome (Ok false)) hm)))
+        costs _ _ (c + 1) _ (omega arith)
+        (leads_on _ _ _ c 1 (leads_as x false from m stack c e la)
+        (one_step _ _ 1 (tests (outcome_of (Ok false)) (Ok false) m (n + 1) stack (side_of_outcome (Ok false)) hm)))
     and_by x (Some (Ok true)) ob from m n stack c d e hm hn la lb =
-        right_runs and_of x (Ok true) ob from (m + 1) n stack (c + 1) d (leads_on _ _ _ c 1 la (one_step _ _ 1 (tests x (Ok true) m (n + 1) stack e hm))) lb (joins_and x (Ok true) n stack e hn)
+        right_runs and_of x (Ok true) ob from (m + 1) n stack (c + 1) d
+        (leads_on _ _ _ c 1 la (one_step _ _ 1 (tests x (Ok true) m (n + 1) stack e hm))) lb (joins_and x (Ok true) n stack e hn)
     and_by x (Some (Err f)) ob from m n stack c d e hm hn la lb =
-        right_runs and_of x (Err f) ob from (m + 1) n stack (c + 1) d (leads_on _ _ _ c 1 la (one_step _ _ 1 (tests x (Err f) m (n + 1) stack e hm))) lb (joins_and x (Err f) n stack e hn)
+        right_runs and_of x (Err f) ob from (m + 1) n stack (c + 1) d
+        (leads_on _ _ _ c 1 la (one_step _ _ 1 (tests x (Err f) m (n + 1) stack e hm))) lb (joins_and x (Err f) n stack e hn)
 
-    and_runs : (oa ob : Option Outcome) (from m n : ℕ) (stack : List Outcome) (c d : ℕ) → Has code m (AndTest (n + 1)) → Has code n And → Gives from stack m oa c → ((s : List Outcome) → Gives (m + 1) s n ob d) → Gives from stack (n + 1) (and_value (side_of oa) (side_of ob)) (c + 1 + unless_false (side_of oa) d)
+    and_runs : (oa ob : Option Outcome) (from m n : ℕ) (stack : List Outcome) (c d : ℕ) → Has code m (AndTest (n + 1)) → Has code n And
+        → Gives from stack m oa c → ((s : List Outcome) → Gives (m + 1) s n ob d)
+        → Gives from stack (n + 1) (and_value (side_of oa) (side_of ob)) (c + 1 + unless_false (side_of oa) d)
     and_runs None ob from m n stack c d hm hn la lb = tt
     and_runs (Some x) ob from m n stack c d hm hn la lb = and_by x (side_of (Some x)) ob from m n stack c d refl hm hn la lb
 
-    or_by : (x : Outcome) (o : Option Side) (ob : Option Outcome) (from m n : ℕ) (stack : List Outcome) (c d : ℕ) → side_of (Some x) ≡ o → Has code m (OrTest (n + 1)) → Has code n Or → Leads (on from stack frames) (on m (x ∷ stack) frames) c → ((s : List Outcome) → Gives (m + 1) s n ob d) → Gives from stack (n + 1) (or_value o (side_of ob)) (c + 1 + unless_true o d)
+    or_by : (x : Outcome) (o : Option Side) (ob : Option Outcome) (from m n : ℕ) (stack : List Outcome) (c d : ℕ) → side_of (Some x) ≡ o
+        → Has code m (OrTest (n + 1)) → Has code n Or → Leads (on from stack frames) (on m (x ∷ stack) frames) c
+        → ((s : List Outcome) → Gives (m + 1) s n ob d) → Gives from stack (n + 1) (or_value o (side_of ob)) (c + 1 + unless_true o d)
     or_by x None ob from m n stack c d e hm hn la lb = tt
     or_by x (Some (Ok true)) ob from m n stack c d e hm hn la lb =
-        costs _ _ (c + 1) _ (omega arith) (leads_on _ _ _ c 1 (leads_as x true from m stack c e la) (one_step _ _ 1 (tests_or (outcome_of (Ok true)) (Ok true) m (n + 1) stack (side_of_outcome (Ok true)) hm)))
+        costs _ _ (c + 1) _ (omega arith)
+        (leads_on _ _ _ c 1 (leads_as x true from m stack c e la)
+        (one_step _ _ 1 (tests_or (outcome_of (Ok true)) (Ok true) m (n + 1) stack (side_of_outcome (Ok true)) hm)))
     or_by x (Some (Ok false)) ob from m n stack c d e hm hn la lb =
-        right_runs or_of x (Ok false) ob from (m + 1) n stack (c + 1) d (leads_on _ _ _ c 1 la (one_step _ _ 1 (tests_or x (Ok false) m (n + 1) stack e hm))) lb (joins_or x (Ok false) n stack e hn)
+        right_runs or_of x (Ok false) ob from (m + 1) n stack (c + 1) d
+        (leads_on _ _ _ c 1 la (one_step _ _ 1 (tests_or x (Ok false) m (n + 1) stack e hm))) lb (joins_or x (Ok false) n stack e hn)
     or_by x (Some (Err f)) ob from m n stack c d e hm hn la lb =
-        right_runs or_of x (Err f) ob from (m + 1) n stack (c + 1) d (leads_on _ _ _ c 1 la (one_step _ _ 1 (tests_or x (Err f) m (n + 1) stack e hm))) lb (joins_or x (Err f) n stack e hn)
+        right_runs or_of x (Err f) ob from (m + 1) n stack (c + 1) d
+        (leads_on _ _ _ c 1 la (one_step _ _ 1 (tests_or x (Err f) m (n + 1) stack e hm))) lb (joins_or x (Err f) n stack e hn)
 
-    or_runs : (oa ob : Option Outcome) (from m n : ℕ) (stack : List Outcome) (c d : ℕ) → Has code m (OrTest (n + 1)) → Has code n Or → Gives from stack m oa c → ((s : List Outcome) → Gives (m + 1) s n ob d) → Gives from stack (n + 1) (or_value (side_of oa) (side_of ob)) (c + 1 + unless_true (side_of oa) d)
+    or_runs : (oa ob : Option Outcome) (from m n : ℕ) (stack : List Outcome) (c d : ℕ) → Has code m (OrTest (n + 1)) → Has code n Or
+        → Gives from stack m oa c → ((s : List Outcome) → Gives (m + 1) s n ob d)
+        → Gives from stack (n + 1) (or_value (side_of oa) (side_of ob)) (c + 1 + unless_true (side_of oa) d)
     or_runs None ob from m n stack c d hm hn la lb = tt
     or_runs (Some x) ob from m n stack c d hm hn la lb = or_by x (side_of (Some x)) ob from m n stack c d refl hm hn la lb
 
     -- a branch after the condition
-    branch_runs : (o : Option Outcome) (from m to : ℕ) (stack : List Outcome) (c d : ℕ) → Leads (on from stack frames) (on m stack frames) c → Gives m stack to o d → Gives from stack to o (c + d)
+    branch_runs : (o : Option Outcome) (from m to : ℕ) (stack : List Outcome) (c d : ℕ)
+        → Leads (on from stack frames) (on m stack frames) c → Gives m stack to o d → Gives from stack to o (c + d)
     branch_runs None from m to stack c d l r = tt
     branch_runs (Some x) from m to stack c d l r = leads_on _ _ _ c d l r
 
-    jump_runs : (o : Option Outcome) (from m to : ℕ) (stack : List Outcome) (c : ℕ) → Has code m (Jump to) → Gives from stack m o c → Gives from stack to o c
+    jump_runs : (o : Option Outcome) (from m to : ℕ) (stack : List Outcome) (c : ℕ) → Has code m (Jump to) → Gives from stack m o c
+        → Gives from stack to o c
     jump_runs None from m to stack c h l = tt
     jump_runs (Some x) from m to stack c h l =
         costs _ _ (c + 0) c (omega arith) (leads_on _ _ _ c 0 l (one_step _ _ 0 (at_instr m _ _ h)))
 
-    conditional_by : (x : Outcome) (o : Option Side) (oa ob : Option Outcome) (from m n to : ℕ) (stack : List Outcome) (c d e : ℕ) → side_of (Some x) ≡ o → Has code m (Cond (n + 1) to) → Has code n (Jump to) → Leads (on from stack frames) (on m (x ∷ stack) frames) c → Gives (m + 1) stack n oa d → Gives (n + 1) stack to ob e → Gives from stack to (conditional_value o oa ob) (c + 1 + of_branch o d e)
+    conditional_by : (x : Outcome) (o : Option Side) (oa ob : Option Outcome) (from m n to : ℕ) (stack : List Outcome) (c d e : ℕ)
+        → side_of (Some x) ≡ o → Has code m (Cond (n + 1) to) → Has code n (Jump to)
+        → Leads (on from stack frames) (on m (x ∷ stack) frames) c → Gives (m + 1) stack n oa d → Gives (n + 1) stack to ob e
+        → Gives from stack to (conditional_value o oa ob) (c + 1 + of_branch o d e)
     conditional_by x None oa ob from m n to stack c d e q hm hn lc la lb = tt
     conditional_by x (Some (Err f)) oa ob from m n to stack c d e q hm hn lc la lb =
         costs _ _ (c + 1) _ (omega arith) (leads_on _ _ _ c 1 lc (one_step _ _ 1 (branches x (Err f) m (n + 1) to stack q hm)))
     conditional_by x (Some (Ok true)) oa ob from m n to stack c d e q hm hn lc la lb =
-        branch_runs oa from (m + 1) to stack (c + 1) d (leads_on _ _ _ c 1 lc (one_step _ _ 1 (branches x (Ok true) m (n + 1) to stack q hm))) (jump_runs oa (m + 1) n to stack d hn la)
+        branch_runs oa from (m + 1) to stack (c + 1) d
+        (leads_on _ _ _ c 1 lc (one_step _ _ 1 (branches x (Ok true) m (n + 1) to stack q hm)))
+        (jump_runs oa (m + 1) n to stack d hn la)
     conditional_by x (Some (Ok false)) oa ob from m n to stack c d e q hm hn lc la lb =
-        branch_runs ob from (n + 1) to stack (c + 1) e (leads_on _ _ _ c 1 lc (one_step _ _ 1 (branches x (Ok false) m (n + 1) to stack q hm))) lb
+        branch_runs ob from (n + 1) to stack (c + 1) e
+        (leads_on _ _ _ c 1 lc (one_step _ _ 1 (branches x (Ok false) m (n + 1) to stack q hm))) lb
 
-    conditional_runs : (oc oa ob : Option Outcome) (from m n to : ℕ) (stack : List Outcome) (c d e : ℕ) → Has code m (Cond (n + 1) to) → Has code n (Jump to) → Gives from stack m oc c → Gives (m + 1) stack n oa d → Gives (n + 1) stack to ob e → Gives from stack to (conditional_value (side_of oc) oa ob) (c + 1 + of_branch (side_of oc) d e)
+    conditional_runs : (oc oa ob : Option Outcome) (from m n to : ℕ) (stack : List Outcome) (c d e : ℕ) → Has code m (Cond (n + 1) to)
+        → Has code n (Jump to) → Gives from stack m oc c → Gives (m + 1) stack n oa d → Gives (n + 1) stack to ob e
+        → Gives from stack to (conditional_value (side_of oc) oa ob) (c + 1 + of_branch (side_of oc) d e)
     conditional_runs None oa ob from m n to stack c d e hm hn lc la lb = tt
-    conditional_runs (Some x) oa ob from m n to stack c d e hm hn lc la lb = conditional_by x (side_of (Some x)) oa ob from m n to stack c d e refl hm hn lc la lb
+    conditional_runs (Some x) oa ob from m n to stack c d e hm hn lc la lb =
+        conditional_by x (side_of (Some x)) oa ob from m n to stack c d e refl hm hn lc la lb
 
     -- what the code of several does: their values or errors on the stack, the last one on top
     abbrev GivesEach : ℕ → List Outcome → ℕ → Option (List Outcome) → ℕ → Type 0
@@ -329,11 +380,13 @@ module _ (image : Image) (slots : List Outcome) where
         at_instr at (instr.WithText op h.number) s h.instr ∙ ap (λ o. operate_with op (constant_text o) at s frames) h.constant
         ∙ ap (λ v. operate_with op (literal_text_at v) at s frames) (out-Text text)
 
-    op_step : (op : Operator) (at : ℕ) (s : List Outcome) → Has code at (Op (code_of op)) → step image slots (on at s frames) ≡ operate (row op) at s frames
+    op_step : (op : Operator) (at : ℕ) (s : List Outcome) → Has code at (Op (code_of op))
+        → step image slots (on at s frames) ≡ operate (row op) at s frames
     op_step op at s h = at_instr at _ s h ∙ ap (λ o. operate_by o at s frames) (operator_of-code_of op)
 
     -- the same under other names of the end, the outcome and the cost
-    gives_as : (from n to : ℕ) (stack : List Outcome) (o p : Option Outcome) (c d : ℕ) → to ≡ n → p ≡ o → d ≡ c → Gives from stack n o c → Gives from stack to p d
+    gives_as : (from n to : ℕ) (stack : List Outcome) (o p : Option Outcome) (c d : ℕ) → to ≡ n → p ≡ o → d ≡ c → Gives from stack n o c
+        → Gives from stack to p d
     gives_as from n to stack o p c d e f g l = rw (e, f, g) l
 
     -- the turns of a loop, whose LOOP is at m and which leads to a place
@@ -579,13 +632,24 @@ module _ (image : Image) (slots : List Outcome) where
         (costs_at (map priced_of rest) env)
         (tree_runs a from m frames stack h) (λ s. each_runs rest m to frames s hs))
 
-  computes_from : (to : ℕ) (o : Option Outcome) (c : ℕ) → Has code to End → Gives [] 0 [] to o c → (x : Outcome) → o ≡ Some x → (steps : ℕ) × Run image slots x c steps
+  computes_from : (to : ℕ) (o : Option Outcome) (c : ℕ) → Has code to End → Gives [] 0 [] to o c → (x : Outcome) → o ≡ Some x
+      → (steps : ℕ) × Run image slots x c steps
   computes_from to None c h l x e = cc
   computes_from to (Some y) c h l x e =
-      let same : y ≡ x = cc in
-      (l.steps + 1, record { last = on to (y ∷ []) []; before = l.steps; gets = l.gets; ends = at_instr [] to End (y ∷ []) h ∙ ap Ends same; count = refl })
+      let same : y ≡ x = cc in (
+        l.steps + 1,
+        record {
+          last = on to (y ∷ []) [];
+          before = l.steps;
+          gets = l.gets;
+          ends = at_instr [] to End (y ∷ []) h
+              ∙ ap Ends same;
+          count = refl;
+        },
+      )
 
-  pub runs : (e : TypedTree) (to : ℕ) → Stands code e 0 to → Has code to End → (x : Outcome) → value_of e (outside slots) ≡ Some x → (steps : ℕ) × Run image slots x (cost_of e (outside slots)) steps
+  pub runs : (e : TypedTree) (to : ℕ) → Stands code e 0 to → Has code to End → (x : Outcome) → value_of e (outside slots) ≡ Some x
+      → (steps : ℕ) × Run image slots x (cost_of e (outside slots)) steps
   runs e to h end x q = computes_from to (value_of e (outside slots)) (cost_of e (outside slots)) end (tree_runs e 0 to [] [] h) x q
 
 pub computes : (image : Image) (e : TypedTree) (to : ℕ) → Stands (code_in image) e 0 to → Has (code_in image) to End → Computes image e

@@ -161,7 +161,8 @@ module _ (c d : Code) where
   one : (at : ℕ) (i j : Instr) → Has c at i → Has d at j → i ≡ j → Alike at (at + 1)
   one at i j p q same =
       record {
-        each = λ k le lt. let here : at ≡ k = omega arith in subst (λ n. slice_get c.instrs n ≡ slice_get d.instrs n) here (p.is ∙ (ap Some same ∙ sym q.is));
+        each = λ k le lt. let here : at ≡ k = omega arith
+            in subst (λ n. slice_get c.instrs n ≡ slice_get d.instrs n) here (p.is ∙ (ap Some same ∙ sym q.is));
       }
 
   on : (from m to : ℕ) → Alike from m → Alike m to → Alike from to
@@ -186,19 +187,31 @@ module _ (c d : Code) where
       twins e from to to' (literal v f h) s =
           let p = parts d e (form.Literal v) from to' f.is s in
           let there : slice_get d.constants h.number ≡ Some v = rw (sym same) h.constant in
-          record { ends = p.next ∙ sym h.next; alike = rw h.next (one from _ _ h.instr p.instr (ap Const (once v h.number p.number there p.constant))) }
+          record {
+            ends = p.next ∙ sym h.next;
+            alike =
+                rw h.next (one from _ _ h.instr p.instr (ap Const (once v h.number p.number there p.constant)));
+          }
       twins e from to to' (slot n f h next) s =
           let p = parts d e (form.Slot n) from to' f.is s in
           record { ends = p.1 ∙ sym next; alike = rw next (one from _ _ h p.0 refl) }
       twins e from to to' (unary op a m f h i next) s =
           let p = parts d e (form.Unary op a) from to' f.is s in
           let t = twins a from m p.0 h p.1 in
-          record { ends = omega (arith, next, p.3, t.ends); alike = rw next (on from m (m + 1) t.alike (one m _ _ i (rw t.ends at p.2) refl)) }
+          record {
+            ends = omega (arith, next, p.3, t.ends);
+            alike =
+                rw next (on from m (m + 1) t.alike (one m _ _ i (rw t.ends at p.2) refl));
+          }
       twins e from to to' (binary op a b m n f h k i next) s =
           let p = parts d e (form.Binary op a b) from to' f.is s in
           let t = twins a from m p.0 h p.2 in
           let u = twins b m n p.1 k (rw t.ends at p.3) in
-          record { ends = omega (arith, next, p.5, u.ends); alike = rw next (on from n (n + 1) (on from m n t.alike u.alike) (one n _ _ i (rw u.ends at p.4) refl)) }
+          record {
+            ends = omega (arith, next, p.5, u.ends);
+            alike =
+                rw next (on from n (n + 1) (on from m n t.alike u.alike) (one n _ _ i (rw u.ends at p.4) refl));
+          }
       twins e from to to' (both a b m n f h i k j next) s =
           let p = parts d e (form.And a b) from to' f.is s in
           let t = twins a from m p.0 h p.2 in
@@ -226,11 +239,19 @@ module _ (c d : Code) where
       twins e from to to' (items xs m f hs i after) s =
           let p = parts d e (form.ListOf xs) from to' f.is s in
           let t = each_twins xs from m p.0 hs p.1 in
-          record { ends = omega (arith, after, p.3, t.ends); alike = rw after (on from m (m + 1) t.alike (one m _ _ i (rw t.ends at p.2) refl)) }
+          record {
+            ends = omega (arith, after, p.3, t.ends);
+            alike =
+                rw after (on from m (m + 1) t.alike (one m _ _ i (rw t.ends at p.2) refl));
+          }
       twins e from to to' (entries es m f hs i after) s =
           let p = parts d e (form.MapOf es) from to' f.is s in
           let t = each_twins (by_turns es) from m p.0 hs p.1 in
-          record { ends = omega (arith, after, p.3, t.ends); alike = rw after (on from m (m + 1) t.alike (one m _ _ i (rw t.ends at p.2) refl)) }
+          record {
+            ends = omega (arith, after, p.3, t.ends);
+            alike =
+                rw after (on from m (m + 1) t.alike (one m _ _ i (rw t.ends at p.2) refl));
+          }
       twins e from to to' (with_text op a text m f h i after) s =
           let p = parts d e (form.WithText op a text) from to' f.is s in
           let t = twins a from m p.0 h p.1 in

@@ -16,7 +16,14 @@ use Rattle.cel_code.specs.Machine.{Frame, on, Goes, Ends, Stuck, step, frame}
 
 -- the machine: CONST, an operator without its operand, past the code
 negation : Image
-negation = record { slots = []; constants = value.Int (pos 1) ∷ []; targets = []; result = type.Int; code = Const 0 ∷ Op 1 ∷ Op 2 ∷ End ∷ [] }
+negation = record {
+  slots = [];
+  constants = value.Int (pos 1) ∷ [];
+  targets = [];
+  result = type.Int;
+  code =
+      Const 0 ∷ Op 1 ∷ Op 2 ∷ End ∷ [];
+}
 
 pushes_row : step negation [] (on 0 [] []) ≡ Goes 0 (on 1 (Ok (value.Int (pos 1)) ∷ []) [])
 unfolding negation
@@ -43,7 +50,14 @@ abbrev one_entry : value.Value
 one_entry = value.Map (record { key = 97 ∷ []; value = value.Int (pos 1) } ∷ [])
 
 fields : Image
-fields = record { slots = []; constants = value.Text (97 ∷ []) ∷ value.Int (pos 1) ∷ []; targets = []; result = type.Int; code = Map 1 ∷ WithText Select 0 ∷ WithText Has 1 ∷ [] }
+fields = record {
+  slots = [];
+  constants = value.Text (97 ∷ []) ∷ value.Int (pos 1) ∷ [];
+  targets = [];
+  result = type.Int;
+  code =
+      Map 1 ∷ WithText Select 0 ∷ WithText Has 1 ∷ [];
+}
 
 map_row : step fields [] (on 0 (Ok (value.Int (pos 1)) ∷ Ok (value.Text (97 ∷ [])) ∷ []) []) ≡ Goes 3 (on 1 (Ok one_entry ∷ []) [])
 unfolding fields value.out-Value denote.Hole.Carrier.out

@@ -53,7 +53,8 @@ module _ (a b c : Draft) where
       → Grows a c (m + n) (vs ++ ws) (ts ++ us)
   grows_on m n vs ws ts us g h = record {
     size = omega (arith, g.size, h.size);
-    constants = λ before once. subst (λ l. EachOnce l c.constants) (append_assoc before vs ws) (h.constants (before ++ vs) (g.constants before once));
+    constants = λ before once. subst (λ l. EachOnce l c.constants) (append_assoc before vs ws)
+        (h.constants (before ++ vs) (g.constants before once));
     targets = h.targets ∙ ap (λ l. l ++ us) g.targets ∙ append_assoc a.targets ts us;
     below = h.below ∙ g.below;
   }
@@ -144,11 +145,15 @@ writes_conditional old d1 d2 d3 d4 d5 d6 d7 new e c a b is wc gc wa ga gt wb gp 
     rw (sym there, sym jump.below) gt in
     let no_from : length d5.code ≡ length old.code + (layout_of c).size + 1 + (layout_of a).size + 1 = omega (arith, begins.size) in
     let no_below : d5.below ≡ old.below = begins.below ∙ jump.below in
-    let no_branch : Grows d5 d6 (layout_of b).size (layout_of b).literals ((layout_of b).within (length old.code + (layout_of c).size + 1 + (layout_of a).size + 1) old.below) =
+    let no_branch : Grows d5 d6 (layout_of b).size (layout_of b).literals
+    ((layout_of b).within (length old.code + (layout_of c).size + 1 + (layout_of a).size + 1) old.below) =
     rw (sym no_from, sym no_below) wb.grows in
     let all = grows_on old d5 d6 _ _ _ _ _ _ (grows_on old d4 d5 _ _ _ _ _ _ jump begins) no_branch in
     let patched = grows_code old d7 new _ _ _ _ (grows_code old d6 d7 _ _ _ _ all gp) gq in
-    record { grows = rw (laid e _ is) (grows_as _ _ _ _ _ _ _ _ (omega arith) (rw (append-nil ((layout_of c).literals ++ (layout_of a).literals)) refl) (sym (append_snoc _ _ _)) patched) }
+    record {
+      grows = rw (laid e _ is) (grows_as _ _ _ _ _ _ _ _ (omega arith)
+          (rw (append-nil ((layout_of c).literals ++ (layout_of a).literals)) refl) (sym (append_snoc _ _ _)) patched);
+    }
 
 pub writes_none : (old new : Draft) → new ≡ old → WritesEach old new []
 writes_none old new same =
@@ -176,7 +181,8 @@ writes_first old d1 d2 new a rest wa code targets under w =
       size = omega (arith, here, w.size);
       constants = λ before once.
           subst (λ l. EachOnce l new.constants) (append_assoc before (layout_of a).literals (literals_of (layouts_of rest)))
-          (w.constants (before ++ (layout_of a).literals) (subst (λ cs. EachOnce (before ++ (layout_of a).literals) cs) (sym constants_are) (wa.grows.constants before once)));
+          (w.constants (before ++ (layout_of a).literals)
+          (subst (λ cs. EachOnce (before ++ (layout_of a).literals) cs) (sym constants_are) (wa.grows.constants before once)));
       targets =
           w.targets
           ∙ ap (λ us. us ++ targets_of (layouts_of rest) (length d2.code) d2.below) (targets ∙ wa.grows.targets)
@@ -196,7 +202,8 @@ writes_entries old d1 d2 new e es fs is same w code targets under g =
     let all : Grows old d2 (sizes_of xs) (literals_of xs) (targets_of xs (length old.code) old.below) =
     record {
       size = ap (λ c. length c.instrs) code ∙ w.size;
-      constants = λ before once. subst (λ cs. EachOnce (before ++ literals_of xs) cs) (sym (ap (λ c. c.constants) code)) (w.constants before once);
+      constants = λ before once. subst (λ cs. EachOnce (before ++ literals_of xs) cs) (sym (ap (λ c. c.constants) code))
+          (w.constants before once);
       targets = targets ∙ w.targets;
       below = under;
     } in
@@ -210,7 +217,10 @@ writes_with_text old d1 d2 new e op a a' text is same wa gi gp =
     let wa : Writes old d1 a old.below = rw (sym same) wa in
     let ts = targets_from (layout_of a) (length old.code) old.below in
     let both = grows_on old d1 d2 _ _ _ _ _ _ wa.grows gi in
-    record { grows = rw (laid e _ is) (grows_as _ _ _ _ _ _ _ _ (omega arith) refl (sym (append-nil ts)) (grows_code old d2 new _ _ _ _ both gp)) }
+    record {
+      grows = rw (laid e _ is) (grows_as _ _ _ _ _ _ _ _ (omega arith) refl (sym (append-nil ts))
+          (grows_code old d2 new _ _ _ _ both gp));
+    }
 
 -- what is written over nothing, where the types below are put aside and come back
 pub writes_body : (old d1 d2 new : Draft) (e : TypedTree) → drafted d1 ≡ drafted old → d1.targets ≡ old.targets → d1.below ≡ []

@@ -9,7 +9,8 @@ use Rattle.cel_code.specs.Machine.{Run}
 
 -- for all that the slots may hold, the image's run gives the expression's value or error, and charges what it costs
 abbrev pub Computes : Image → TypedTree → Type 0
-Computes image e = (slots : List Outcome) (x : Outcome) → value_of e (outside slots) ≡ Some x → (steps : ℕ) × Run image slots x (cost_of e (outside slots)) steps
+Computes image e = (slots : List Outcome) (x : Outcome) → value_of e (outside slots) ≡ Some x
+    → (steps : ℕ) × Run image slots x (cost_of e (outside slots)) steps
 
 -- whatever the slots hold that fits their types, the expression gives an error or a value of its type
 abbrev pub Preserves : List CelType → TypedTree → Type 0

@@ -3,7 +3,8 @@ use Rattle.std.specs.Prelude.{◌≡◌, ℕ, zero, suc, ◌+◌, true, false, L
 use Rattle.cel_value.specs.declared.value.Value.{Value, out-Value}
 use Rattle.cel_operators.specs.declared.operator.Operator.{Operator}
 use Rattle.cel_code.specs.declared.instr.Instr.{Instr}
-use Rattle.cel_code.specs.declared.instr.Instr.TheVariants.{Const, Op, WithText, AndTest, OrTest, And, Or, Cond, Jump, End, Slot, Local, Item, When}
+use Rattle.cel_code.specs.declared.instr.Instr.TheVariants.{Const, Op, WithText, AndTest, OrTest, And, Or, Cond, Jump, End, Slot, Local}
+use Rattle.cel_code.specs.declared.instr.Instr.TheVariants.{Item, When}
 use Rattle.cel_code.specs.declared.instr.Instr.TheVariants as instr
 use Rattle.cel_code.specs.declared.image.Image.{Image}
 use Rattle.cel_operators.specs.Outcomes.{Outcome, Side, and_of, or_of, both_sides}
@@ -224,7 +225,8 @@ step image slots s = act_at (inputs_of image slots) (slice_get image.code s.at) 
 -- the machine gets from a state to another, in so many steps for so great a charge
 pub data Gets (image : Image) (slots : List Outcome) : State → State → ℕ → ℕ → Type 0 where
   Stays : {s t : State} {charge steps : ℕ} → s ≡ t → charge ≡ 0 → steps ≡ 0 → Gets image slots s t charge steps
-  Moves : {s t : State} {charge steps : ℕ} (m : State) (c d n : ℕ) → step image slots s ≡ Goes c m → Gets image slots m t d n → charge ≡ c + d → steps ≡ n + 1 → Gets image slots s t charge steps
+  Moves : {s t : State} {charge steps : ℕ} (m : State) (c d n : ℕ) → step image slots s ≡ Goes c m → Gets image slots m t d n
+      → charge ≡ c + d → steps ≡ n + 1 → Gets image slots s t charge steps
 
 -- the run from the first instruction: its outcome, what it charges, and its steps
 pub record Run (image : Image) (slots : List Outcome) (outcome : Outcome) (charged steps : ℕ) : Type 0 where

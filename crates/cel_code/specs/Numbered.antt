@@ -32,11 +32,13 @@ key_cmp p q = ordering_then (nat_cmp p.0 q.0) (nat_cmp p.1 q.1)
 
 -- each constant that has a key stands under the number that its key has
 pub record IsNumbered (constants : Values) (numbers : BTreeMap (ℕ × ℕ) ℕ) : Type 0 where
-  pub each : (k : ℕ) (v : Value) (q : ℕ × ℕ) → slice_get constants k ≡ Some v → key_of v ≡ Some q → (n : ℕ) × (get key_cmp numbers q ≡ Some n) × (slice_get constants n ≡ Some v)
+  pub each : (k : ℕ) (v : Value) (q : ℕ × ℕ) → slice_get constants k ≡ Some v → key_of v ≡ Some q
+      → (n : ℕ) × (get key_cmp numbers q ≡ Some n) × (slice_get constants n ≡ Some v)
 
 -- each text that stands among the constants stands under the number that the text has
 pub record AreTextsNumbered (constants : Values) (number_of : List ℕ → Option ℕ) : Type 0 where
-  pub each : (k : ℕ) (text : List ℕ) → slice_get constants k ≡ Some (value.Text text) → (n : ℕ) × (number_of text ≡ Some n) × (slice_get constants n ≡ Some (value.Text text))
+  pub each : (k : ℕ) (text : List ℕ) → slice_get constants k ≡ Some (value.Text text)
+      → (n : ℕ) × (number_of text ≡ Some n) × (slice_get constants n ≡ Some (value.Text text))
 
 -- where the value is a text, this has the number, and other texts keep theirs
 pub record NotesText (old new : List ℕ → Option ℕ) (v : Value) (number : ℕ) : Type 0 where

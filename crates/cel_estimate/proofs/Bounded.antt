@@ -1,5 +1,6 @@
 -- A well typed expression charges no more than its estimate.
-use Rattle.std.proofs.Common.{◌≡◌, ℕ, ◌+◌, ◌*◌, ◌≤◌, Bool, true, false, ◌&&◌, max, List, [], ◌∷◌, map, length, Option, Some, None, refl, sym, ap}
+use Rattle.std.proofs.Common.{◌≡◌, ℕ, ◌+◌, ◌*◌, ◌≤◌, Bool, true, false, ◌&&◌, max, List, [], ◌∷◌, map, length, Option, Some, None, refl}
+use Rattle.std.proofs.Common.{sym, ap}
 use Rattle.std.proofs.Common.{◌∙◌, subst, true≢false, arith}
 use Rattle.std.proofs.Math.Nat.{mul-le-mul_right}
 use Rattle.std.proofs.lemmas.Bool.{and_parts, and_from}
@@ -291,7 +292,8 @@ module _ (types : Types) (env : Env) (h : env_fits types env ≡ true) where
       b.1 (types_inside span.item types) (inside v env) q.0 (fits_inside v span.item f)) in
       omega (arith, bounded a p.0, m, ap (λ u. items_most u * (1 + (rated b).most)) (rated_same a.0))
   level t (MapWhere a c b) g =
-      let p = and_parts (is_right a.0 types) (where_ranged (limit_of Ranged (judged a).type) (right_where t (judged c) (judged b) types)) g in
+      let p = and_parts (is_right a.0 types) (where_ranged (limit_of Ranged (judged a).type) (right_where t (judged c) (judged b) types)) g
+      in
       let m =
       over a (limit_of Ranged (judged a).type) (where_turns (priced c).value (priced b).value env) (where_cost (priced c) (priced b) env)
       ((rated c).most + (rated b).most) (right_where t (judged c) (judged b) types) refl p.0 p.1

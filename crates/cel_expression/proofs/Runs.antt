@@ -77,7 +77,8 @@ module _ (c : Inside) (h : IsCompiled c) (s : Source) (is : source_of c ≡ s) (
   fits_names : (slots : List Outcome) → slots_fit (types_in s.names) slots ≡ true → slots_fit (types_in c.names) slots ≡ true
   fits_names slots fit = subst (λ z. slots_fit (types_in z.names) slots ≡ true) (sym is) fit
 
-  runs_program : (slots : List Outcome) (x : Outcome) (charged steps : ℕ) → Run p slots x charged steps → Run c.program slots x charged steps
+  runs_program : (slots : List Outcome) (x : Outcome) (charged steps : ℕ) → Run p slots x charged steps
+      → Run c.program slots x charged steps
   runs_program slots x charged steps run = subst (λ q. Run q slots x charged steps) same run
 
   pub run_is : (slots : List Outcome) (x : Outcome) (charged steps : ℕ) → slots_fit (types_in s.names) slots ≡ true

@@ -1,9 +1,9 @@
 //! Which texts are taken as no patterns: those that `regex` refuses.
 
 ghost use Rattle.std.specs.Prelude.{◌≡◌, IfOk, OnOk};
-ghost use Rattle.cel_parse.specs.Parsed.{parsed};
-ghost use Rattle.cel_patterns.specs.Answers.{choice_in, Grows};
-ghost use Rattle.cel_check.specs.PatternTexts.{patterns_in, AreAnswered};
+ghost use Rattle.cel_patterns.specs.Answers.{choice_in, AsksOnly, Grows, IsHonest};
+ghost use Rattle.cel_check.specs.PatternTexts.{AreAnswered};
+ghost use Rattle.cel_expression.specs.Patterns.{patterns_of};
 
 use cel_check::ask;
 use cel_parse::{ParseError, parse};
@@ -11,9 +11,10 @@ use cel_patterns::Patterns;
 use plain::{Items, Shared, Text};
 use std::alloc::{AllocError, Global};
 
-/// Asks for each literal text that `matches` is given in a text's expression whether it is a pattern.
+/// Asks for each literal text that `matches` is given in a text's expression whether it is a pattern, and for no other text.
 pub fn ask_patterns(alloc: Global, text: &str, patterns: &mut Patterns) -> Result<(), AllocError>
-    ensures answered { OnOk result (IfOk (parsed text.now) (λ e. AreAnswered patterns.new (patterns_in e))) }
+    ensures answered { OnOk result (AreAnswered patterns.new (patterns_of text.now)) }
+    ensures only { AsksOnly patterns.old patterns.new (patterns_of text.now) }
     ensures grows { Grows patterns.old patterns.new }
 {
     match parse(alloc, text) {
@@ -25,7 +26,9 @@ pub fn ask_patterns(alloc: Global, text: &str, patterns: &mut Patterns) -> Resul
 
 /// The texts that were refused, as a choice.
 pub fn choice_of(alloc: Global, patterns: &Patterns) -> Result<Shared<Items<Text>>, AllocError>
-    ensures { IfOk result (λ choice. choice ≡ choice_in patterns.now) }
+    ensures refused { IfOk result (λ choice. choice ≡ choice_in patterns.now) }
+    // These are the texts that were answered with no, and each that was answered with yes is a pattern.
+    ensures honest { IsHonest patterns.now }
 {
     let refused = patterns.choice();
     let mut texts = Items::new(alloc);

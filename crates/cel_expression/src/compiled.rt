@@ -91,7 +91,8 @@ fn compiled_by(
     text: &Text,
     accepted: &Accepted,
 ) -> Result<Compiled, CompileError>
-    requires { IsRated (types_in names.now) (accepted_of (record { choice = choice.now; names = names.now; text = text.now })) accepted.now }
+    requires { IsRated (types_in names.now)
+        (accepted_of (record { choice = choice.now; names = names.now; text = text.now })) accepted.now }
     ensures compiled { IfOk result (λ c. c ≡ record { choice = choice.now; names = names.now; text = text.now }) }
     ensures unverified { (at : ℕ) → IsErrOf result (Unverified at)
         → IsFaulty accepted.now.typed.tree accepted.now.typed.slots at }
@@ -111,7 +112,8 @@ fn compiled_with(
     accepted: &Accepted,
     program: Program,
 ) -> Result<Compiled, AllocError>
-    requires rated { IsRated (types_in names.now) (accepted_of (record { choice = choice.now; names = names.now; text = text.now })) accepted.now }
+    requires rated { IsRated (types_in names.now)
+        (accepted_of (record { choice = choice.now; names = names.now; text = text.now })) accepted.now }
     requires computes { Computes program accepted.now.typed.tree }
     requires preserves { Preserves accepted.now.typed.slots accepted.now.typed.tree }
     requires slots { program.slots ≡ accepted.now.typed.slots }

@@ -34,7 +34,8 @@ pub fn typed_text(
     names: &[Keyed<CelType>],
     text: &str,
 ) -> Result<Result<Accepted, Refusal>, AllocError>
-    ensures { IfOk result (IsFound (types_in names.now) (accepted_of (record { choice = choice.now; names = names.now; text = text.now }))) }
+    ensures { IfOk result (IsFound (types_in names.now)
+        (accepted_of (record { choice = choice.now; names = names.now; text = text.now }))) }
 {
     match parse(alloc, text) {
         Ok(expression) => typed_expression(alloc, choice, names, &expression),

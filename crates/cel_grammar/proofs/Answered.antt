@@ -66,14 +66,16 @@ module _ (source : List ℕ) (place : ℕ) (ts : List Token) where
   goes_on_by F more e d = subst (λ x. Derives Expression x [] e) (F.before more) d
 
   left_over : (tree : Tree) (deep : ℕ) (t : Token) (vs : List Token) (F : Front) →
-      ((other : List Token) → Agrees (t ∷ vs) other → expression source 101 (F.onto other) ≡ Ok (record { what = tree; deep = deep; rest = other }))
+      ((other : List Token) → Agrees (t ∷ vs) other
+      → expression source 101 (F.onto other) ≡ Ok (record { what = tree; deep = deep; rest = other }))
       → (other : List Token) → Agrees (t ∷ vs) other → all_of source (F.onto other) ≡ Err (Unexpected (place_at finish other))
   unfolding all_of
   left_over tree deep t vs F k other (same_first {vs = ws}) = ap (λ (o : Read). o >>= ended) (k (t ∷ ws) same_first)
 
   found_unexpected : (tree : Tree) (deep : ℕ) (rest : List Token) (F : Front) → F.onto rest ≡ ts
       → ((rest : List Token) → Derives Expression (F.onto rest) rest tree) →
-      ((other : List Token) → Agrees rest other → expression source 101 (F.onto other) ≡ Ok (record { what = tree; deep = deep; rest = other }))
+      ((other : List Token) → Agrees rest other
+      → expression source 101 (F.onto other) ≡ Ok (record { what = tree; deep = deep; rest = other }))
       → ended (record { what = tree; deep = deep; rest = rest }) ≡ Err (Unexpected place) → IsUnexpected finish ts place
   found_unexpected tree deep [] F e d k h = absurd cc
   found_unexpected tree deep (t ∷ vs) F e d k h = record {

@@ -169,7 +169,8 @@ module _ {A : Type 0} (source : List ℕ) (c : Closer) (item : List Token → Re
   last_meets {ts} {mid} {rest} {a} (suc turns) k same m z =
       let e = end_kept z in
       meets_then _ (λ p. inl (subst (λ d. IsPast 100 k ts d) (sym same) p)) m
-      (met (ap (λ (o : Option (ℕ × List Token)). if_at o (if_at (head_if is_comma mid) (unexpected source mid) (λ x. Ok (go_on x.1))) (λ x. Ok (stop x.1)) >>= moved (items_from source c item turns) (record { what = a; deep = size a; rest = mid })) e.1
+      (met (ap (λ (o : Option (ℕ × List Token)). if_at o (if_at (head_if is_comma mid) (unexpected source mid) (λ x. Ok (go_on x.1)))
+      (λ x. Ok (stop x.1)) >>= moved (items_from source c item turns) (record { what = a; deep = size a; rest = mid })) e.1
       ∙ ap (λ (d : ℕ). Ok (record { what = a ∷ []; deep = d; rest = rest })) (sym same)))
 
   next_meets : {ts mid rest : List Token} {t : Token} {a : A} {xs : List A} (turns k : ℕ) → sizes (a ∷ xs) ≡ max (size a) (sizes xs)
@@ -182,12 +183,14 @@ module _ {A : Type 0} (source : List ℕ) (c : Closer) (item : List Token → Re
   next_meets {ts} {mid} {rest} {t} {a} {xs} (suc turns) k same m q b le lt r =
       let step : step_at source c (t ∷ mid) ≡ Ok (go_on mid) =
       ap
-      (λ (o : Option (ℕ × List Token)). if_at o (if_at (head_if is_comma (t ∷ mid)) (unexpected source (t ∷ mid)) (λ x. Ok (go_on x.1))) (λ x. Ok (stop x.1)))
+      (λ (o : Option (ℕ × List Token)). if_at o (if_at (head_if is_comma (t ∷ mid)) (unexpected source (t ∷ mid)) (λ x. Ok (go_on x.1)))
+      (λ x. Ok (stop x.1)))
       (comma_no_end c t mid q b)
       ∙ ap (λ (o : Option (ℕ × List Token)). if_at o (unexpected source (t ∷ mid)) (λ x. Ok (go_on x.1)))
       (head_kept t is_comma mid (ap is_comma q)) in
       meets_then _ (λ p. inl (past_part (λ h. omega arith) (le_refl (nests k ts)) (le_refl (length ts)) p)) m
-      (meets_at (ap (λ (s : Result Move ParseFault). s >>= moved (items_from source c item turns) (record { what = a; deep = size a; rest = t ∷ mid })) step)
+      (meets_at (ap (λ (s : Result Move ParseFault). s >>= moved (items_from source c item turns)
+      (record { what = a; deep = size a; rest = t ∷ mid })) step)
       (meets_then (with_first (record { what = a; deep = size a; rest = t ∷ mid }))
       (λ p. elim p [ inl x ↦ inl (past_part (λ h. omega arith) le (omega arith) x) | inr x ↦ inr (omega arith) ]) (r turns)
       (met (ap (λ (d : ℕ). Ok (record { what = a ∷ xs; deep = d; rest = rest })) (sym same)))))
@@ -212,7 +215,8 @@ module _ {A : Type 0} (source : List ℕ) (c : Closer) (item : List Token → Re
         gave_up refl (past_brackets (omega arith))
     empty_by (suc b) rest e same z =
         let k = end_kept z in
-        met (ap (λ (x : Option (ℕ × List Token)). if_at x (if_at (spare_comma_at c ts) (Ok None) (λ x. unexpected source x.1)) (λ x. Ok (Some x)) >>= any_items source c item ts) k.1
+        met (ap (λ (x : Option (ℕ × List Token)). if_at x (if_at (spare_comma_at c ts) (Ok None) (λ x. unexpected source x.1))
+        (λ x. Ok (Some x)) >>= any_items source c item ts) k.1
         ∙ ap (λ (d : ℕ). Ok (record { what = []; deep = d; rest = rest })) (sym same))
 
     some_by : (b : ℕ) (rest : List Token) (xs : List A) → opened + b ≡ 100 → Begins ts
@@ -225,8 +229,10 @@ module _ {A : Type 0} (source : List ℕ) (c : Closer) (item : List Token → Re
         let least = nests_ge (opened + 1) ts in
         gave_up refl (past_brackets (omega arith))
     some_by (suc b) rest xs e h m =
-        meets_at (ap (λ (x : Option (ℕ × List Token)). if_at x (if_at (spare_comma_at c ts) (Ok None) (λ x. unexpected source x.1)) (λ x. Ok (Some x)) >>= any_items source c item ts) (begins_end c ts h)
-        ∙ ap (λ (x : Option (ℕ × List Token)). if_at x (Ok None) (λ x. unexpected source x.1) >>= any_items source c item ts) (begins_spare (takes_comma c) ts h))
+        meets_at (ap (λ (x : Option (ℕ × List Token)). if_at x (if_at (spare_comma_at c ts) (Ok None) (λ x. unexpected source x.1))
+        (λ x. Ok (Some x)) >>= any_items source c item ts) (begins_end c ts h)
+        ∙ ap (λ (x : Option (ℕ × List Token)). if_at x (Ok None) (λ x. unexpected source x.1) >>= any_items source c item ts)
+        (begins_spare (takes_comma c) ts h))
         (meets_past (λ p. elim p [
           | inl x ↦ past_part (λ h. h) (past_token opened (opened + 1) o ts opens) (omega arith) x
           | inr x ↦ past_length (omega arith)
@@ -295,7 +301,8 @@ module _ (source : List ℕ) where
   operands : {ts rest : List Token} {e : Tree} (n : ℕ) → Loops n ts rest e → Operands (suc n) ts rest e
   operands {rest = rest} n loops =
       record {
-        by = λ brackets opened q lt. goes_meets source (loops.by brackets opened q (omega arith)) (λ p. p) past_depth (front_none (suc n) rest lt);
+        by = λ brackets opened q lt. goes_meets source (loops.by brackets opened q (omega arith)) (λ p. p) past_depth
+            (front_none (suc n) rest lt);
       }
 
   -- one operand is enough
@@ -303,7 +310,8 @@ module _ (source : List ℕ) where
   unfolding operators
   one {ts} n m =
       record {
-        by = λ brackets opened q le. start_loop source (operator_at (suc n)) (join (operators (Inner brackets) source brackets n)) (m.by brackets opened q (omega arith));
+        by = λ brackets opened q le. start_loop source (operator_at (suc n)) (join (operators (Inner brackets) source brackets n))
+            (m.by brackets opened q (omega arith));
       }
 
   same_length : (ts : List Token) → length ts ≤ length ts
@@ -353,7 +361,8 @@ module _ (source : List ℕ) where
   unary_nots [] rest e c = absurd c
   unary_nots (t ∷ us) rest e c =
       record {
-        by = λ brackets opened q lt. if_some _ _ (head_kept t is_bang us (ap is_bang c.0)) (c.1 brackets opened 100 100 q (omega arith) (omega arith) lt);
+        by = λ brackets opened q lt. if_some _ _ (head_kept t is_bang us (ap is_bang c.0))
+            (c.1 brackets opened 100 100 q (omega arith) (omega arith) lt);
       }
 
   unary_minuses : (ts rest : List Token) (e : Tree) → MinusesClaim ts rest e → Operands 0 ts rest e
@@ -361,7 +370,8 @@ module _ (source : List ℕ) where
   unary_minuses [] rest e c = absurd c
   unary_minuses (t ∷ us) rest e c =
       record {
-        by = λ brackets opened q lt. if_none _ (head_not t is_bang us (ap is_bang c.0)) (if_some _ _ (head_kept t is_minus us (ap is_minus c.0)) (c.1 brackets opened 100 100 q (omega arith) (omega arith) lt));
+        by = λ brackets opened q lt. if_none _ (head_not t is_bang us (ap is_bang c.0))
+            (if_some _ _ (head_kept t is_minus us (ap is_minus c.0)) (c.1 brackets opened 100 100 q (omega arith) (omega arith) lt));
       }
 
   wrapped_meets : {past past' : Type 0} {out : Read} {rest : List Token} {e : Tree} (place : ℕ) (o : UnaryOperator) → (past → past')
@@ -415,7 +425,9 @@ module _ (source : List ℕ) where
       let deep = depth-unary source t.start Negate e in
       if_none _ p.minus
       (if_none _ (alone_by ts rest (number_at ts) refl p.single l)
-      (wrapped_meets t.start Negate (past_part (λ h. omega arith) (past_plain opened t ts (ap (open_after opened) z) (le_refl (nests opened ts))) (omega arith)) (λ h. past_depth (omega arith)) (member_meets ts rest e p brackets opened q lt)))
+      (wrapped_meets t.start Negate (past_part (λ h. omega arith)
+      (past_plain opened t ts (ap (open_after opened) z) (le_refl (nests opened ts))) (omega arith)) (λ h. past_depth (omega arith))
+      (member_meets ts rest e p brackets opened q lt)))
 
   minuses_next : (t : Token) (ts rest : List Token) (e : Tree) → t.kind ≡ kind.Operator op.Subtract → MinusesClaim ts rest e
       → (brackets opened turns limit : ℕ) → opened + brackets ≡ 100 → limit ≤ turns → limit ≤ 100 → 0 < front rest
@@ -429,7 +441,8 @@ module _ (source : List ℕ) where
       let deep = depth-unary source t.start Negate e in
       if_some _ _ (head_kept u is_minus us (ap is_minus c.0))
       (wrapped_meets t.start Negate
-      (past_part (λ h. omega arith) (past_plain opened t (u ∷ us) (ap (open_after opened) z) (le_refl (nests opened (u ∷ us)))) (omega arith))
+      (past_part (λ h. omega arith) (past_plain opened t (u ∷ us) (ap (open_after opened) z) (le_refl (nests opened (u ∷ us))))
+      (omega arith))
       (λ h. past_depth (omega arith)) (c.1 brackets opened turns (limit - 1) q (omega arith) (omega arith) lt))
 
   number_kept : (n : Token) (magnitude : ℕ) (rest : List Token) → n.kind ≡ kind.Int magnitude
@@ -470,7 +483,8 @@ module _ (source : List ℕ) where
     bang = head_not t is_bang rest (ap is_bang q ∙ b);
     minus = head_not t is_minus rest (ap is_minus q ∙ m);
     single = λ x h. single x (ap (λ k. number_of k rest) (sym q) ∙ h);
-    by = λ brackets opened z no_call. if_some _ _ (ap (λ (j : TokenKind). literal_by j t.start) q ∙ lit) (met (ap (λ (d : ℕ). Ok (record { what = tree; deep = d; rest = rest })) deep));
+    by = λ brackets opened z no_call. if_some _ _ (ap (λ (j : TokenKind). literal_by j t.start) q ∙ lit)
+        (met (ap (λ (d : ℕ). Ok (record { what = tree; deep = d; rest = rest })) deep));
   }
 
   -- what is no literal, by its kind
@@ -484,7 +498,8 @@ module _ (source : List ℕ) where
     bang = head_not t is_bang ts (ap is_bang q ∙ b);
     minus = head_not t is_minus ts (ap is_minus q ∙ m);
     single = λ x h. absurd (single x (ap (λ k. number_of k ts) (sym q) ∙ h));
-    by = λ brackets opened z no_call. if_none _ (ap (λ (j : TokenKind). literal_by j t.start) q ∙ lit) (meets_at (ap (λ (j : TokenKind). primary_by (Inner brackets) source brackets j t ts) q) (by brackets opened z no_call));
+    by = λ brackets opened z no_call. if_none _ (ap (λ (j : TokenKind). literal_by j t.start) q ∙ lit)
+        (meets_at (ap (λ (j : TokenKind). primary_by (Inner brackets) source brackets j t ts) q) (by brackets opened z no_call));
   }
 
   closed_meets : {past : Type 0} (c : Closer) (k : Token) (e : Tree) (rest : List Token) → closes c k.kind ≡ true
@@ -563,7 +578,8 @@ module _ (source : List ℕ) where
       → Meets past (called_by t (call place es) (depth_of_items source es) rest) rest (call place es) (depth source (call place es))
   test_meets true place es rest h f =
       met
-      (ap (λ (d : ℕ). Ok (record { what = call place es; deep = d; rest = rest })) (ap (λ (x : Bool). call_depth x (depth_of_items source es)) h ∙ sym (depth-call source place es)))
+      (ap (λ (d : ℕ). Ok (record { what = call place es; deep = d; rest = rest }))
+      (ap (λ (x : Bool). call_depth x (depth_of_items source es)) h ∙ sym (depth-call source place es)))
   test_meets false place es rest h f =
       node_meets (call place es) (depth_of_items source es) _ rest
       (ap (λ (x : Bool). call_depth x (depth_of_items source es)) h ∙ sym (depth-call source place es)) f
@@ -581,7 +597,9 @@ module _ (source : List ℕ) where
       let deep = depth-call source t.start es in
       let least = call_at_least (is_test source t.start es) (depth_of_items source es) in
       if_some _ _ (head_kept o is_open ts (ap is_open h))
-      (meets_then (called_at source t.start) (past_part (λ z. omega arith) (past_plain opened t (o ∷ ts) (ap (open_after opened) q) (le_refl (nests opened (o ∷ ts)))) (omega arith)) (l brackets opened o (ap (open_after opened) h) w)
+      (meets_then (called_at source t.start)
+      (past_part (λ z. omega arith) (past_plain opened t (o ∷ ts) (ap (open_after opened) q) (le_refl (nests opened (o ∷ ts))))
+      (omega arith)) (l brackets opened o (ap (open_after opened) h) w)
       (test_meets (is_test source t.start es) t.start es rest refl past_depth)))
 
   name_primary : (t : Token) (rest : List Token) → t.kind ≡ kind.Name
@@ -614,7 +632,8 @@ module _ (source : List ℕ) where
       → k.kind ≡ kind.Close → IsPrimary (o ∷ ts) rest e
   bracket_primary o k ts rest e q d z =
       other_primary o kind.Open e ts rest q refl refl (λ x z. absurd cc) refl
-      (λ brackets opened w no_call. inside_meets closer.Parenthesis o k ts rest e brackets opened (ap (open_after opened) q) d (ap (closes closer.Parenthesis) z) w)
+      (λ brackets opened w no_call. inside_meets closer.Parenthesis o k ts rest e brackets opened (ap (open_after opened) q) d
+      (ap (closes closer.Parenthesis) z) w)
 
   alone_member : (ts rest : List Token) (e : Tree) → IsPrimary ts rest e → IsMember ts rest e
   unfolding member
@@ -622,7 +641,8 @@ module _ (source : List ℕ) where
     bang = p.bang;
     minus = p.minus;
     single = λ x h. inl (p.single x h);
-    by = λ brackets opened q no_call. start_loop source suffix_at (go_on_member (Inner brackets) source brackets) (p.by brackets opened q no_call);
+    by = λ brackets opened q no_call. start_loop source suffix_at (go_on_member (Inner brackets) source brackets)
+        (p.by brackets opened q no_call);
   }
 
   suffix_some : (t : Token) (mid : List Token) → suffix_at (t ∷ mid) ≡ None → t.kind ≡ kind.Dot ⊎ (t.kind ≡ kind.OpenBracket)
@@ -641,7 +661,9 @@ module _ (source : List ℕ) where
       elim (single x h) [
         | inl l ↦
             inr
-            (λ z. suffix_some t mid (let e : number_at ts ≡ Some (l.magnitude, t ∷ mid) = ap number_at l.alone ∙ ap (λ (k : TokenKind). number_of k (t ∷ mid)) l.kind in let f : x.1 ≡ t ∷ mid = (let g : x ≡ (l.magnitude, t ∷ mid) = cc in ap (λ (y : ℕ × List Token). y.1) g) in ap suffix_at (sym f) ∙ z) q)
+            (λ z. suffix_some t mid (let e : number_at ts ≡ Some (l.magnitude, t ∷ mid) = ap number_at l.alone
+            ∙ ap (λ (k : TokenKind). number_of k (t ∷ mid)) l.kind in let f : x.1 ≡ t ∷ mid =
+            (let g : x ≡ (l.magnitude, t ∷ mid) = cc in ap (λ (y : ℕ × List Token). y.1) g) in ap suffix_at (sym f) ∙ z) q)
         | inr z ↦ inr z
       ]
 
@@ -662,8 +684,12 @@ module _ (source : List ℕ) where
         minus = m.minus;
         single = still_single ts mid rest o (inr q) m.single;
         by =
-            λ brackets opened w no_call. further source (suffix.Index, o.start, mid) (m.by brackets opened w (bracket_no_call o mid q)) (ap (λ (j : TokenKind). suffix_of j o.start mid) q)
-            (meets_at (regroup (Inner brackets mid) _) (meets_then (indexed_at o.start (record { what = a; deep = depth source a; rest = o ∷ mid })) (past_part (λ h. omega arith) (bal opened) short) (inside_meets closer.Bracket o k mid rest b brackets opened (ap (open_after opened) q) d (ap (closes closer.Bracket) z) w)
+            λ brackets opened w no_call. further source (suffix.Index, o.start, mid) (m.by brackets opened w (bracket_no_call o mid q))
+            (ap (λ (j : TokenKind). suffix_of j o.start mid) q)
+            (meets_at (regroup (Inner brackets mid) _)
+            (meets_then (indexed_at o.start (record { what = a; deep = depth source a; rest = o ∷ mid }))
+            (past_part (λ h. omega arith) (bal opened) short)
+            (inside_meets closer.Bracket o k mid rest b brackets opened (ap (open_after opened) q) d (ap (closes closer.Bracket) z) w)
             (node_meets (index o.start a b) (max (depth source a) (depth source b)) _ rest (sym deep) past_depth)))
             (omega arith) (past_part (λ h. omega arith) (le_refl (nests opened ts)) (same_length ts)) (λ p. p) past_depth;
       }
@@ -683,7 +709,8 @@ module _ (source : List ℕ) where
         minus = m.minus;
         single = still_single ts (f ∷ rest) rest d (inl q) m.single;
         by =
-            λ brackets opened w no_call. further source (suffix.Selector, d.start, f ∷ rest) (m.by brackets opened w (dot_no_call d (f ∷ rest) q)) (ap (λ (j : TokenKind). suffix_of j d.start (f ∷ rest)) q)
+            λ brackets opened w no_call. further source (suffix.Selector, d.start, f ∷ rest)
+            (m.by brackets opened w (dot_no_call d (f ∷ rest) q)) (ap (λ (j : TokenKind). suffix_of j d.start (f ∷ rest)) q)
             (if_some _ _ (head_kept f is_selector rest h)
             (if_none _ no_call (node_meets (select f.start e) (depth source e) _ rest (sym deep) past_depth)))
             (omega arith) (past_part (λ h. omega arith) (le_refl (nests opened ts)) (same_length ts)) (λ p. p) past_depth;
@@ -701,9 +728,13 @@ module _ (source : List ℕ) where
         minus = m.minus;
         single = still_single ts (f ∷ o ∷ mid) rest d (inl q) m.single;
         by =
-            λ brackets opened w no_call. further source (suffix.Selector, d.start, f ∷ o ∷ mid) (m.by brackets opened w (dot_no_call d (f ∷ o ∷ mid) q)) (ap (λ (j : TokenKind). suffix_of j d.start (f ∷ o ∷ mid)) q)
+            λ brackets opened w no_call. further source (suffix.Selector, d.start, f ∷ o ∷ mid)
+            (m.by brackets opened w (dot_no_call d (f ∷ o ∷ mid) q)) (ap (λ (j : TokenKind). suffix_of j d.start (f ∷ o ∷ mid)) q)
             (if_some _ _ (head_kept f is_selector (o ∷ mid) h) (if_some _ _ (head_kept o is_open mid (ap is_open z))
-            (meets_then _ (past_part (λ h. omega arith) (le_trans (past_plain opened d (f ∷ o ∷ mid) (ap (open_after opened) q) (past_plain opened f (o ∷ mid) (selector_plain f.kind opened h) (le_refl (nests opened (o ∷ mid))))) (bal opened)) (omega arith)) (l brackets opened o (ap (open_after opened) z) w)
+            (meets_then _ (past_part (λ h. omega arith)
+            (le_trans (past_plain opened d (f ∷ o ∷ mid) (ap (open_after opened) q)
+            (past_plain opened f (o ∷ mid) (selector_plain f.kind opened h) (le_refl (nests opened (o ∷ mid))))) (bal opened))
+            (omega arith)) (l brackets opened o (ap (open_after opened) z) w)
             (node_meets (method_tree f.start e es) (max (depth source e) (depth_of_items source es)) _ rest (sym deep) past_depth))))
             (omega arith) (past_part (λ h. omega arith) (le_refl (nests opened ts)) (same_length ts)) (λ p. p) past_depth;
       }
@@ -730,9 +761,14 @@ module _ (source : List ℕ) where
       le_trans (past_plain opened q mid (ap (open_after opened) hq) (le_refl (nests opened mid))) (bal opened) in
       let last_le : nests opened last ≤ nests opened ts =
       le_trans (le_trans (past_plain opened k last (ap (open_after opened) hk) (le_refl (nests opened last))) (bal' opened)) mid_le in
-      meets_then _ (past_part (λ h. omega arith) (le_refl (nests opened ts)) (same_length ts)) ((operands 4 lc).by brackets opened w (omega arith)) (if_some _ _ (head_kept q is_question mid (ap is_question hq))
-      (meets_then _ (past_part (λ h. omega arith) mid_le (omega arith)) ((operands 4 la).by brackets opened w (omega arith)) (if_some _ _ (head_kept k is_colon last (ap is_colon hk))
-      (meets_then _ (past_part (λ h. omega arith) last_le (omega arith)) (lb brackets opened turns (limit - 1) w (omega arith) (omega arith) lt) (node_meets _ (max (depth source c) (max (depth source a) (depth source b))) _ rest (sym deep) (λ h. past_depth (omega arith)))))))
+      meets_then _ (past_part (λ h. omega arith) (le_refl (nests opened ts)) (same_length ts))
+      ((operands 4 lc).by brackets opened w (omega arith)) (if_some _ _ (head_kept q is_question mid (ap is_question hq))
+      (meets_then _ (past_part (λ h. omega arith) mid_le (omega arith)) ((operands 4 la).by brackets opened w (omega arith))
+      (if_some _ _ (head_kept k is_colon last (ap is_colon hk))
+      (meets_then _ (past_part (λ h. omega arith) last_le (omega arith))
+      (lb brackets opened turns (limit - 1) w (omega arith) (omega arith) lt)
+      (node_meets _ (max (depth source c) (max (depth source a) (depth source b))) _ rest (sym deep)
+      (λ h. past_depth (omega arith)))))))
 
   items_begin : {c : Closer} {ts rest : List Token} {es : List Tree} → Items c ts rest es → Begins ts
   items_begin (last_item d z) = begins_of d
@@ -764,11 +800,21 @@ module _ (source : List ℕ) where
     complete_from (nots d) = unary_nots _ _ _ (complete_from d)
     complete_from (minuses d) = unary_minuses _ _ _ (complete_from d)
     complete_from (not_one {t} {ts} {rest} {e} q d) =
-        let deep = depth-unary source t.start Not e in
-        (q, λ brackets opened turns limit w le le' lt. wrapped_meets t.start Not (past_part (λ h. omega arith) (past_plain opened t ts (ap (open_after opened) q) (le_refl (nests opened ts))) (omega arith)) (λ h. past_depth (omega arith)) (nots_first ts rest e (complete_from d) brackets opened turns (limit - 1) w (omega arith) (omega arith) lt))
+        let deep = depth-unary source t.start Not e in (
+          q,
+          λ brackets opened turns limit w le le' lt. wrapped_meets t.start Not
+              (past_part (λ h. omega arith) (past_plain opened t ts (ap (open_after opened) q) (le_refl (nests opened ts))) (omega arith))
+              (λ h. past_depth (omega arith))
+              (nots_first ts rest e (complete_from d) brackets opened turns (limit - 1) w (omega arith) (omega arith) lt),
+        )
     complete_from (not_more {t} {ts} {rest} {e} q d) =
-        let deep = depth-unary source t.start Not e in
-        (q, λ brackets opened turns limit w le le' lt. wrapped_meets t.start Not (past_part (λ h. omega arith) (past_plain opened t ts (ap (open_after opened) q) (le_refl (nests opened ts))) (omega arith)) (λ h. past_depth (omega arith)) (nots_next ts rest e (complete_from d) brackets opened turns (limit - 1) w (omega arith) (omega arith) lt))
+        let deep = depth-unary source t.start Not e in (
+          q,
+          λ brackets opened turns limit w le le' lt. wrapped_meets t.start Not
+              (past_part (λ h. omega arith) (past_plain opened t ts (ap (open_after opened) q) (le_refl (nests opened ts))) (omega arith))
+              (λ h. past_depth (omega arith))
+              (nots_next ts rest e (complete_from d) brackets opened turns (limit - 1) w (omega arith) (omega arith) lt),
+        )
     complete_from (negative {t} {n} {magnitude} {rest} q h) = (q, minuses_last t n magnitude rest h)
     complete_from (minus_one {t} {ts} {rest} {e} q l d) = (q, minuses_first t ts rest e q l (complete_from d))
     complete_from (minus_more {t} {ts} {rest} {e} q d) = (q, minuses_next t ts rest e q (complete_from d))

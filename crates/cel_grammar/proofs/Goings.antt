@@ -99,7 +99,9 @@ from_end : (P : List Token → Type 0) → P [] → (vs : List Token) → Agrees
 from_end P h vs both_end = h
 
 -- lists of items, or of entries
-module _ {A : Type 0} (source : List ℕ) (c : Closer) (item : List Token → ReadOf A) (D : Relation A) (size : A → ℕ) (DI DL : Relation (List A)) (sizes : List A → ℕ) (rules : IsRow c D size DI DL sizes) (item_stage : (us : List Token) → Stage (length source) D item us (item us)) where
+module _ {A : Type 0} (source : List ℕ) (c : Closer) (item : List Token → ReadOf A) (D : Relation A) (size : A → ℕ)
+    (DI DL : Relation (List A)) (sizes : List A → ℕ) (rules : IsRow c D size DI DL sizes)
+    (item_stage : (us : List Token) → Stage (length source) D item us (item us)) where
   abbrev finish : ℕ
   finish = length source
 
@@ -137,7 +139,8 @@ module _ {A : Type 0} (source : List ℕ) (c : Closer) (item : List Token → Re
     ended_step : (t : Token) (us : List Token) → closes c t.kind ≡ true → IsStep (t ∷ us)
     ended_step t us h =
         stage_front finish t K (λ ws. Ok (record { what = what ∷ []; deep = deep; rest = ws })) us
-        (λ ws. ap (λ (b : Bool). by_end (if_at (kept b t ws) (if_at (spare_comma_at c (t ∷ ws)) None (λ x. head_if (closes c) x.1)) Some) (t ∷ ws)) h)
+        (λ ws. ap (λ (b : Bool). by_end (if_at (kept b t ws) (if_at (spare_comma_at c (t ∷ ws)) None (λ x. head_if (closes c) x.1)) Some)
+        (t ∷ ws)) h)
         (again nothing refl (λ rest. rules.last (d (t ∷ rest)) (end h)) (λ rest a. refl))
 
     others_step : (t : Token) (us : List Token) → t.kind ≡ kind.Comma → Stage finish (λ ws. DI (F.onto (t ∷ ws)))
@@ -154,18 +157,22 @@ module _ {A : Type 0} (source : List ℕ) (c : Closer) (item : List Token → Re
         → IsStep (t ∷ us)
     comma_by false t us z n h =
         stage_front finish t K (λ ws. items_from source c item turns ws >>= with_first (here (t ∷ ws))) us
-        (λ ws. ap (λ (b : Bool). by_end (if_at (kept b t ws) (if_at (spare_comma_at c (t ∷ ws)) None (λ x. head_if (closes c) x.1)) Some) (t ∷ ws)) n
+        (λ ws. ap (λ (b : Bool). by_end (if_at (kept b t ws) (if_at (spare_comma_at c (t ∷ ws)) None (λ x. head_if (closes c) x.1)) Some)
+        (t ∷ ws)) n
         ∙ ap (λ (b : Bool). by_end (if_at (comma_if b (t ∷ ws)) None (λ x. head_if (closes c) x.1)) (t ∷ ws)) z
         ∙ ap (λ (k : TokenKind). by_comma (kept (is_comma k) t ws) (t ∷ ws)) h)
         (others_step t us h)
     comma_by true t us z n h =
         stage_front finish t K
-        (λ ws. if_at (head_if (closes c) ws) (items_from source c item turns ws >>= with_first (here (t ∷ ws))) (λ x. Ok (record { what = what ∷ []; deep = deep; rest = x.1 }))) us
-        (λ ws. ap (λ (b : Bool). by_end (if_at (kept b t ws) (if_at (spare_comma_at c (t ∷ ws)) None (λ x. head_if (closes c) x.1)) Some) (t ∷ ws)) n
+        (λ ws. if_at (head_if (closes c) ws) (items_from source c item turns ws >>= with_first (here (t ∷ ws)))
+        (λ x. Ok (record { what = what ∷ []; deep = deep; rest = x.1 }))) us
+        (λ ws. ap (λ (b : Bool). by_end (if_at (kept b t ws) (if_at (spare_comma_at c (t ∷ ws)) None (λ x. head_if (closes c) x.1)) Some)
+        (t ∷ ws)) n
         ∙ ap (λ (b : Bool). by_end (if_at (comma_if b (t ∷ ws)) None (λ x. head_if (closes c) x.1)) (t ∷ ws)) z
         ∙ ap (λ (k : TokenKind). by_end (if_at (kept (is_comma k) t ws) None (λ x. head_if (closes c) x.1)) (t ∷ ws)) h
         ∙ by_closing t ws h (head_if (closes c) ws))
-        (stage_head finish (λ ws r. r) (λ ws. items_from source c item turns ws >>= with_first (here (t ∷ ws))) (closes c) (λ place ws. Ok (record { what = what ∷ []; deep = deep; rest = ws }))
+        (stage_head finish (λ ws r. r) (λ ws. items_from source c item turns ws >>= with_first (here (t ∷ ws))) (closes c)
+        (λ place ws. Ok (record { what = what ∷ []; deep = deep; rest = ws }))
         (λ vs q. others_step t vs h)
         (λ k vs q. again nothing refl (λ rest. rules.last (d (t ∷ k ∷ rest)) (comma_end z h q)) (λ rest a. refl))
         us)
@@ -184,7 +191,8 @@ module _ {A : Type 0} (source : List ℕ) (c : Closer) (item : List Token → Re
     other_by true t us h n = comma_by (takes_comma c) t us refl n (comma_is t.kind h)
     other_by false t us h n =
         refused_step (t ∷ us) (from_first (λ vs. K vs ≡ Err (Unexpected (place_at finish vs)))
-        (λ ws. ap (λ (b : Bool). by_end (if_at (kept b t ws) (if_at (spare_comma_at c (t ∷ ws)) None (λ x. head_if (closes c) x.1)) Some) (t ∷ ws)) n
+        (λ ws. ap (λ (b : Bool). by_end (if_at (kept b t ws) (if_at (spare_comma_at c (t ∷ ws)) None (λ x. head_if (closes c) x.1)) Some)
+        (t ∷ ws)) n
         ∙ ap (λ (o : Option (ℕ × List Token)). by_end (if_at o None (λ x. head_if (closes c) x.1)) (t ∷ ws))
         (no_spare (takes_comma c) t ws h)
         ∙ ap (λ (b : Bool). by_comma (kept b t ws) (t ∷ ws)) h))
@@ -235,7 +243,8 @@ module _ {A : Type 0} (source : List ℕ) (c : Closer) (item : List Token → Re
     unfolding opened_at
     empty_row t us h =
         stage_front finish t R (λ ws. Ok (record { what = []; deep = 0; rest = ws })) us
-        (λ ws. ap (λ (b : Bool). by_found (if_at (kept b t ws) (if_at (spare_comma_at c (t ∷ ws)) None (λ x. head_if (closes c) x.1)) Some) (t ∷ ws)) h)
+        (λ ws. ap (λ (b : Bool). by_found (if_at (kept b t ws) (if_at (spare_comma_at c (t ∷ ws)) None (λ x. head_if (closes c) x.1)) Some)
+        (t ∷ ws)) h)
         (again nothing refl (λ rest. rules.none (end h)) (λ rest a. refl))
 
     spare_row : (t : Token) (us : List Token) → takes_comma c ≡ true → closes c t.kind ≡ false → t.kind ≡ kind.Comma
@@ -243,12 +252,15 @@ module _ {A : Type 0} (source : List ℕ) (c : Closer) (item : List Token → Re
     unfolding opened_at
     spare_row t us z n h =
         stage_front finish t R
-        (λ ws. if_at (head_if (closes c) ws) (Err (Unexpected (place_at finish ws))) (λ x. Ok (record { what = []; deep = 0; rest = x.1 }))) us
-        (λ ws. ap (λ (b : Bool). by_found (if_at (kept b t ws) (if_at (spare_comma_at c (t ∷ ws)) None (λ x. head_if (closes c) x.1)) Some) (t ∷ ws)) n
+        (λ ws. if_at (head_if (closes c) ws) (Err (Unexpected (place_at finish ws)))
+        (λ x. Ok (record { what = []; deep = 0; rest = x.1 }))) us
+        (λ ws. ap (λ (b : Bool). by_found (if_at (kept b t ws) (if_at (spare_comma_at c (t ∷ ws)) None (λ x. head_if (closes c) x.1)) Some)
+        (t ∷ ws)) n
         ∙ ap (λ (b : Bool). by_found (if_at (comma_if b (t ∷ ws)) None (λ x. head_if (closes c) x.1)) (t ∷ ws)) z
         ∙ ap (λ (k : TokenKind). by_found (if_at (kept (is_comma k) t ws) None (λ x. head_if (closes c) x.1)) (t ∷ ws)) h
         ∙ by_closing t ws z h (head_if (closes c) ws))
-        (stage_head finish (λ ws r. r) (λ ws. Err (Unexpected (place_at finish ws))) (closes c) (λ place ws. Ok (record { what = []; deep = 0; rest = ws }))
+        (stage_head finish (λ ws r. r) (λ ws. Err (Unexpected (place_at finish ws))) (closes c)
+        (λ place ws. Ok (record { what = []; deep = 0; rest = ws }))
         (λ vs q. stage_stuck finish vs ended_by [] (λ rest. rules.none (comma_end z h (closes_it c))))
         (λ k vs q. again nothing refl (λ rest. rules.none (comma_end z h q)) (λ rest a. refl))
         us)
@@ -266,7 +278,8 @@ module _ {A : Type 0} (source : List ℕ) (c : Closer) (item : List Token → Re
     unfolding opened_at
     plain_row t us n h =
         items_row (t ∷ us) (from_first (λ vs. R vs ≡ items_from source c item 16384 vs)
-        (λ ws. ap (λ (b : Bool). by_found (if_at (kept b t ws) (if_at (spare_comma_at c (t ∷ ws)) None (λ x. head_if (closes c) x.1)) Some) (t ∷ ws)) n
+        (λ ws. ap (λ (b : Bool). by_found (if_at (kept b t ws) (if_at (spare_comma_at c (t ∷ ws)) None (λ x. head_if (closes c) x.1)) Some)
+        (t ∷ ws)) n
         ∙ ap (λ (o : Option (ℕ × List Token)). by_found (if_at o None (λ x. head_if (closes c) x.1)) (t ∷ ws)) (h ws)
         ∙ ap (λ (o : Option (ℕ × List Token)). by_spare o (t ∷ ws)) (h ws)))
 
@@ -319,15 +332,27 @@ module _ (source : List ℕ) (inner : Reader) (brackets : ℕ)
   -- a key, ":" and a value
   value_stage : (F : Front) (a : Tree) (deep : ℕ) → ((rest : List Token) → Derives Expression (F.onto rest) rest a)
       → (us : List Token) → Stage finish' (λ ws rest e. IsEntry (F.onto ws) rest e)
-      (λ ws. if_at (head_if is_colon ws) (Err (Unexpected (place_at finish' ws))) (λ k. inner k.1 >>= λ b. Ok (entered (record { what = a; deep = deep; rest = ws }) b))) us
-      (if_at (head_if is_colon us) (Err (Unexpected (place_at finish' us))) (λ k. inner k.1 >>= λ b. Ok (entered (record { what = a; deep = deep; rest = us }) b)))
+      (λ ws. if_at (head_if is_colon ws) (Err (Unexpected (place_at finish' ws)))
+      (λ k. inner k.1 >>= λ b. Ok (entered (record { what = a; deep = deep; rest = ws }) b))) us
+      (if_at (head_if is_colon us) (Err (Unexpected (place_at finish' us)))
+      (λ k. inner k.1 >>= λ b. Ok (entered (record { what = a; deep = deep; rest = us }) b)))
   value_stage F a deep da =
       stage_head finish' (λ ws r. r) (λ ws. Err (Unexpected (place_at finish' ws))) is_colon
       (λ place ws. inner ws >>= λ b. Ok (record { what = record { key = a; value = b.what }; deep = max deep b.deep; rest = b.rest }))
-      (λ vs h. stage_stuck finish' vs (first a_colon (first a_truth nothing)) (record { key = a; value = truth 0 true }) (λ rest. record { token = a_colon; mid = a_truth ∷ rest; key = da (a_colon ∷ a_truth ∷ rest); colon = refl; value = whole (operand_of rest) }))
-      (λ k vs h. stage_then finish' (λ b. Ok (record { what = record { key = a; value = b.what }; deep = max deep b.deep; rest = b.rest })) nothing (λ b. record { key = a; value = b }) (inner_stage vs)
+      (λ vs h. stage_stuck finish' vs (first a_colon (first a_truth nothing)) (record { key = a; value = truth 0 true })
+      (λ rest. record {
+        token = a_colon;
+        mid = a_truth ∷ rest;
+        key = da (a_colon ∷ a_truth ∷ rest);
+        colon = refl;
+        value =
+            whole (operand_of rest);
+      }))
+      (λ k vs h. stage_then finish' (λ b. Ok (record { what = record { key = a; value = b.what }; deep = max deep b.deep; rest = b.rest }))
+      nothing (λ b. record { key = a; value = b }) (inner_stage vs)
       (λ from rest b x. record { token = k; mid = from; key = da (k ∷ from); colon = colon_is k.kind h; value = x })
-      (λ f E x. again nothing refl (λ rest. record { token = k; mid = E.onto rest; key = da (k ∷ E.onto rest); colon = colon_is k.kind h; value = x rest }) (λ rest a. refl)))
+      (λ f E x. again nothing refl (λ rest. record
+      { token = k; mid = E.onto rest; key = da (k ∷ E.onto rest); colon = colon_is k.kind h; value = x rest }) (λ rest a. refl)))
 
   entry_stage : (us : List Token) → IsStage IsEntry (entry inner source) us
   unfolding entry
@@ -362,7 +387,8 @@ module _ (source : List ℕ) (inner : Reader) (brackets : ℕ)
   inside_stage {D} c rule us =
       stage_then finish' (closed source c) (first (a_closer c) nothing) (λ e. e) (inner_stage us)
       (λ from rest e x. rule (a_closer c) from rest e (closes_it c) x)
-      (λ f F x. closed_stage {D = λ ws rest e. D (F.onto ws) rest e} c F f.what f.deep (λ k rest h. rule k (F.onto (k ∷ rest)) rest f.what h (x (k ∷ rest))) f.rest)
+      (λ f F x. closed_stage {D = λ ws rest e. D (F.onto ws) rest e} c F f.what f.deep
+      (λ k rest h. rule k (F.onto (k ∷ rest)) rest f.what h (x (k ∷ rest))) f.rest)
 
   -- a call
   called_by_stage : {D : Relation Tree} (b : Bool) (tree : Tree) (deep : ℕ) (us : List Token)
@@ -371,7 +397,8 @@ module _ (source : List ℕ) (inner : Reader) (brackets : ℕ)
   called_by_stage false tree deep us d = stage_node finish' tree deep us d
 
   name_stage : (t : Token) (us : List Token) → t.kind ≡ kind.Name → IsStage (λ ws rest e. Derives Primary (t ∷ ws) rest e)
-      (λ ws. if_at (head_if is_open ws) (leaf (name t.start) ws) (λ x. items_at inner source brackets closer.Parenthesis x.1 >>= called_at source t.start))
+      (λ ws. if_at (head_if is_open ws) (leaf (name t.start) ws)
+      (λ x. items_at inner source brackets closer.Parenthesis x.1 >>= called_at source t.start))
       us
   unfolding called_at
   name_stage t us q =
@@ -380,7 +407,8 @@ module _ (source : List ℕ) (inner : Reader) (brackets : ℕ)
       (λ vs h. again nothing refl (λ rest. named q) (λ rest a. refl))
       (λ o vs h. stage_then finish' (called_at source t.start) nothing (λ es. call t.start es) (list_stage closer.Parenthesis vs)
       (λ from rest es x. called q (open_is o.kind h) x)
-      (λ f E x. called_by_stage (is_test source t.start f.what) (call t.start f.what) f.deep f.rest (λ rest. called q (open_is o.kind h) (x rest))))
+      (λ f E x. called_by_stage (is_test source t.start f.what) (call t.start f.what) f.deep f.rest
+      (λ rest. called q (open_is o.kind h) (x rest))))
       us
 
   no_primary : (us : List Token)
@@ -419,7 +447,8 @@ module _ (source : List ℕ) (inner : Reader) (brackets : ℕ)
       kind_stage (kind.Text s) t us (leaf _) q (λ ws. refl) (again nothing refl (λ rest. string q) (λ rest a. refl))
   primary_by_stage kind.Name t us q =
       kind_stage kind.Name t us
-      (λ ws. if_at (head_if is_open ws) (leaf (name t.start) ws) (λ x. items_at inner source brackets closer.Parenthesis x.1 >>= called_at source t.start))
+      (λ ws. if_at (head_if is_open ws) (leaf (name t.start) ws)
+      (λ x. items_at inner source brackets closer.Parenthesis x.1 >>= called_at source t.start))
       q
       (λ ws. refl) (name_stage t us q)
   primary_by_stage kind.Open t us q =
@@ -428,12 +457,14 @@ module _ (source : List ℕ) (inner : Reader) (brackets : ℕ)
   primary_by_stage kind.OpenBracket t us q =
       kind_stage kind.OpenBracket t us
       (λ ws. items_at inner source brackets closer.Bracket ws >>= λ f. node (list t.start f.what) f.deep f.rest) q (λ ws. refl)
-      (stage_then finish' (λ f. node (list t.start f.what) f.deep f.rest) nothing (λ es. list t.start es) (list_stage closer.Bracket us) (λ from rest es x. listed q x)
+      (stage_then finish' (λ f. node (list t.start f.what) f.deep f.rest) nothing (λ es. list t.start es) (list_stage closer.Bracket us)
+      (λ from rest es x. listed q x)
       (λ f E x. stage_node finish' (list t.start f.what) f.deep f.rest (λ rest. listed q (x rest))))
   primary_by_stage kind.OpenBrace t us q =
       kind_stage kind.OpenBrace t us (λ ws. entries_at inner source brackets ws >>= λ f. node (map t.start f.what) f.deep f.rest) q
       (λ ws. refl)
-      (stage_then finish' (λ f. node (map t.start f.what) f.deep f.rest) nothing (λ es. map t.start es) (map_stage us) (λ from rest es x. mapped q x)
+      (stage_then finish' (λ f. node (map t.start f.what) f.deep f.rest) nothing (λ es. map t.start es) (map_stage us)
+      (λ from rest es x. mapped q x)
       (λ f E x. stage_node finish' (map t.start f.what) f.deep f.rest (λ rest. mapped q (x rest))))
   primary_by_stage k t us q =
       no_primary (t ∷ us)
@@ -459,7 +490,8 @@ module _ (source : List ℕ) (inner : Reader) (brackets : ℕ)
         {D = λ ws rest e. (k : Token) × (closes closer.Bracket k.kind ≡ true) × Derives Expression ws (k ∷ rest) e} closer.Bracket
         (λ k from rest e h d. (k, h, d)) us)
         (λ from rest e x. indexed (member_left (o ∷ from)) q x.2 (bracket_is x.0.kind x.1))
-        (λ f E x. stage_node finish' (index o.start left f.what) (max deep f.deep) f.rest (λ rest. indexed (member_left (o ∷ E.onto rest)) q (x rest).2 (bracket_is (x rest).0.kind (x rest).1))))
+        (λ f E x. stage_node finish' (index o.start left f.what) (max deep f.deep) f.rest
+        (λ rest. indexed (member_left (o ∷ E.onto rest)) q (x rest).2 (bracket_is (x rest).0.kind (x rest).1))))
       where
         regroup : (r : Result (Found Tree) ParseFault)
             → ((r >>= closed source closer.Bracket) >>= λ i. node (index o.start left i.what) (max deep i.deep) i.rest)
@@ -480,15 +512,20 @@ module _ (source : List ℕ) (inner : Reader) (brackets : ℕ)
 
     method_stage : (d f : Token) (us : List Token) → d.kind ≡ kind.Dot → is_selector f.kind ≡ true → IsStage
         (λ ws rest e. Derives Member (F.onto (d ∷ f ∷ ws)) rest e)
-        (λ ws. if_at (head_if is_open ws) (node (select f.start left) deep ws) (λ o. items_at inner source brackets closer.Parenthesis o.1 >>= λ g. node (method_tree f.start left g.what) (max deep g.deep) g.rest))
+        (λ ws. if_at (head_if is_open ws) (node (select f.start left) deep ws)
+        (λ o. items_at inner source brackets closer.Parenthesis o.1 >>= λ g. node (method_tree f.start left g.what) (max deep g.deep)
+        g.rest))
         us
     method_stage d f us q h =
         stage_head finish' (λ ws r. r) (node (select f.start left) deep) is_open
-        (λ place ws. items_at inner source brackets closer.Parenthesis ws >>= λ g. node (method_tree f.start left g.what) (max deep g.deep) g.rest)
+        (λ place ws. items_at inner source brackets closer.Parenthesis ws >>= λ g. node (method_tree f.start left g.what) (max deep g.deep)
+        g.rest)
         (λ vs z. stage_node finish' (select f.start left) deep vs (λ rest. selected (member_left (d ∷ f ∷ rest)) q h))
-        (λ o vs z. stage_then finish' (λ g. node (method_tree f.start left g.what) (max deep g.deep) g.rest) nothing (λ es. method_tree f.start left es) (list_stage closer.Parenthesis vs)
+        (λ o vs z. stage_then finish' (λ g. node (method_tree f.start left g.what) (max deep g.deep) g.rest) nothing
+        (λ es. method_tree f.start left es) (list_stage closer.Parenthesis vs)
         (λ from rest es x. method_called (member_left (d ∷ f ∷ o ∷ from)) q h (open_is o.kind z) x)
-        (λ g E x. stage_node finish' (method_tree f.start left g.what) (max deep g.deep) g.rest (λ rest. method_called (member_left (d ∷ f ∷ o ∷ E.onto rest)) q h (open_is o.kind z) (x rest))))
+        (λ g E x. stage_node finish' (method_tree f.start left g.what) (max deep g.deep) g.rest
+        (λ rest. method_called (member_left (d ∷ f ∷ o ∷ E.onto rest)) q h (open_is o.kind z) (x rest))))
         us
 
     dot_stage : (d : Token) (us : List Token) → d.kind ≡ kind.Dot → IsStage (λ ws rest e. Derives Member (F.onto (d ∷ ws)) rest e)
@@ -496,7 +533,9 @@ module _ (source : List ℕ) (inner : Reader) (brackets : ℕ)
     unfolding suffixed method_at
     dot_stage d us q =
         stage_head finish' (λ ws r. r) (λ ws. Err (Unexpected (place_at finish' ws))) is_selector
-        (λ place ws. if_at (head_if is_open ws) (node (select place left) deep ws) (λ o. items_at inner source brackets closer.Parenthesis o.1 >>= λ g. node (method_tree place left g.what) (max deep g.deep) g.rest))
+        (λ place ws. if_at (head_if is_open ws) (node (select place left) deep ws)
+        (λ o. items_at inner source brackets closer.Parenthesis o.1 >>= λ g. node (method_tree place left g.what) (max deep g.deep)
+        g.rest))
         (λ vs h. stage_stuck finish' vs (first a_name nothing) (select 0 left) (λ rest. selected (member_left (d ∷ a_name ∷ rest)) q refl))
         (λ f vs h. method_stage d f vs q h)
         us
@@ -511,11 +550,14 @@ module _ (source : List ℕ) (inner : Reader) (brackets : ℕ)
   more_member_stage zero F left deep d us = gave_up
   more_member_stage (suc turns) F left deep d us =
       stage_suffix finish' (λ ws. Ok (record { what = left; deep = deep; rest = ws }))
-      (λ all x place ws. suffixed inner source brackets x place (record { what = left; deep = deep; rest = all }) ws >>= more suffix_at (go_on_member inner source brackets) turns)
+      (λ all x place ws. suffixed inner source brackets x place (record { what = left; deep = deep; rest = all }) ws >>= more suffix_at
+      (go_on_member inner source brackets) turns)
       (λ vs h. again nothing refl d (λ rest a. refl))
-      (λ t vs q. stage_then finish' (more suffix_at (go_on_member inner source brackets) turns) nothing (λ e. e) (dot_stage F left deep d t vs q) (λ from rest e x. x)
+      (λ t vs q. stage_then finish' (more suffix_at (go_on_member inner source brackets) turns) nothing (λ e. e)
+      (dot_stage F left deep d t vs q) (λ from rest e x. x)
       (λ f E x. more_member_stage turns (behind_front F (first t E)) f.what f.deep x f.rest))
-      (λ t vs q. stage_then finish' (more suffix_at (go_on_member inner source brackets) turns) nothing (λ e. e) (index_stage F left deep d t vs q) (λ from rest e x. x)
+      (λ t vs q. stage_then finish' (more suffix_at (go_on_member inner source brackets) turns) nothing (λ e. e)
+      (index_stage F left deep d t vs q) (λ from rest e x. x)
       (λ f E x. more_member_stage turns (behind_front F (first t E)) f.what f.deep x f.rest))
       us
 
@@ -576,10 +618,16 @@ module _ (source : List ℕ) (inner : Reader) (brackets : ℕ)
     ended_minus : (F C : Front) (e : Tree) → ((rest : List Token) → Derives Member (P.onto (F.onto (C.onto rest))) rest e)
         → IsNumber (P.onto (F.onto (C.onto [])))
         → (x : Tree) × ((rest : List Token) → Derives Minuses (t ∷ P.onto (F.onto (C.onto rest))) rest x)
-    ended_minus F C e d (one_number n m h k) =
-        (number t.start true m, λ rest. subst (λ x. Derives Minuses (t ∷ x) rest (number t.start true m)) (sym ((behind_front P (behind_front F C)).before rest ∙ ap (λ (x : List Token). x ++ rest) h)) (negative q k))
-    ended_minus F C e d (no_lone h) =
-        (unary t.start Negate e, λ rest. minus_one q (λ l. h rest (subst (λ x. IsLone x rest) ((behind_front P (behind_front F C)).before rest) l)) (d rest))
+    ended_minus F C e d (one_number n m h k) = (
+      number t.start true m,
+      λ rest. subst (λ x. Derives Minuses (t ∷ x) rest (number t.start true m))
+          (sym ((behind_front P (behind_front F C)).before rest ∙ ap (λ (x : List Token). x ++ rest) h)) (negative q k),
+    )
+    ended_minus F C e d (no_lone h) = (
+      unary t.start Negate e,
+      λ rest. minus_one q
+          (λ l. h rest (subst (λ x. IsLone x rest) ((behind_front P (behind_front F C)).before rest) l)) (d rest),
+    )
 
     minus_wrap : {r : Result (Found Tree) ParseFault} → Stage finish' (λ ws rest e. Derives Member (P.onto ws) rest e) K us r
         → ((f : Found Tree) → r ≡ Ok f → Single P us f) → Stage finish' (λ ws rest e. Derives Minuses (t ∷ P.onto ws) rest e)
@@ -651,7 +699,9 @@ module _ (source : List ℕ) (inner : Reader) (brackets : ℕ)
       lone_last : (us : List Token) → suffix_at us ≡ None → IsStage (λ ws rest e. Derives Minuses (t ∷ n ∷ ws) rest e) N us
       lone_last us z =
           stage_like finish' N (leaf (number t.start true m)) us
-          (λ vs a. ap (λ (o : Option (Rattle.cel_grammar.specs.declared.heads.Suffix.Suffix × ℕ × List Token)). if_at {A = ℕ × List Token} (if_at o (Some (m, vs)) (λ s. None)) (member inner source brackets (n ∷ vs) >>= wrapped t.start Negate) (λ x. leaf (number t.start true x.0) x.1)) (suffix_none finish' us vs a z))
+          (λ vs a. ap (λ (o : Option (Rattle.cel_grammar.specs.declared.heads.Suffix.Suffix × ℕ × List Token)). if_at {A = ℕ × List Token}
+          (if_at o (Some (m, vs)) (λ s. None)) (member inner source brackets (n ∷ vs) >>= wrapped t.start Negate)
+          (λ x. leaf (number t.start true x.0) x.1)) (suffix_none finish' us vs a z))
           (again nothing refl (λ rest. negative q h) (λ rest a. refl))
 
       still_suffixed : (o p : Option (Rattle.cel_grammar.specs.declared.heads.Suffix.Suffix × ℕ × List Token)) (ws : List Token)
@@ -671,7 +721,8 @@ module _ (source : List ℕ) (inner : Reader) (brackets : ℕ)
           stage_like finish' N (λ ws. behind_number ws >>= wrapped t.start Negate) us
           (λ vs a. still_suffixed (suffix_at vs) None vs (λ e. z (suffix_none finish' vs us (agrees_back us vs a) e)))
           (minus_wrap t q (first n nothing) behind_number us (behind_stage us)
-          (λ f e F w k j y i. z (ap suffix_at (sym w ∙ F.before f.rest ∙ ap (λ (x : List Token). x ++ f.rest) (empty F y)) ∙ behind_ends us f e)))
+          (λ f e F w k j y i. z (ap suffix_at (sym w ∙ F.before f.rest ∙ ap (λ (x : List Token). x ++ f.rest) (empty F y))
+          ∙ behind_ends us f e)))
         where
           empty : (F : Front) {k : Token} → n ∷ F.onto [] ≡ k ∷ [] → F.onto [] ≡ []
           empty F y = let e = y in cc
@@ -726,12 +777,15 @@ module _ (source : List ℕ) (inner : Reader) (brackets : ℕ)
     more_stage zero F left deep d us = gave_up
     more_stage (suc turns) F left deep d us =
         stage_operator finish' (suc n) (λ ws. Ok (record { what = left; deep = deep; rest = ws }))
-        (λ o place ws. (operand ws >>= λ right. node (binary place o left right.what) (max deep right.deep) right.rest) >>= more (operator_at (suc n)) (join operand) turns)
+        (λ o place ws. (operand ws >>= λ right. node (binary place o left right.what) (max deep right.deep) right.rest) >>= more
+        (operator_at (suc n)) (join operand) turns)
         (λ vs h. again nothing refl d (λ rest a. refl))
         (λ t o vs j. stage_then finish' (more (operator_at (suc n)) (join operand) turns) nothing (λ e. e)
-        (stage_then finish' (λ right. node (binary t.start o left right.what) (max deep right.deep) right.rest) nothing (λ e. binary t.start o left e) (operand_stage vs)
+        (stage_then finish' (λ right. node (binary t.start o left right.what) (max deep right.deep) right.rest) nothing
+        (λ e. binary t.start o left e) (operand_stage vs)
         (λ from rest e x. two_operands n (d (t ∷ from)) j x)
-        (λ right E x. stage_node finish' (binary t.start o left right.what) (max deep right.deep) right.rest (λ rest. two_operands n (d (t ∷ E.onto rest)) j (x rest))))
+        (λ right E x. stage_node finish' (binary t.start o left right.what) (max deep right.deep) right.rest
+        (λ rest. two_operands n (d (t ∷ E.onto rest)) j (x rest))))
         (λ from rest e x. x)
         (λ both B b. more_stage turns (behind_front F (first t B)) both.what both.deep b both.rest))
         us
@@ -742,25 +796,31 @@ module _ (source : List ℕ) (inner : Reader) (brackets : ℕ)
   operators_stage (suc n) us =
       stage_then finish' (more (operator_at (suc n)) (join (operators inner source brackets n)) 100) nothing (λ e. e)
       (operators_stage n us) (λ from rest e d. one_operand n d)
-      (λ f F d. more_stage (operators inner source brackets n) n (operators_stage n) 100 F f.what f.deep (λ rest. one_operand n (d rest)) f.rest)
+      (λ f F d. more_stage (operators inner source brackets n) n (operators_stage n) 100 F f.what f.deep (λ rest. one_operand n (d rest))
+      f.rest)
 
   conditional_stage : (turns : ℕ) (us : List Token) → IsStage (Derives Expression) (conditional_at inner source brackets turns) us
   unfolding conditional_at
   conditional_stage zero us = gave_up
   conditional_stage (suc turns) us =
       stage_then finish' _ nothing (λ e. e) (operators_stage 5 us) (λ from rest e d. whole d)
-      (λ c C dc. stage_head finish' (λ ws r. r) (λ ws. Ok (record { what = c.what; deep = c.deep; rest = ws })) is_question (λ place ws. operators inner source brackets 5 ws >>= λ a. if_at (head_if is_colon a.rest) (Err (Unexpected (place_at finish' a.rest))) (λ k. conditional_at inner source brackets turns k.1 >>= picked place c a))
+      (λ c C dc. stage_head finish' (λ ws r. r) (λ ws. Ok (record { what = c.what; deep = c.deep; rest = ws })) is_question
+      (λ place ws. operators inner source brackets 5 ws >>= λ a. if_at (head_if is_colon a.rest)
+      (Err (Unexpected (place_at finish' a.rest))) (λ k. conditional_at inner source brackets turns k.1 >>= picked place c a))
       (λ vs h. again nothing refl (λ rest. whole (dc rest)) (λ rest a. refl))
       (λ q vs h. let hq = question_is q.kind h in
       stage_then finish' _ (first a_colon (first a_truth nothing)) (λ e. conditional q.start c.what e (truth 0 true))
       (operators_stage 5 vs)
       (λ from rest e d. chosen (dc (q ∷ from)) hq d refl (whole (operand_of rest)))
-      (λ a A da. stage_head finish' (λ ws r. r) (λ ws. Err (Unexpected (place_at finish' ws))) is_colon (λ place ws. conditional_at inner source brackets turns ws >>= picked q.start c a)
-      (λ ws i. stage_stuck finish' ws (first a_colon (first a_truth nothing)) (conditional q.start c.what a.what (truth 0 true)) (λ rest. chosen (dc (q ∷ A.onto (a_colon ∷ a_truth ∷ rest))) hq (da (a_colon ∷ a_truth ∷ rest)) refl (whole (operand_of rest))))
+      (λ a A da. stage_head finish' (λ ws r. r) (λ ws. Err (Unexpected (place_at finish' ws))) is_colon
+      (λ place ws. conditional_at inner source brackets turns ws >>= picked q.start c a)
+      (λ ws i. stage_stuck finish' ws (first a_colon (first a_truth nothing)) (conditional q.start c.what a.what (truth 0 true))
+      (λ rest. chosen (dc (q ∷ A.onto (a_colon ∷ a_truth ∷ rest))) hq (da (a_colon ∷ a_truth ∷ rest)) refl (whole (operand_of rest))))
       (λ k ws i. let hk = colon_is k.kind i in
       stage_then finish' (picked q.start c a) nothing (λ e. conditional q.start c.what a.what e) (conditional_stage turns ws)
       (λ from rest e d. chosen (dc (q ∷ A.onto (k ∷ from))) hq (da (k ∷ from)) hk d)
-      (λ b B db. stage_node finish' (conditional q.start c.what a.what b.what) (max c.deep (max a.deep b.deep)) b.rest (λ rest. chosen (dc (q ∷ A.onto (k ∷ B.onto rest))) hq (da (k ∷ B.onto rest)) hk (db rest))))
+      (λ b B db. stage_node finish' (conditional q.start c.what a.what b.what) (max c.deep (max a.deep b.deep)) b.rest
+      (λ rest. chosen (dc (q ∷ A.onto (k ∷ B.onto rest))) hq (da (k ∷ B.onto rest)) hk (db rest))))
       a.rest))
       c.rest)
 

@@ -20,10 +20,22 @@ behind_token : (t u : Token) (a b c d : List Token) → t ≡ u → Fronts a b c
 behind_token t u a b c d e (same_front h) = same_front h
 behind_token t u a b c d e (first_shorter g) =
     first_shorter
-    (record { token = g.token; middle = g.middle; longer = ap (λ (x : Token). x ∷ c) (sym e) ∙ ap (λ (x : List Token). t ∷ x) g.longer; behind = g.behind })
+    (record {
+      token = g.token;
+      middle = g.middle;
+      longer = ap (λ (x : Token). x ∷ c) (sym e)
+          ∙ ap (λ (x : List Token). t ∷ x) g.longer;
+      behind = g.behind;
+    })
 behind_token t u a b c d e (second_shorter g) =
     second_shorter
-    (record { token = g.token; middle = g.middle; longer = ap (λ (x : Token). x ∷ a) e ∙ ap (λ (x : List Token). u ∷ x) g.longer; behind = g.behind })
+    (record {
+      token = g.token;
+      middle = g.middle;
+      longer = ap (λ (x : Token). x ∷ a) e ∙ ap (λ (x : List Token). u ∷ x) g.longer;
+      behind =
+          g.behind;
+    })
 
 fronts : (a b c d : List Token) → a ++ b ≡ c ++ d → Fronts a b c d
 fronts [] b [] d e = same_front e

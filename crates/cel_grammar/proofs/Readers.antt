@@ -138,12 +138,21 @@ module _ (source : List ℕ) (inner : Reader) (brackets opened : ℕ) (room : op
     unfolding closed
     closed_told c ts tree deep e le more_room =
         head_cases (closes c)
-        (λ rest x. Derives Expression ts rest tree → nests (opened + 1) ts ≤ max 100 (nests (opened + 1) rest) → Told (Over source opened (o ∷ ts)) (λ us rest e. Inside c ts e rest e) (depth source) opened opened (o ∷ ts) (if_at x (not_expected source rest) (λ x. Ok (record { what = tree; deep = deep; rest = x.1 }))))
+        (λ rest x. Derives Expression ts rest tree → nests (opened + 1) ts ≤ max 100 (nests (opened + 1) rest)
+        → Told (Over source opened (o ∷ ts)) (λ us rest e. Inside c ts e rest e) (depth source) opened opened (o ∷ ts)
+        (if_at x (not_expected source rest) (λ x. Ok (record { what = tree; deep = deep; rest = x.1 }))))
         (λ rest d w. unexpected)
         (λ k rest h d w.
         let p : nests (open_after (opened + 1) k.kind) rest ≡ nests opened rest =
         ap (λ m. nests m rest) (closing_shuts c k.kind opened h) in
-        found (record { derives = (k, h, d); deep = e; shallow = le; few = few; within = open_within opened (nests opened rest) o ts opens few (omega arith) }))
+        found (record {
+          derives = (k, h, d);
+          deep = e;
+          shallow = le;
+          few = few;
+          within =
+              open_within opened (nests opened rest) o ts opens few (omega arith);
+        }))
 
     inside_told : (c : Closer) (ts : List Token) → Told (Over source opened (o ∷ ts)) (λ us rest e. Inside c ts e rest e)
         (depth source) opened opened (o ∷ ts) (inner ts >>= closed source c)
@@ -180,10 +189,13 @@ module _ (source : List ℕ) (inner : Reader) (brackets opened : ℕ) (room : op
   key_told : {ts : List Token} (tree : Tree) (deep : ℕ) → deep ≡ depth source tree → deep ≤ 100 → (rest : List Token)
       → Derives Expression ts rest tree → nests (opened + 1) ts ≤ max 100 (nests (opened + 1) rest) → Told
       (Over source (opened + 1) ts) IsEntry (depth_of_entry source) (opened + 1) (opened + 1) ts
-      (if_at (head_if is_colon rest) (not_expected source rest) (λ k. inner k.1 >>= λ b. Ok (entered (record { what = tree; deep = deep; rest = rest }) b)))
+      (if_at (head_if is_colon rest) (not_expected source rest)
+      (λ k. inner k.1 >>= λ b. Ok (entered (record { what = tree; deep = deep; rest = rest }) b)))
   key_told {ts} tree deep e le =
       head_cases is_colon
-      (λ us x. Derives Expression ts us tree → nests (opened + 1) ts ≤ max 100 (nests (opened + 1) us) → Told (Over source (opened + 1) ts) IsEntry (depth_of_entry source) (opened + 1) (opened + 1) ts (if_at x (not_expected source us) (λ k. inner k.1 >>= λ b. Ok (entered (record { what = tree; deep = deep; rest = us }) b))))
+      (λ us x. Derives Expression ts us tree → nests (opened + 1) ts ≤ max 100 (nests (opened + 1) us)
+      → Told (Over source (opened + 1) ts) IsEntry (depth_of_entry source) (opened + 1) (opened + 1) ts
+      (if_at x (not_expected source us) (λ k. inner k.1 >>= λ b. Ok (entered (record { what = tree; deep = deep; rest = us }) b))))
       (λ us d w. unexpected)
       (λ k us h d w. value_told (record { what = tree; deep = deep; rest = k ∷ us }) d (colon_is k.kind h) e le w)
 
@@ -206,7 +218,14 @@ module _ (source : List ℕ) (inner : Reader) (brackets opened : ℕ) (room : op
       → Told past (Derives Primary) (depth source) opened opened ts (called_by b (call place es) deep rest)
   call_told true place es deep t d e le w lift =
       found
-      (record { derives = d; deep = e ∙ ap (λ (x : Bool). call_depth x (depth_of_items source es)) t ∙ sym (depth-call source place es); shallow = le; few = few; within = w })
+      (record {
+        derives = d;
+        deep = e ∙ ap (λ (x : Bool). call_depth x (depth_of_items source es)) t
+            ∙ sym (depth-call source place es);
+        shallow = le;
+        few = few;
+        within = w;
+      })
   call_told false place es deep t d e le w lift =
       told_node deep d d
       (ap (λ (n : ℕ). n + 1) e ∙ ap (λ (x : Bool). call_depth x (depth_of_items source es)) t ∙ sym
@@ -218,13 +237,17 @@ module _ (source : List ℕ) (inner : Reader) (brackets opened : ℕ) (room : op
   called_told t o ts q h =
       told_then (called_at source t.start) (items_told o (ap (open_after opened) h) closer.Parenthesis ts)
       (over_from (behind whole_text) (on_plain t (o ∷ ts) q refl))
-      (λ f e r. call_told (is_test source t.start f.what) t.start f.what f.deep refl (called q h r.derives) r.deep r.shallow (within_then _ _ _ (plain t (o ∷ ts) q refl) r.within) (λ x. x))
+      (λ f e r. call_told (is_test source t.start f.what) t.start f.what f.deep refl (called q h r.derives) r.deep r.shallow
+      (within_then _ _ _ (plain t (o ∷ ts) q refl) r.within) (λ x. x))
 
   name_told : (t : Token) → t.kind ≡ kind.Name → (ts : List Token) → Tells Primary (t ∷ ts)
-      (if_at (head_if is_open ts) (Ok (record { what = Rattle.cel_grammar.specs.declared.tree.Tree.Name t.start; deep = 1; rest = ts })) (λ x. items_at inner source brackets closer.Parenthesis x.1 >>= called_at source t.start))
+      (if_at (head_if is_open ts) (Ok (record { what = Rattle.cel_grammar.specs.declared.tree.Tree.Name t.start; deep = 1; rest = ts }))
+      (λ x. items_at inner source brackets closer.Parenthesis x.1 >>= called_at source t.start))
   name_told t q =
       head_cases is_open
-      (λ us x. Tells Primary (t ∷ us) (if_at x (Ok (record { what = Rattle.cel_grammar.specs.declared.tree.Tree.Name t.start; deep = 1; rest = us })) (λ x. items_at inner source brackets closer.Parenthesis x.1 >>= called_at source t.start)))
+      (λ us x. Tells Primary (t ∷ us) (if_at x
+      (Ok (record { what = Rattle.cel_grammar.specs.declared.tree.Tree.Name t.start; deep = 1; rest = us }))
+      (λ x. items_at inner source brackets closer.Parenthesis x.1 >>= called_at source t.start)))
       (λ us. told_leaf source (named q) (depth-name source t.start) few (plain t us q refl))
       (λ o us h. called_told t o us q (open_is o.kind h))
 
@@ -235,10 +258,12 @@ module _ (source : List ℕ) (inner : Reader) (brackets opened : ℕ) (room : op
       told_as (λ rest e d. within q d.2 (close_is d.0.kind d.1)) (inside_told t (ap (open_after opened) q) closer.Parenthesis ts)
   primary_by_told kind.OpenBracket t ts q =
       told_then _ (items_told t (ap (open_after opened) q) closer.Bracket ts) (λ x. x)
-      (λ f e r. told_node f.deep (listed q r.derives) (listed q r.derives) (ap (λ (n : ℕ). n + 1) r.deep ∙ sym (depth-list source t.start f.what)) few r.within (λ x. x))
+      (λ f e r. told_node f.deep (listed q r.derives) (listed q r.derives)
+      (ap (λ (n : ℕ). n + 1) r.deep ∙ sym (depth-list source t.start f.what)) few r.within (λ x. x))
   primary_by_told kind.OpenBrace t ts q =
       told_then _ (entries_told t (ap (open_after opened) q) ts) (λ x. x)
-      (λ f e r. told_node f.deep (mapped q r.derives) (mapped q r.derives) (ap (λ (n : ℕ). n + 1) r.deep ∙ sym (depth-map source t.start f.what)) few r.within (λ x. x))
+      (λ f e r. told_node f.deep (mapped q r.derives) (mapped q r.derives)
+      (ap (λ (n : ℕ). n + 1) r.deep ∙ sym (depth-map source t.start f.what)) few r.within (λ x. x))
   primary_by_told _ t ts q = unexpected
 
   literal_told : (k : TokenKind) (t : Token) (ts : List Token) → t.kind ≡ k → Tells Primary (t ∷ ts)
@@ -277,7 +302,9 @@ module _ (source : List ℕ) (inner : Reader) (brackets opened : ℕ) (room : op
         let x = r.derives in
         let size = depth-index source o.start left i.what in
         let rd = r.deep in
-        told_node {D = λ us rest e. Longer Member ts deep rest e} (max deep i.deep) (indexed d q x.2 (bracket_is x.0.kind x.1)) (indexed d q x.2 (bracket_is x.0.kind x.1), omega arith) (two_deep _ _ _ _ sz r.deep ∙ sym size) few (within_then _ _ _ w r.within) (λ x. x)))
+        told_node {D = λ us rest e. Longer Member ts deep rest e} (max deep i.deep) (indexed d q x.2 (bracket_is x.0.kind x.1))
+        (indexed d q x.2 (bracket_is x.0.kind x.1), omega arith) (two_deep _ _ _ _ sz r.deep ∙ sym size) few
+        (within_then _ _ _ w r.within) (λ x. x)))
       where
         told_at : TellsLonger Member ts deep ((inner us >>= closed source closer.Bracket) >>= indexed_at o.start (at_left (o ∷ us)))
             → TellsLonger Member ts deep (inner us >>= λ i. closed source closer.Bracket i >>= indexed_at o.start (at_left (o ∷ us)))
@@ -296,13 +323,15 @@ module _ (source : List ℕ) (inner : Reader) (brackets opened : ℕ) (room : op
     unfolding method
     method_told d f o us q h z m w =
         told_then _ (items_told o (ap (open_after opened) z) closer.Parenthesis us)
-        (λ x. over_behind m (over_from (behind (behind whole_text)) (le_trans (from_plain opened f (o ∷ us) (selector_plain f.kind opened h)) (on_plain d (f ∷ o ∷ us) q refl)) x))
+        (λ x. over_behind m (over_from (behind (behind whole_text))
+        (le_trans (from_plain opened f (o ∷ us) (selector_plain f.kind opened h)) (on_plain d (f ∷ o ∷ us) q refl)) x))
         (λ g e r.
         let size = depth-method source f.start left g.what in
         let rd = r.deep in
         told_node {D = λ us rest e. Longer Member ts deep rest e} (max deep g.deep) (method_called m q h z r.derives)
         (method_called m q h z r.derives, omega arith) (two_deep _ _ _ _ sz r.deep ∙ sym size) few
-        (within_then _ _ _ w (within_then _ _ _ (plain d (f ∷ o ∷ us) q refl) (within_then _ _ _ (behind_plain opened f (o ∷ us) few (selector_plain f.kind opened h)) r.within))) (λ x. x))
+        (within_then _ _ _ w (within_then _ _ _ (plain d (f ∷ o ∷ us) q refl)
+        (within_then _ _ _ (behind_plain opened f (o ∷ us) few (selector_plain f.kind opened h)) r.within))) (λ x. x))
 
     select_told : (d f : Token) (us : List Token) → d.kind ≡ kind.Dot → is_selector f.kind ≡ true
         → Derives Member ts (d ∷ f ∷ us) left → nests opened ts ≤ max 100 (nests opened (d ∷ f ∷ us))
@@ -311,12 +340,16 @@ module _ (source : List ℕ) (inner : Reader) (brackets opened : ℕ) (room : op
         (λ o. items_at inner source brackets closer.Parenthesis o.1 >>= method f.start (at_left (d ∷ f ∷ us))))
     select_told d f us q h =
         head_cases is_open
-        (λ vs x. Derives Member ts (d ∷ f ∷ vs) left → nests opened ts ≤ max 100 (nests opened (d ∷ f ∷ vs)) → TellsLonger Member ts deep (if_at x (Rattle.cel_grammar.specs.Descent.selected f.start (at_left (d ∷ f ∷ vs)) vs) (λ o. items_at inner source brackets closer.Parenthesis o.1 >>= method f.start (at_left (d ∷ f ∷ vs)))))
+        (λ vs x. Derives Member ts (d ∷ f ∷ vs) left → nests opened ts ≤ max 100 (nests opened (d ∷ f ∷ vs))
+        → TellsLonger Member ts deep
+        (if_at x (Rattle.cel_grammar.specs.Descent.selected f.start (at_left (d ∷ f ∷ vs)) vs)
+        (λ o. items_at inner source brackets closer.Parenthesis o.1 >>= method f.start (at_left (d ∷ f ∷ vs)))))
         (λ vs m w.
         let size = depth-select source f.start left in
         told_node {D = λ us rest e. Longer Member ts deep rest e} deep (selected m q h) (selected m q h, omega arith)
         (ap (λ (n : ℕ). n + 1) sz ∙ sym size) few
-        (within_then _ _ _ w (within_then _ _ _ (plain d (f ∷ vs) q refl) (behind_plain opened f vs few (selector_plain f.kind opened h)))) (λ x. x))
+        (within_then _ _ _ w (within_then _ _ _ (plain d (f ∷ vs) q refl) (behind_plain opened f vs few (selector_plain f.kind opened h))))
+        (λ x. x))
         (λ o vs z m w. method_told d f o vs q h (open_is o.kind z) m w)
         us
 
@@ -326,7 +359,11 @@ module _ (source : List ℕ) (inner : Reader) (brackets opened : ℕ) (room : op
     unfolding suffixed
     dot_told d us q =
         head_cases is_selector
-        (λ vs x. Derives Member ts (d ∷ vs) left → nests opened ts ≤ max 100 (nests opened (d ∷ vs)) → TellsLonger Member ts deep (if_at x (not_expected source vs) (λ s. if_at (head_if is_open s.1) (Rattle.cel_grammar.specs.Descent.selected s.0 (at_left (d ∷ vs)) s.1) (λ o. items_at inner source brackets closer.Parenthesis o.1 >>= method s.0 (at_left (d ∷ vs))))))
+        (λ vs x. Derives Member ts (d ∷ vs) left → nests opened ts ≤ max 100 (nests opened (d ∷ vs))
+        → TellsLonger Member ts deep
+        (if_at x (not_expected source vs)
+        (λ s. if_at (head_if is_open s.1) (Rattle.cel_grammar.specs.Descent.selected s.0 (at_left (d ∷ vs)) s.1)
+        (λ o. items_at inner source brackets closer.Parenthesis o.1 >>= method s.0 (at_left (d ∷ vs))))))
         (λ vs m w. unexpected)
         (λ f vs h m w. select_told d f vs q h m w)
         us
@@ -337,13 +374,21 @@ module _ (source : List ℕ) (inner : Reader) (brackets opened : ℕ) (room : op
     unfolding suffixed
     suffix_told =
         suffix_cases
-        (λ us o. Derives Member ts us left → nests opened ts ≤ max 100 (nests opened us) → (x : Suffix × ℕ × List Token) → o ≡ Some x → TellsLonger Member ts deep (go_on_member inner source brackets x (at_left us)))
+        (λ us o. Derives Member ts us left → nests opened ts ≤ max 100 (nests opened us) → (x : Suffix × ℕ × List Token) → o ≡ Some x
+        → TellsLonger Member ts deep (go_on_member inner source brackets x (at_left us)))
         (λ us h m w x e. absurd cc)
-        (λ d us q m w x e. subst (λ (y : Suffix × ℕ × List Token). TellsLonger Member ts deep (go_on_member inner source brackets y (at_left (d ∷ us)))) (let s : (suffix.Selector, d.start, us) ≡ x = cc in s) (dot_told d us q m w))
-        (λ o us q m w x e. subst (λ (y : Suffix × ℕ × List Token). TellsLonger Member ts deep (go_on_member inner source brackets y (at_left (o ∷ us)))) (let s : (suffix.Index, o.start, us) ≡ x = cc in s) (index_told o us q m w))
+        (λ d us q m w x e. subst (λ (y : Suffix × ℕ × List Token). TellsLonger Member ts deep
+        (go_on_member inner source brackets y (at_left (d ∷ us)))) (let s : (suffix.Selector, d.start, us) ≡ x = cc in s)
+        (dot_told d us q m w))
+        (λ o us q m w x e. subst (λ (y : Suffix × ℕ × List Token). TellsLonger Member ts deep
+        (go_on_member inner source brackets y (at_left (o ∷ us)))) (let s : (suffix.Index, o.start, us) ≡ x = cc in s)
+        (index_told o us q m w))
 
   -- a loop that goes on while something stands first that is asked for
-  module _ {A : Type 0} (p : Part) (ask : List Token → Option A) (act : A → Found Tree → Read) (act_told : (ts : List Token) (left : Tree) (deep : ℕ) → deep ≡ depth source left → deep ≤ 100 → (rest : List Token) → Derives p ts rest left → nests opened ts ≤ max 100 (nests opened rest) → (x : A) → ask rest ≡ Some x → TellsLonger p ts deep (act x (record { what = left; deep = deep; rest = rest }))) where
+  module _ {A : Type 0} (p : Part) (ask : List Token → Option A) (act : A → Found Tree → Read)
+      (act_told : (ts : List Token) (left : Tree) (deep : ℕ) → deep ≡ depth source left → deep ≤ 100 → (rest : List Token)
+      → Derives p ts rest left → nests opened ts ≤ max 100 (nests opened rest) → (x : A) → ask rest ≡ Some x
+      → TellsLonger p ts deep (act x (record { what = left; deep = deep; rest = rest }))) where
     more_told : (turns : ℕ) (ts : List Token) (left : Tree) (deep : ℕ) → deep ≡ depth source left → deep ≤ 100
         → 101 ≤ turns + deep → (rest : List Token) → Derives p ts rest left → nests opened ts ≤ max 100 (nests opened rest)
         → Tells p ts (more ask act turns (record { what = left; deep = deep; rest = rest }))
@@ -351,17 +396,20 @@ module _ (source : List ℕ) (inner : Reader) (brackets opened : ℕ) (room : op
     more_told zero ts left deep e le lots rest d w = absurd (omega arith)
     more_told (suc turns) ts left deep e le lots rest d w =
         option_cases
-        (λ o. Tells p ts (if_at o (Ok (record { what = left; deep = deep; rest = rest })) (λ x. act x (record { what = left; deep = deep; rest = rest }) >>= more ask act turns)))
+        (λ o. Tells p ts (if_at o (Ok (record { what = left; deep = deep; rest = rest }))
+        (λ x. act x (record { what = left; deep = deep; rest = rest }) >>= more ask act turns)))
         (ask rest)
         (λ h. found (record { derives = d; deep = e; shallow = le; few = few; within = w }))
         (λ x h. told_then (more ask act turns) (act_told ts left deep e le rest d w x h) (λ y. y)
-        (λ f q r. let lt = r.derives.1 in let rd = r.deep in more_told turns ts f.what f.deep r.deep r.shallow (omega arith) f.rest r.derives.0 r.within))
+        (λ f q r. let lt = r.derives.1 in let rd = r.deep
+        in more_told turns ts f.what f.deep r.deep r.shallow (omega arith) f.rest r.derives.0 r.within))
 
     read_told : {q : Part} {r : Read} (ts : List Token) → Tells q ts r
         → ((rest : List Token) (e : Tree) → Derives q ts rest e → Derives p ts rest e) → Tells p ts (r >>= more ask act 100)
     read_told ts x as' =
         told_then _ x (λ y. y)
-        (λ f e r. let pos = depth_pos source f.what in let deep = r.deep in more_told 100 ts f.what f.deep r.deep r.shallow (omega arith) f.rest (as' f.rest f.what r.derives) r.within)
+        (λ f e r. let pos = depth_pos source f.what in let deep = r.deep
+        in more_told 100 ts f.what f.deep r.deep r.shallow (omega arith) f.rest (as' f.rest f.what r.derives) r.within)
 
   member_told : (ts : List Token) → Tells Member ts (member inner source brackets ts)
   unfolding member
@@ -393,7 +441,9 @@ module _ (source : List ℕ) (inner : Reader) (brackets opened : ℕ) (room : op
   nots_told zero t ts q = exceeded (inr (sign q no_sign))
   nots_told (suc turns) t ts q =
       head_cases is_bang
-      (λ us x. ToldPast (Over source opened (t ∷ us) ⊎ Signs Not (suc (suc turns)) (t ∷ us)) Nots (t ∷ us) (if_at x (member inner source brackets us) (λ x. nots_at inner source brackets turns x.1 >>= wrapped x.0 Not) >>= wrapped t.start Not))
+      (λ us x. ToldPast (Over source opened (t ∷ us) ⊎ Signs Not (suc (suc turns)) (t ∷ us)) Nots (t ∷ us)
+      (if_at x (member inner source brackets us) (λ x. nots_at inner source brackets turns x.1 >>= wrapped x.0 Not) >>= wrapped t.start
+      Not))
       (λ us. told_then (wrapped t.start Not) (member_told us) (λ x. inl (over_from (behind whole_text) (on_plain t us q refl) x))
       (λ f e r. wrapped_told f q refl (not_one q r.derives) r.deep r.within inl))
       (λ u us h. told_then (wrapped t.start Not) (nots_told turns u us (bang_is u.kind h))
@@ -405,13 +455,17 @@ module _ (source : List ℕ) (inner : Reader) (brackets opened : ℕ) (room : op
   last_told : (past : List Token → Type 0) (t : Token) → t.kind ≡ kind.Operator op.Subtract
       → (lift : (ts : List Token) → Over source opened (t ∷ ts) → past ts) → (ts : List Token) → ToldPast (past ts) Minuses
       (t ∷ ts)
-      (if_at (lone_at ts) (member inner source brackets ts >>= wrapped t.start Negate) (λ n. Ok (record { what = number t.start true n.0; deep = 1; rest = n.1 })))
+      (if_at (lone_at ts) (member inner source brackets ts >>= wrapped t.start Negate)
+      (λ n. Ok (record { what = number t.start true n.0; deep = 1; rest = n.1 })))
   last_told past t q lift =
       lone_cases
-      (λ us x. ToldPast (past us) Minuses (t ∷ us) (if_at x (member inner source brackets us >>= wrapped t.start Negate) (λ n. Ok (record { what = number t.start true n.0; deep = 1; rest = n.1 }))))
+      (λ us x. ToldPast (past us) Minuses (t ∷ us)
+      (if_at x (member inner source brackets us >>= wrapped t.start Negate)
+      (λ n. Ok (record { what = number t.start true n.0; deep = 1; rest = n.1 }))))
       (λ us h. told_then (wrapped t.start Negate) (member_told us) (λ x. lift us (over_from (behind whole_text) (on_plain t us q refl) x))
       (λ f e r. wrapped_told f q refl (minus_one q (lone_kept us f.rest (member_ends us f e) h) r.derives) r.deep r.within (lift us)))
-      (λ u n us h z. told_leaf source (negative q h) (depth-number source _ _ _) few (within_then _ _ _ (plain t (u ∷ us) q refl) (plain u us h refl)))
+      (λ u n us h z. told_leaf source (negative q h) (depth-number source _ _ _) few
+      (within_then _ _ _ (plain t (u ∷ us) q refl) (plain u us h refl)))
 
   abbrev Minused : ℕ → Token → List Token → Type 0
   Minused turns t ts = Over source opened (t ∷ ts) ⊎ Signs Negate (suc turns) (t ∷ ts)
@@ -423,7 +477,10 @@ module _ (source : List ℕ) (inner : Reader) (brackets opened : ℕ) (room : op
   minuses_told zero t ts q = exceeded (inr (sign q no_sign))
   minuses_told (suc turns) t ts q =
       head_cases is_minus
-      (λ us x. ToldPast (Minused (suc turns) t us) Minuses (t ∷ us) (if_at x (if_at (lone_at us) (member inner source brackets us >>= wrapped t.start Negate) (λ n. Ok (record { what = number t.start true n.0; deep = 1; rest = n.1 }))) (λ x. minuses_at inner source brackets turns x.0 x.1 >>= wrapped t.start Negate)))
+      (λ us x. ToldPast (Minused (suc turns) t us) Minuses (t ∷ us)
+      (if_at x (if_at (lone_at us) (member inner source brackets us >>= wrapped t.start Negate)
+      (λ n. Ok (record { what = number t.start true n.0; deep = 1; rest = n.1 })))
+      (λ x. minuses_at inner source brackets turns x.0 x.1 >>= wrapped t.start Negate)))
       (last_told (Minused (suc turns) t) t q (λ us x. inl x))
       (λ u us h. told_then (wrapped t.start Negate) (minuses_told turns u us (minus_is u.kind h))
       (λ x. elim x [ inl y ↦ inl (over_from (behind whole_text) (on_plain t (u ∷ us) q refl) y) | inr s ↦ inr (sign q s) ])
@@ -446,7 +503,8 @@ module _ (source : List ℕ) (inner : Reader) (brackets opened : ℕ) (room : op
   unfolding unary_at
   unary_told =
       head_cases is_bang
-      (λ us x. Tells Unary us (if_at x (if_at (head_if is_minus us) (member inner source brackets us) (λ x. minuses_at inner source brackets 100 x.0 x.1)) (λ x. nots_at inner source brackets 100 x.1 >>= wrapped x.0 Not)))
+      (λ us x. Tells Unary us (if_at x (if_at (head_if is_minus us) (member inner source brackets us)
+      (λ x. minuses_at inner source brackets 100 x.0 x.1)) (λ x. nots_at inner source brackets 100 x.1 >>= wrapped x.0 Not)))
       unsigned_told
       (λ u us h. told_as (λ rest e d. nots d) (told_past (signed_past Not (u ∷ us)) (nots_told 100 u us (bang_is u.kind h))))
 
@@ -471,9 +529,12 @@ module _ (source : List ℕ) (inner : Reader) (brackets opened : ℕ) (room : op
         → TellsLonger (part (suc n)) ts deep (join operand x (record { what = left; deep = deep; rest = rest }))
     join_told ts left deep e le =
         operator_cases (suc n)
-        (λ us o. Derives (part (suc n)) ts us left → nests opened ts ≤ max 100 (nests opened us) → (x : Joint × ℕ × List Token) → o ≡ Some x → TellsLonger (part (suc n)) ts deep (join operand x (record { what = left; deep = deep; rest = us })))
+        (λ us o. Derives (part (suc n)) ts us left → nests opened ts ≤ max 100 (nests opened us) → (x : Joint × ℕ × List Token)
+        → o ≡ Some x → TellsLonger (part (suc n)) ts deep (join operand x (record { what = left; deep = deep; rest = us })))
         (λ us d w x h. absurd cc)
-        (λ t o mid j d w x h. subst (λ (y : Joint × ℕ × List Token). TellsLonger (part (suc n)) ts deep (join operand y (record { what = left; deep = deep; rest = t ∷ mid }))) (let s : (o, t.start, mid) ≡ x = cc in s) (right_told ts mid t o left deep d j e w))
+        (λ t o mid j d w x h. subst (λ (y : Joint × ℕ × List Token). TellsLonger (part (suc n)) ts deep
+        (join operand y (record { what = left; deep = deep; rest = t ∷ mid }))) (let s : (o, t.start, mid) ≡ x = cc in s)
+        (right_told ts mid t o left deep d j e w))
 
   operators_told : (n : ℕ) (ts : List Token) → Tells (part n) ts (operators inner source brackets n ts)
   unfolding operators
@@ -499,10 +560,12 @@ module _ (source : List ℕ) (inner : Reader) (brackets opened : ℕ) (room : op
           | inl y ↦
               inl
               (over_behind dc
-              (over_from (behind whole_text) (on_plain q mid hq refl) (over_behind da (over_from (behind whole_text) (on_plain k last hk refl) y))))
+              (over_from (behind whole_text) (on_plain q mid hq refl)
+              (over_behind da (over_from (behind whole_text) (on_plain k last hk refl) y))))
           | inr y ↦ inr (conditional_more dc hq da hk y)
         ])
-        (λ b e r. told_node (max c.deep (max a.deep b.deep)) (chosen dc hq da hk r.derives) (chosen dc hq da hk r.derives) (three_deep _ _ _ _ _ _ ec ea r.deep ∙ sym (depth-conditional source _ _ _ _)) few
+        (λ b e r. told_node (max c.deep (max a.deep b.deep)) (chosen dc hq da hk r.derives) (chosen dc hq da hk r.derives)
+        (three_deep _ _ _ _ _ _ ec ea r.deep ∙ sym (depth-conditional source _ _ _ _)) few
         (within_then _ _ _ wc
         (within_then _ _ _ (plain q mid hq refl) (within_then _ _ _ wa (within_then _ _ _ (plain k last hk refl) r.within)))) inl)
 
@@ -510,20 +573,30 @@ module _ (source : List ℕ) (inner : Reader) (brackets opened : ℕ) (room : op
         → q.kind ≡ kind.Question → c.deep ≡ depth source c.what → deep ≡ depth source tree
         → nests opened ts ≤ max 100 (nests opened (q ∷ mid)) → (rest : List Token) → Derives ConditionalOr mid rest tree
         → nests opened mid ≤ max 100 (nests opened rest) → ToldPast (Chosen (suc turns) ts) Expression ts
-        (if_at (head_if is_colon rest) (not_expected source rest) (λ k. conditional_at inner source brackets turns k.1 >>= picked q.start c (record { what = tree; deep = deep; rest = rest })))
+        (if_at (head_if is_colon rest) (not_expected source rest)
+        (λ k. conditional_at inner source brackets turns k.1 >>= picked q.start c (record { what = tree; deep = deep; rest = rest })))
     yes_told {ts} {mid} {q} c tree deep dc hq ec ea wc =
         head_cases is_colon
-        (λ us x. Derives ConditionalOr mid us tree → nests opened mid ≤ max 100 (nests opened us) → ToldPast (Chosen (suc turns) ts) Expression ts (if_at x (not_expected source us) (λ k. conditional_at inner source brackets turns k.1 >>= picked q.start c (record { what = tree; deep = deep; rest = us }))))
+        (λ us x. Derives ConditionalOr mid us tree → nests opened mid ≤ max 100 (nests opened us)
+        → ToldPast (Chosen (suc turns) ts) Expression ts
+        (if_at x (not_expected source us)
+        (λ k. conditional_at inner source brackets turns k.1 >>= picked q.start c (record { what = tree; deep = deep; rest = us }))))
         (λ us d w. unexpected)
         (λ k last h d w. no_told c (record { what = tree; deep = deep; rest = k ∷ last }) dc hq d (colon_is k.kind h) ec ea wc w)
 
     test_told : {ts : List Token} (tree : Tree) (deep : ℕ) → deep ≡ depth source tree → deep ≤ 100 → (rest : List Token)
         → Derives ConditionalOr ts rest tree → nests opened ts ≤ max 100 (nests opened rest) → ToldPast
         (Chosen (suc turns) ts) Expression ts
-        (if_at (head_if is_question rest) (Ok (record { what = tree; deep = deep; rest = rest })) (λ q. operators inner source brackets 5 q.1 >>= λ a. if_at (head_if is_colon a.rest) (not_expected source a.rest) (λ k. conditional_at inner source brackets turns k.1 >>= picked q.0 (record { what = tree; deep = deep; rest = rest }) a)))
+        (if_at (head_if is_question rest) (Ok (record { what = tree; deep = deep; rest = rest }))
+        (λ q. operators inner source brackets 5 q.1 >>= λ a. if_at (head_if is_colon a.rest) (not_expected source a.rest)
+        (λ k. conditional_at inner source brackets turns k.1 >>= picked q.0 (record { what = tree; deep = deep; rest = rest }) a)))
     test_told {ts} tree deep e le =
         head_cases is_question
-        (λ us x. Derives ConditionalOr ts us tree → nests opened ts ≤ max 100 (nests opened us) → ToldPast (Chosen (suc turns) ts) Expression ts (if_at x (Ok (record { what = tree; deep = deep; rest = us })) (λ q. operators inner source brackets 5 q.1 >>= λ a. if_at (head_if is_colon a.rest) (not_expected source a.rest) (λ k. conditional_at inner source brackets turns k.1 >>= picked q.0 (record { what = tree; deep = deep; rest = us }) a))))
+        (λ us x. Derives ConditionalOr ts us tree → nests opened ts ≤ max 100 (nests opened us)
+        → ToldPast (Chosen (suc turns) ts) Expression ts
+        (if_at x (Ok (record { what = tree; deep = deep; rest = us }))
+        (λ q. operators inner source brackets 5 q.1 >>= λ a. if_at (head_if is_colon a.rest) (not_expected source a.rest)
+        (λ k. conditional_at inner source brackets turns k.1 >>= picked q.0 (record { what = tree; deep = deep; rest = us }) a))))
         (λ us d w. found (record { derives = whole d; deep = e; shallow = le; few = few; within = w }))
         (λ q mid h d w.
         let hq = question_is q.kind h in

@@ -64,7 +64,9 @@ module _ {A : Type 0} (source : List ℕ) (brackets opened : ℕ) (room : opened
     further m us h d (inl x) =
         inl
         (over_from (behind_first (rules.end_of d))
-        (let b = rules.balanced d (opened + 1) in let p = past_plain (opened + 1) m us (ap (open_after (opened + 1)) h) (let r : nests (opened + 1) us ≤ nests (opened + 1) us = omega arith in r) in omega arith)
+        (let b = rules.balanced d (opened + 1) in let p =
+        past_plain (opened + 1) m us (ap (open_after (opened + 1)) h)
+        (let r : nests (opened + 1) us ≤ nests (opened + 1) us = omega arith in r) in omega arith)
         x)
     further m us h d (inr le) = inr (let short = end_le (rules.end_of d) in omega arith)
 
@@ -76,7 +78,14 @@ module _ {A : Type 0} (source : List ℕ) (brackets opened : ℕ) (room : opened
         (λ f q r.
         let p : nests (open_after (opened + 1) m.kind) us ≡ nests (opened + 1) us = ap (λ j. nests (open_after (opened + 1) j) us) h in
         let rd = r.deep in let rs = r.shallow in let rw' = r.within in
-        found (record { derives = rules.next d h r.derives; deep = two_deep deep (size what) f.deep (sizes f.what) sz rd ∙ sym (rules.more_size what f.what); shallow = omega arith; few = few; within = omega arith }))
+        found (record {
+          derives = rules.next d h r.derives;
+          deep = two_deep deep (size what) f.deep (sizes f.what) sz rd
+              ∙ sym (rules.more_size what f.what);
+          shallow = omega arith;
+          few = few;
+          within = omega arith;
+        }))
       where
         two_deep : (a b c d : ℕ) → a ≡ b → c ≡ d → max a c ≡ max b d
         two_deep a b c d p q = rw (p, q) refl
@@ -85,11 +94,22 @@ module _ {A : Type 0} (source : List ℕ) (brackets opened : ℕ) (room : opened
         → Tells (suc turns) ts (step_at source c rest >>= moved (items_from source c item turns) (first rest))
     step_told =
         end_cases c
-        (λ us o. D ts us what → nests (opened + 1) ts ≤ max 100 (nests (opened + 1) us) → Tells (suc turns) ts (if_at o (if_at (head_if is_comma us) (not_expected source us) (λ x. Ok (go_on x.1))) (λ x. Ok (stop x.1)) >>= moved (items_from source c item turns) (first us)))
-        (head_cases is_comma (λ us o. D ts us what → nests (opened + 1) ts ≤ max 100 (nests (opened + 1) us) → Tells (suc turns) ts (if_at o (not_expected source us) (λ x. Ok (go_on x.1)) >>= moved (items_from source c item turns) (first us)))
+        (λ us o. D ts us what → nests (opened + 1) ts ≤ max 100 (nests (opened + 1) us)
+        → Tells (suc turns) ts (if_at o (if_at (head_if is_comma us) (not_expected source us) (λ x. Ok (go_on x.1)))
+        (λ x. Ok (stop x.1)) >>= moved (items_from source c item turns) (first us)))
+        (head_cases is_comma (λ us o. D ts us what → nests (opened + 1) ts ≤ max 100 (nests (opened + 1) us)
+        → Tells (suc turns) ts (if_at o (not_expected source us) (λ x. Ok (go_on x.1)) >>= moved (items_from source c item turns)
+        (first us)))
         (λ us d w. unexpected)
         (λ m us h d w. others_of m us (comma_is m.kind h) d w))
-        (λ place us rest e d w. found (record { derives = rules.last d e; deep = sz ∙ sym (rules.one_size what); shallow = shallow; few = few; within = (let z = end_within e opened few in omega arith) }))
+        (λ place us rest e d w. found (record {
+          derives = rules.last d e;
+          deep = sz ∙ sym (rules.one_size what);
+          shallow = shallow;
+          few = few;
+          within =
+              (let z = end_within e opened few in omega arith);
+        }))
 
   items_told : (turns : ℕ) (ts : List Token) → Tells turns ts (items_from source c item turns ts)
   unfolding items_from
@@ -110,7 +130,14 @@ module _ {A : Type 0} (source : List ℕ) (brackets opened : ℕ) (room : opened
     some_told : {ts : List Token} {r : ReadOf (List A)} → Tells 16384 ts r → RowTells ts r
     some_told {ts} (found {f} r) =
         found
-        (record { derives = rules.some r.derives; deep = r.deep; shallow = r.shallow; few = (let e = room in omega arith); within = open_within opened (nests opened f.rest) o ts opens (let e = room in omega arith) r.within })
+        (record {
+          derives = rules.some r.derives;
+          deep = r.deep;
+          shallow = r.shallow;
+          few = (let e = room in omega arith);
+          within =
+              open_within opened (nests opened f.rest) o ts opens (let e = room in omega arith) r.within;
+        })
     some_told {ts} (exceeded x) = exceeded (row_past ts x)
     some_told unexpected = unexpected
 
@@ -122,11 +149,20 @@ module _ {A : Type 0} (source : List ℕ) (brackets opened : ℕ) (room : opened
         exceeded (exceeds (too_many (omega arith)))
     row_by (suc b) e ts =
         end_cases c
-        (λ us p. RowTells us (if_at p (if_at (spare_comma_at c us) (Ok None) (λ x. not_expected source x.1)) (λ x. Ok (Some x)) >>= any_items source c item us))
-        (λ us. option_cases (λ p. RowTells us (if_at p (Ok None) (λ x. not_expected source x.1) >>= any_items source c item us)) (spare_comma_at c us)
+        (λ us p. RowTells us (if_at p (if_at (spare_comma_at c us) (Ok None) (λ x. not_expected source x.1)) (λ x. Ok (Some x)) >>=
+        any_items source c item us))
+        (λ us. option_cases (λ p. RowTells us (if_at p (Ok None) (λ x. not_expected source x.1) >>= any_items source c item us))
+        (spare_comma_at c us)
         (λ h. some_told (items_told 16384 us))
         (λ x h. unexpected))
-        (λ place us rest z. found (record { derives = rules.none z; deep = sym rules.no_size; shallow = omega arith; few = omega arith; within = open_within opened (nests opened rest) o us opens (omega arith) (end_within z opened (omega arith)) }))
+        (λ place us rest z. found (record {
+          derives = rules.none z;
+          deep = sym rules.no_size;
+          shallow = omega arith;
+          few = omega arith;
+          within =
+              open_within opened (nests opened rest) o us opens (omega arith) (end_within z opened (omega arith));
+        }))
         ts
 
     pub row_told : (ts : List Token) → RowTells ts (opened_at source brackets c ts >>= any_items source c item ts)

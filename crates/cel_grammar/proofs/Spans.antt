@@ -167,7 +167,8 @@ mutual
   balanced (method_called {mid = mid} {d = p} {f = t} {o} d q h z r) k =
       le_trans
       (le_trans (balanced_list r k)
-      (past_plain k p (t ∷ o ∷ mid) (ap (open_after k) q) (past_plain k t (o ∷ mid) (selector_plain t.kind k h) (past_token k (k + 1) o mid (ap (open_after k) z)))))
+      (past_plain k p (t ∷ o ∷ mid) (ap (open_after k) q)
+      (past_plain k t (o ∷ mid) (selector_plain t.kind k h) (past_token k (k + 1) o mid (ap (open_after k) z)))))
       (balanced d k)
   balanced (indexed {mid = mid} {rest} {o} {k = t} d q r h) k =
       le_trans

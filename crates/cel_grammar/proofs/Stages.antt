@@ -33,13 +33,19 @@ abbrev pub nothing : Front
 nothing = record { onto = λ rest. rest; agrees = λ us vs a. a; before = λ rest. refl }
 
 abbrev pub first : Token → Front → Front
-first t f = record { onto = λ rest. t ∷ f.onto rest; agrees = λ us vs a. same_first; before = λ rest. ap (λ (r : List Token). t ∷ r) (f.before rest) }
+first t f = record {
+  onto = λ rest. t ∷ f.onto rest;
+  agrees = λ us vs a. same_first;
+  before =
+      λ rest. ap (λ (r : List Token). t ∷ r) (f.before rest);
+}
 
 abbrev pub behind_front : Front → Front → Front
 behind_front f g = record {
   onto = λ rest. f.onto (g.onto rest);
   agrees = λ us vs a. f.agrees (g.onto us) (g.onto vs) (g.agrees us vs a);
-  before = λ rest. f.before (g.onto rest) ∙ ap (λ (r : List Token). f.onto [] ++ r) (g.before rest) ∙ sym (append_assoc (f.onto []) (g.onto []) rest) ∙ ap (λ (r : List Token). r ++ rest) (sym (f.before (g.onto [])));
+  before = λ rest. f.before (g.onto rest) ∙ ap (λ (r : List Token). f.onto [] ++ r) (g.before rest)
+      ∙ sym (append_assoc (f.onto []) (g.onto []) rest) ∙ ap (λ (r : List Token). r ++ rest) (sym (f.before (g.onto [])));
 }
 
 -- What a reader gives for us it gives again for what goes on in another way behind the first token that it leaves: a
@@ -82,7 +88,8 @@ module _ (finish : ℕ) where
   pub stage_then : {A B : Type 0} {D : Relation A} {D' : Relation B} {K : List Token → ReadOf A} {us : List Token} {r : ReadOf A}
       (go : Found A → ReadOf B) (C : Front) (grow : A → B) → Stage finish D K us r
       → ((from rest : List Token) (e : A) → D from (C.onto rest) e → D' from rest (grow e)) →
-      ((f : Found A) (F : Front) → ((rest : List Token) → D (F.onto rest) rest f.what) → Stage finish (λ ws. D' (F.onto ws)) (λ rest. go (record { what = f.what; deep = f.deep; rest = rest })) f.rest (go f))
+      ((f : Found A) (F : Front) → ((rest : List Token) → D (F.onto rest) rest f.what)
+      → Stage finish (λ ws. D' (F.onto ws)) (λ rest. go (record { what = f.what; deep = f.deep; rest = rest })) f.rest (go f))
       → Stage finish D' (λ vs. K vs >>= go) us (r >>= go)
   stage_then {A} {K = K} {us} go C grow (again {f} F e d k) end next =
       stage_behind us (λ vs. K vs >>= go) F e (λ rest a. ap (λ (o : ReadOf A). o >>= go) (k rest a)) (next f F d)
@@ -174,7 +181,11 @@ module _ (finish : ℕ) where
   abbrev if_suffix : Reader → (List Token → Suffix → ℕ → Reader) → Reader
   if_suffix otherwise go ws = if_at (suffix_at ws) (otherwise ws) (λ x. go ws x.0 x.1 x.2)
 
-  module _ {A B : Type 0} {D : Relation A} (after : List Token → B → ReadOf A) (otherwise : List Token → B) (test : TokenKind → Bool) (go : ℕ → List Token → B) (if_not : (vs : List Token) → head_if test vs ≡ None → Stage finish D (λ ws. after ws (otherwise ws)) vs (after vs (otherwise vs))) (if_so : (t : Token) (vs : List Token) → test t.kind ≡ true → Stage finish (λ ws. D (t ∷ ws)) (λ ws. after (t ∷ ws) (go t.start ws)) vs (after (t ∷ vs) (go t.start vs))) where
+  module _ {A B : Type 0} {D : Relation A} (after : List Token → B → ReadOf A) (otherwise : List Token → B) (test : TokenKind → Bool)
+      (go : ℕ → List Token → B) (if_not : (vs : List Token) → head_if test vs ≡ None
+      → Stage finish D (λ ws. after ws (otherwise ws)) vs (after vs (otherwise vs)))
+      (if_so : (t : Token) (vs : List Token) → test t.kind ≡ true
+      → Stage finish (λ ws. D (t ∷ ws)) (λ ws. after (t ∷ ws) (go t.start ws)) vs (after (t ∷ vs) (go t.start vs))) where
     head_not : (us : List Token) → head_if test us ≡ None
         → Stage finish D (if_head after otherwise test go) us (if_head after otherwise test go us)
     head_not us h =

@@ -171,7 +171,8 @@ module _ (c : Closer) (P : List Token → Option (ℕ × List Token) → Type 0)
   comma_by false h ts = if_not ts
   comma_by true h ts =
       head_cases is_comma (λ us o. P us (if_at o None (λ x. head_if (closes c) x.1))) if_not
-      (λ m us q. head_cases (closes c) (λ vs o. P (m ∷ vs) o) (λ vs. if_not (m ∷ vs)) (λ k vs z. if_so k.start (m ∷ k ∷ vs) vs (comma_end h (comma_is m.kind q) z)) us)
+      (λ m us q. head_cases (closes c) (λ vs o. P (m ∷ vs) o) (λ vs. if_not (m ∷ vs))
+      (λ k vs z. if_so k.start (m ∷ k ∷ vs) vs (comma_end h (comma_is m.kind q) z)) us)
       ts
 
   pub end_cases : (ts : List Token) → P ts (end_at c ts)
@@ -193,7 +194,8 @@ module _ (P : List Token → Option (ℕ × List Token) → Type 0) (if_not : (t
       → P (t ∷ ts) (if_at (number_of k ts) None (λ n. if_at (suffix_at n.1) (Some n) (λ s. None)))
   lone_by (kind.Int n) t ts q =
       option_cases (λ o. P (t ∷ ts) (if_at o (Some (n, ts)) (λ s. None))) (suffix_at ts) (λ h. if_so t n ts q h)
-      (λ s h. if_not (t ∷ ts) (ap (λ k. if_at (number_of k ts) None (λ n. if_at (suffix_at n.1) (Some n) (λ s. None))) q ∙ ap (λ (o : Option (Suffix × ℕ × List Token)). if_at o (Some (n, ts)) (λ s. None)) h))
+      (λ s h. if_not (t ∷ ts) (ap (λ k. if_at (number_of k ts) None (λ n. if_at (suffix_at n.1) (Some n) (λ s. None))) q
+      ∙ ap (λ (o : Option (Suffix × ℕ × List Token)). if_at o (Some (n, ts)) (λ s. None)) h))
   lone_by _ t ts q = if_not (t ∷ ts) (ap (λ k. if_at (number_of k ts) None (λ n. if_at (suffix_at n.1) (Some n) (λ s. None))) q)
 
   pub lone_cases : (ts : List Token) → P ts (lone_at ts)

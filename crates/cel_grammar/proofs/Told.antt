@@ -91,7 +91,8 @@ pub told_node : {source : List ℕ} {past : Type 0} {D : Relation Tree} {p : Par
 unfolding node
 told_node {source} {past} {D} {p} {n} {ts} {rest} {tree} below part d deep few within lift =
     told_guard (nat_lt below 100) tree below rest
-    (λ h. let lt : below < 100 = ltb-true below 100 h in record { derives = d; deep = deep; shallow = omega arith; few = few; within = within })
+    (λ h. let lt : below < 100 = ltb-true below 100 h
+    in record { derives = d; deep = deep; shallow = omega arith; few = few; within = within })
     (λ h. let le : 100 ≤ below = ltb-false below 100 h in lift (exceeds (deep_part whole_text part (omega arith))))
 
 -- a leaf

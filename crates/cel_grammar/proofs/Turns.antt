@@ -12,7 +12,8 @@ use Rattle.cel_grammar.specs.Views.{seen, Fails, Gives}
 use Rattle.cel_grammar.specs.Descent.{◌>>=◌, Found, Read, Reader, head_if, is_bang, is_minus}
 use Rattle.cel_grammar.specs.Descent.{if_at, more, member, wrapped, nots_at, minuses_at, unary_at}
 
-module _ {A : Type 0} (ask : List Token → Option A) (act : A → Found Tree → Read) (t : ℕ) (left : Found Tree) (total : Read) (lt : t < 100) (kept : more ask act (100 - t) left ≡ total) where
+module _ {A : Type 0} (ask : List Token → Option A) (act : A → Found Tree → Read) (t : ℕ) (left : Found Tree) (total : Read) (lt : t < 100)
+    (kept : more ask act (100 - t) left ≡ total) where
   next : Option A → Read
   next o = if_at o (Ok left) (λ x. act x left >>= more ask act (100 - (t + 1)))
 
@@ -56,5 +57,7 @@ pub nots_give : (inner : Reader) (source : List ℕ) (brackets : ℕ) (ts : List
 unfolding unary_at
 nots_give inner source brackets ts x r h g =
     subst
-    (λ (o : Option (ℕ × List Token)). Gives seen r (if_at o (if_at (head_if is_minus ts) (member inner source brackets ts) (λ x. minuses_at inner source brackets 100 x.0 x.1)) (λ x. nots_at inner source brackets 100 x.1 >>= wrapped x.0 Not)))
+    (λ (o : Option (ℕ × List Token)). Gives seen r
+    (if_at o (if_at (head_if is_minus ts) (member inner source brackets ts) (λ x. minuses_at inner source brackets 100 x.0 x.1))
+    (λ x. nots_at inner source brackets 100 x.1 >>= wrapped x.0 Not)))
     h g

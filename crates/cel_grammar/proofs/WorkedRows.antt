@@ -35,7 +35,9 @@ pub left_first : (a s b t c : Token) → a.kind ≡ kind.Int 1 → s.kind ≡ ki
     (number c.start false 3))
 left_first a s b t c h i j k l =
     whole
-    (or_one (and_one (relation_one (sum_more (sum_more (sum_one (product_one (bare (alone (int h))))) (record { kind = i; loose = refl }) (product_one (bare (alone (int j))))) (record { kind = k; loose = refl }) (product_one (bare (alone (int l))))))))
+    (or_one (and_one (relation_one (sum_more
+    (sum_more (sum_one (product_one (bare (alone (int h))))) (record { kind = i; loose = refl }) (product_one (bare (alone (int j)))))
+    (record { kind = k; loose = refl }) (product_one (bare (alone (int l))))))))
 
 pub sum_is_one_deeper : (source : List ℕ) → depth source (binary 2 (Infix op.Add) (number 0 false 1) (number 4 false 2)) ≡ 2
 sum_is_one_deeper source =
@@ -51,7 +53,9 @@ pub list_ends_in_a_comma : (o a m k : Token) → o.kind ≡ kind.OpenBracket →
 list_ends_in_a_comma o a m k h i j l =
     whole
     (or_one
-    (and_one (relation_one (sum_one (product_one (bare (alone (listed h (items (last_item (whole (or_one (and_one (relation_one (sum_one (product_one (bare (alone (int i))))))))) (comma_end refl j (rw l refl))))))))))))
+    (and_one (relation_one (sum_one (product_one
+    (bare (alone (listed h (items (last_item (whole (or_one (and_one (relation_one (sum_one (product_one (bare (alone (int i)))))))))
+    (comma_end refl j (rw l refl))))))))))))
 
 pub list_of_a_comma : (o m k : Token) → o.kind ≡ kind.OpenBracket → m.kind ≡ kind.Comma → k.kind ≡ kind.CloseBracket
     → Derives Expression (o ∷ m ∷ k ∷ []) [] (list o.start [])

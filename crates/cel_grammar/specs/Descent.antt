@@ -175,7 +175,8 @@ end_at c ts = if_at (head_if (closes c) ts) (if_at (spare_comma_at c ts) None (�
 -- behind an opening bracket: what follows the closing one, if no item stands between
 unfoldable pub opened : List ℕ → ℕ → Closer → List Token → Result (Option (ℕ × List Token)) ParseFault
 opened source zero c ts = Err TooDeep
-opened source (suc brackets) c ts = if_at (end_at c ts) (if_at (spare_comma_at c ts) (Ok None) (λ x. unexpected source x.1)) (λ x. Ok (Some x))
+opened source (suc brackets) c ts = if_at (end_at c ts) (if_at (spare_comma_at c ts) (Ok None) (λ x. unexpected source x.1))
+    (λ x. Ok (Some x))
 
 -- behind an item: the list stops, or goes on with one more
 pub data Move : Type 0 where
@@ -260,7 +261,8 @@ literal_of t = literal_by t.kind t.start
 
 -- what is no literal, by its first token
 abbrev pub primary_by : Reader → List ℕ → ℕ → TokenKind → Token → List Token → Read
-primary_by inner source brackets kind.Name t ts = if_at (head_if is_open ts) (leaf (name t.start) ts) (λ x. items inner source brackets closer.Parenthesis x.1 >>= called source t.start)
+primary_by inner source brackets kind.Name t ts =
+    if_at (head_if is_open ts) (leaf (name t.start) ts) (λ x. items inner source brackets closer.Parenthesis x.1 >>= called source t.start)
 primary_by inner source brackets kind.Open t ts = inner ts >>= closed source closer.Parenthesis
 primary_by inner source brackets kind.OpenBracket t ts = items inner source brackets closer.Bracket ts >>= listed t.start
 primary_by inner source brackets kind.OpenBrace t ts = entries inner source brackets ts >>= mapped t.start
@@ -315,7 +317,8 @@ wrapped place o f = node (unary place o f.what) f.deep f.rest
 -- behind a "!"
 unfoldable pub nots_at : Reader → List ℕ → ℕ → ℕ → Reader
 nots_at inner source brackets zero ts = Err TooDeep
-nots_at inner source brackets (suc turns) ts = if_at (head_if is_bang ts) (member inner source brackets ts) (λ x. nots_at inner source brackets turns x.1 >>= wrapped x.0 Not)
+nots_at inner source brackets (suc turns) ts =
+    if_at (head_if is_bang ts) (member inner source brackets ts) (λ x. nots_at inner source brackets turns x.1 >>= wrapped x.0 Not)
 
 -- behind a "-" at a place
 unfoldable pub minuses_at : Reader → List ℕ → ℕ → ℕ → ℕ → Reader
@@ -343,7 +346,8 @@ join operand x left = operand x.2 >>= joined x.0 x.1 left
 -- operands joined by the operators of a looseness and those that bind tighter
 unfoldable pub operators : Reader → List ℕ → ℕ → ℕ → Reader
 operators inner source brackets zero ts = unary_at inner source brackets ts
-operators inner source brackets (suc n) ts = operators inner source brackets n ts >>= more (operator_at (suc n)) (join (operators inner source brackets n)) 100
+operators inner source brackets (suc n) ts =
+    operators inner source brackets n ts >>= more (operator_at (suc n)) (join (operators inner source brackets n)) 100
 
 -- a test and two branches
 abbrev pub picked : ℕ → Found Tree → Found Tree → Found Tree → Read

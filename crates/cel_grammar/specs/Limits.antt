@@ -129,7 +129,9 @@ pub data Signs (o : UnaryOperator) : ℕ → List Token → Type 0 where
 -- so many conditionals stand in front, each behind the ":" of the one before it
 pub data Conditionals : ℕ → List Token → Type 0 where
   no_conditional : {ts : List Token} → Conditionals 0 ts
-  conditional_more : {n : ℕ} {ts mid last : List Token} {q k : Token} {c a : Tree} → Derives ConditionalOr ts (q ∷ mid) c → q.kind ≡ kind.Question → Derives ConditionalOr mid (k ∷ last) a → k.kind ≡ kind.Colon → Conditionals n last → Conditionals (suc n) ts
+  conditional_more : {n : ℕ} {ts mid last : List Token} {q k : Token} {c a : Tree} → Derives ConditionalOr ts (q ∷ mid) c
+      → q.kind ≡ kind.Question → Derives ConditionalOr mid (k ∷ last) a → k.kind ≡ kind.Colon → Conditionals n last
+      → Conditionals (suc n) ts
 
 -- what makes a text too deep where n brackets are open in front, whether a tree is derived from it or not
 pub data Exceeds (source : List ℕ) (n : ℕ) (ts : List Token) : Type 0 where

@@ -18,7 +18,8 @@ closed_step s e bytes i lt =
     ap (λ (x : List ℕ). closed_at s e x) more
     ∙ closed_is s e (get_or bytes i 0) (drop (i + 1) bytes)
     ∙ ap
-    (λ (x : List ℕ). closed_by (not e && closes s x) (breaks s (get_or bytes i 0)) (closed_at s (not e && escapes s (get_or bytes i 0)) (drop (i + 1) bytes)))
+    (λ (x : List ℕ). closed_by (not e && closes s x) (breaks s (get_or bytes i 0))
+    (closed_at s (not e && escapes s (get_or bytes i 0)) (drop (i + 1) bytes)))
     (sym more)
 
 module _ (s : Style) (is_escaped : Bool) (bytes : List ℕ) (i : ℕ) (total : Option ℕ) (lt : i < length bytes)

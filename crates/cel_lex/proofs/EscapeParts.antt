@@ -43,7 +43,8 @@ at_letter c rest n zero e is = absurd (let h = e.some in omega arith)
 at_letter c rest n (suc k) e is = e.ascii k (omega arith)
 
 behind_letter : (c : ℕ) (rest : List ℕ) (n : ℕ) → IsEscape rest n → IsEscape (c ∷ rest) (suc n)
-behind_letter c rest n e = let w = e.within in record { some = omega arith; within = omega arith; ascii = λ k is. at_letter c rest n k e is }
+behind_letter c rest n e = let w = e.within
+    in record { some = omega arith; within = omega arith; ascii = λ k is. at_letter c rest n k e is }
 
 -- a count that is told beside a character
 letter_by : (c base count : ℕ) (rest : List ℕ) (o : Option ℕ) (v n : ℕ) → coded base count rest ≡ o → base ≤ 36

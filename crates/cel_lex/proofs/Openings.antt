@@ -109,7 +109,8 @@ some_by c (x ∷ rest) (suc m) o (raw k r q) le =
     let front = front_quoted 1 x true rest m o q (omega arith) in
     let s = style_of true x (take m rest) in
     ap
-    (λ b. cond b (Some (quotes (style_of false c (x ∷ take m rest)), style_of false c (x ∷ take m rest))) (cond (is_raw_mark c) (raw_opening (x ∷ take m rest)) None))
+    (λ b. cond b (Some (quotes (style_of false c (x ∷ take m rest)), style_of false c (x ∷ take m rest)))
+    (cond (is_raw_mark c) (raw_opening (x ∷ take m rest)) None))
     k
     ∙ ap (λ b. cond b (raw_opening (x ∷ take m rest)) None) r
     ∙ ap (λ b. cond b (Some (1 + quotes s, s)) None) q.begins
@@ -173,7 +174,8 @@ record Quotes (quote : ℕ) (rest : List ℕ) (n : ℕ) : Type 0 where
   last : get_or (quote ∷ rest) (n - 1) 0 ≡ quote
 
 quotes_by : (quote : ℕ) (rest : List ℕ) (b : Bool) → begins_with_two quote rest ≡ b → Quotes quote rest (cond b 3 1)
-quotes_by quote rest true e = let h = two_long quote rest e in record { some = omega arith; small = omega arith; within = omega arith; last = third_is quote rest e }
+quotes_by quote rest true e = let h = two_long quote rest e
+    in record { some = omega arith; small = omega arith; within = omega arith; last = third_is quote rest e }
 quotes_by quote rest false e = record { some = omega arith; small = omega arith; within = omega arith; last = refl }
 
 is_by : (c : ℕ) (rest : List ℕ) (o : ℕ × Style) → Opens c rest o → IsOpening (c ∷ rest) o

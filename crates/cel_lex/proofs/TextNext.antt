@@ -165,7 +165,8 @@ open_ends : (before : ℕ) (s : Style) (inside : List ℕ) → closed_at s false
 open_ends before s inside e = record {
   here = prefix_len-le-length (keeps s) inside;
   is = open_is before s inside _ e ∙ ap (λ b. cond b (Some (faulty fault.Unterminated 0)) None) (front_passes (keeps s) inside);
-  longest = λ m lt le. open_is before s inside m e ∙ ap (λ b. cond b (Some (faulty fault.Unterminated 0)) None) (longer_fails (keeps s) inside m lt le);
+  longest = λ m lt le. open_is before s inside m e
+      ∙ ap (λ b. cond b (Some (faulty fault.Unterminated 0)) None) (longer_fails (keeps s) inside m lt le);
 }
 
 closed_front : (before : ℕ) (s : Style) (inside : List ℕ) (m n : ℕ) → closed_at s false inside ≡ Some n → n + quotes s ≤ m
@@ -185,8 +186,10 @@ closed_ends before s inside n e =
     let le = closed_within s false inside n e in
     record {
       here = le;
-      is = closed_front before s inside (n + quotes s) n e (omega arith) le ∙ ap (λ b. cond b (Some (content_of before s (take n inside))) None) (eq-eqb (n + quotes s) (n + quotes s) refl);
-      longest = λ m lt le'. closed_front before s inside m n e (omega arith) le' ∙ ap (λ b. cond b (Some (content_of before s (take n inside))) None) (differs (n + quotes s) m lt);
+      is = closed_front before s inside (n + quotes s) n e (omega arith) le
+          ∙ ap (λ b. cond b (Some (content_of before s (take n inside))) None) (eq-eqb (n + quotes s) (n + quotes s) refl);
+      longest = λ m lt le'. closed_front before s inside m n e (omega arith) le'
+          ∙ ap (λ b. cond b (Some (content_of before s (take n inside))) None) (differs (n + quotes s) m lt);
     }
 
 -- bytes with an opening

@@ -60,4 +60,5 @@ escaped (Some x) rest = behind (encode_utf8 x.0) (rest x.1)
 unfoldable pub meaning_of : ℕ → List ℕ → Result (List ℕ) ℕ
 meaning_of n [] = Ok []
 meaning_of (suc n) (c ∷ rest) = behind [] (meaning_of n rest)
-meaning_of zero (c ∷ rest) = if is_backslash c then escaped (escape_of rest) (λ n. meaning_of n rest) else behind (c ∷ []) (meaning_of zero rest)
+meaning_of zero (c ∷ rest) = if is_backslash c then escaped (escape_of rest) (λ n. meaning_of n rest) else behind (c ∷ [])
+    (meaning_of zero rest)

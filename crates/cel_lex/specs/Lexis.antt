@@ -39,15 +39,21 @@ pub record IsNext (bytes : List ℕ) (n : ℕ) (what : Piece) : Type 0 where
 -- from a place on, the text is cut into these tokens
 pub data Cuts : ℕ → List ℕ → List Token → Type 0 where
   end : {place : ℕ} → Cuts place [] []
-  blank : {place : ℕ} {bytes : List ℕ} {ts : List Token} {n : ℕ} → IsNext bytes n piece.Blank → Cuts (place + n) (drop n bytes) ts → Cuts place bytes ts
-  token : {place : ℕ} {bytes : List ℕ} {ts : List Token} {n : ℕ} {k : TokenKind} → IsNext bytes n (piece.Token k) → Cuts (place + n) (drop n bytes) ts → Cuts place bytes (record { kind = k; start = place; end = place + n } ∷ ts)
+  blank : {place : ℕ} {bytes : List ℕ} {ts : List Token} {n : ℕ} → IsNext bytes n piece.Blank → Cuts (place + n) (drop n bytes) ts
+      → Cuts place bytes ts
+  token : {place : ℕ} {bytes : List ℕ} {ts : List Token} {n : ℕ} {k : TokenKind} → IsNext bytes n (piece.Token k)
+      → Cuts (place + n) (drop n bytes) ts → Cuts place bytes (record { kind = k; start = place; end = place + n } ∷ ts)
 
 -- from a place on, this is the first fault
 pub data Fails : ℕ → List ℕ → LexFault → Type 0 where
-  faulty : {place : ℕ} {bytes : List ℕ} {n : ℕ} {f : LexFault} → IsNext bytes n (piece.Faulty f) → Fails place bytes (record { kind = f.kind; place = place + f.place })
-  bad : {place b : ℕ} {bs : List ℕ} → ((n : ℕ) → n ≤ length (b ∷ bs) → piece_of (take n (b ∷ bs)) ≡ None) → Fails place (b ∷ bs) (record { kind = fault.BadChar; place = place })
-  after_blank : {place : ℕ} {bytes : List ℕ} {f : LexFault} {n : ℕ} → IsNext bytes n piece.Blank → Fails (place + n) (drop n bytes) f → Fails place bytes f
-  after_token : {place : ℕ} {bytes : List ℕ} {f : LexFault} {n : ℕ} {k : TokenKind} → IsNext bytes n (piece.Token k) → Fails (place + n) (drop n bytes) f → Fails place bytes f
+  faulty : {place : ℕ} {bytes : List ℕ} {n : ℕ} {f : LexFault} → IsNext bytes n (piece.Faulty f)
+      → Fails place bytes (record { kind = f.kind; place = place + f.place })
+  bad : {place b : ℕ} {bs : List ℕ} → ((n : ℕ) → n ≤ length (b ∷ bs) → piece_of (take n (b ∷ bs)) ≡ None)
+      → Fails place (b ∷ bs) (record { kind = fault.BadChar; place = place })
+  after_blank : {place : ℕ} {bytes : List ℕ} {f : LexFault} {n : ℕ} → IsNext bytes n piece.Blank → Fails (place + n) (drop n bytes) f
+      → Fails place bytes f
+  after_token : {place : ℕ} {bytes : List ℕ} {f : LexFault} {n : ℕ} {k : TokenKind} → IsNext bytes n (piece.Token k)
+      → Fails (place + n) (drop n bytes) f → Fails place bytes f
 
 -- the tokens of a text, which is not too long
 pub record IsCut (bytes : List ℕ) (ts : List Token) : Type 0 where

@@ -22,7 +22,8 @@ ends_at n value (c ∷ rest) = if is_suffix c then (n + 1, unsigned value) else 
 
 -- the digits of a base that stand first with their suffix, and how many bytes they are
 abbrev pub digits_at : ℕ → List ℕ → ℕ × Piece
-digits_at base bytes = ends_at (digits_in base bytes) (value_of base 0 (take (digits_in base bytes) bytes)) (drop (digits_in base bytes) bytes)
+digits_at base bytes = ends_at (digits_in base bytes) (value_of base 0 (take (digits_in base bytes) bytes))
+    (drop (digits_in base bytes) bytes)
 
 -- what stands so many bytes further
 abbrev pub further : ℕ → ℕ × Piece → ℕ × Piece
@@ -54,7 +55,8 @@ two_of (Some k) otherwise = Some (2, piece.Token k)
 -- the comment or the symbol that stands first, and how many bytes it is
 abbrev pub symbol_at : ℕ → List ℕ → Option (ℕ × Piece)
 symbol_at c [] = one_of (single c)
-symbol_at c (d ∷ rest) = if is_comment c d then Some (2 + prefix_len is_inline rest, piece.Blank) else two_of (double c d) (one_of (single c))
+symbol_at c (d ∷ rest) = if is_comment c d then Some (2 + prefix_len is_inline rest, piece.Blank) else two_of (double c d)
+    (one_of (single c))
 
 -- the word that stands first, and how many bytes it is
 abbrev pub word_at : ℕ → List ℕ → ℕ × Piece

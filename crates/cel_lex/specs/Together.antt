@@ -18,4 +18,5 @@ pub record IsTokenAt (place : ℕ) (own : List ℕ) (t : Token) : Type 0 where
 -- the text from a place on is each token's own bytes in turn, and what lies between them
 pub data IsTogether : ℕ → List ℕ → List Token → Type 0 where
   last : {place : ℕ} {between : List ℕ} → IsBetween between → IsTogether place between []
-  next : {place : ℕ} (between own rest : List ℕ) {t : Token} {ts : List Token} → IsBetween between → IsTokenAt (place + length between) own t → IsTogether t.end rest ts → IsTogether place (between ++ (own ++ rest)) (t ∷ ts)
+  next : {place : ℕ} (between own rest : List ℕ) {t : Token} {ts : List Token} → IsBetween between
+      → IsTokenAt (place + length between) own t → IsTogether t.end rest ts → IsTogether place (between ++ (own ++ rest)) (t ∷ ts)

@@ -54,7 +54,8 @@ mapped_off n at stack o frames e =
     mapped_by (taken_off (n + n) [] stack) at frames ∙ ap (λ q. mapped_of q at frames) (off n [] stack ∙ e)
 
 -- what is answered in memory that was there, where it is known
-pub answered : {E : Type 0} (r : Result (Option Made) E) (o : Option Made) (at : ℕ) (stack : List Outcome) (m : Move) (there : Position) (after : List Outcome)
+pub answered : {E : Type 0} (r : Result (Option Made) E) (o : Option Made) (at : ℕ) (stack : List Outcome) (m : Move) (there : Position)
+    (after : List Outcome)
     → IfOk r (λ p. p ≡ o) → Finishes r at stack m there after → Comes (made o at stack) m there after
 answered (Ok p) o at stack m there after e h = subst (λ q. Comes (made q at stack) m there after) e h
 answered (Err x) o at stack m there after e h = absurd h
@@ -136,7 +137,8 @@ none_mapped n at stack below None frames h t = mapped_off n at stack None frames
 none_mapped n at stack below (Some es) frames h t = let no : ⊥ = cc in absurd no
 
 -- what was taken makes a map
-pub some_mapped : {E : Type 0} (n at : ℕ) (there : Position) (stack below after : List Outcome) (found : Option (Result (List (Keyed Value)) CelError))
+pub some_mapped : {E : Type 0} (n at : ℕ) (there : Position) (stack below after : List Outcome)
+    (found : Option (Result (List (Keyed Value)) CelError))
     (es : Result (List (Keyed Value)) CelError) (r : Result (Option Made) E) (done : Result Move E) → found ≡ Some es
     → MatchOption found (entries_off n (Some (Ok [])) stack ≡ None) (λ es. entries_off n (Some (Ok [])) stack ≡ Some (turned es, below))
     → IfOk r (λ m. m ≡ counted (Some (map_of (turned es)))) → IfOk done (λ m. Finishes r at below m there after)

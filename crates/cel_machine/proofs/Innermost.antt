@@ -1,5 +1,6 @@
 -- The innermost loop, which is the last of those that stand open.
-use Rattle.std.proofs.Common.{◌≡◌, ℕ, zero, suc, Bool, true, false, List, [], ◌∷◌, ◌++◌, length, take, Option, Some, None, Result, Ok, Err, IfOk, MatchBool, refl, sym, ap, ◌∙◌, subst, arith, slice_index_or, slice_set}
+use Rattle.std.proofs.Common.{◌≡◌, ℕ, zero, suc, Bool, true, false, List, [], ◌∷◌, ◌++◌, length, take, Option, Some, None, Result, Ok, Err}
+use Rattle.std.proofs.Common.{IfOk, MatchBool, refl, sym, ap, ◌∙◌, subst, arith, slice_index_or, slice_set}
 use Rattle.std.specs.Prelude.{reverse}
 use Rattle.std.specs.Option.{option_map}
 use Rattle.std.proofs.lemmas.List.{reverse-append}
@@ -33,7 +34,8 @@ last_set (x ∷ z ∷ zs) zero y e = absurd (omega arith)
 last_set (x ∷ z ∷ zs) (suc i) y e = ap (λ l. x ∷ l) (last_set (z ∷ zs) i y (omega arith))
 
 -- turned round, it is the first
-innermost : {A : Type 0} (xs : List A) (i : ℕ) (f : A) → suc i ≡ length xs → f ≡ slice_index_or xs i f → reverse xs ≡ f ∷ reverse (take i xs)
+innermost : {A : Type 0} (xs : List A) (i : ℕ) (f : A) → suc i ≡ length xs → f ≡ slice_index_or xs i f
+    → reverse xs ≡ f ∷ reverse (take i xs)
 innermost xs i f e h =
     ap reverse (last_is xs i f e) ∙ ap (λ x. reverse (take i xs ++ x ∷ [])) (sym h) ∙ reverse-append (take i xs) (f ∷ [])
 
@@ -78,7 +80,8 @@ passed Filter v a x e = passed_side Filter v a (side_of (Some x)) e
 passed Map v a x e = cc
 
 -- where it changes nothing, the innermost loop goes on
-pub passing : (stack : List Outcome) (frames : List Frame) (x : Outcome) → top_of stack ≡ Some x → passed_in (side_of (Some x)) frames ≡ true
+pub passing : (stack : List Outcome) (frames : List Frame) (x : Outcome) → top_of stack ≡ Some x
+    → passed_in (side_of (Some x)) frames ≡ true
     → next_in stack frames ≡ gone_in (below_top stack) frames
 passing [] frames x t e = cc
 passing (y ∷ stack) [] x t e = cc

@@ -22,10 +22,12 @@ use Rattle.cel_verify.proofs.Steps.{begins, gets_typed, runs_within, step_goes}
 use Rattle.cel_verify.proofs.Turns.{one_more}
 
 -- what an instruction does, as a step
-stepped : (image : Image) (slots : List Outcome) (at : ℕ) (i : Instr) (stack stack' : List Outcome) (frames frames' : List Frame) (m : Move) (there : Position)
+stepped : (image : Image) (slots : List Outcome) (at : ℕ) (i : Instr) (stack stack' : List Outcome) (frames frames' : List Frame)
+    (m : Move) (there : Position)
     → slice_get image.code at ≡ Some i → metered (act (inputs_of image slots) i at stack frames) ≡ next_of m there stack' frames'
     → metered (step image slots (on at stack frames)) ≡ next_of m there stack' frames'
-stepped image slots at i stack stack' frames frames' m there h e = ap (λ o. metered (act_at (inputs_of image slots) o at stack frames)) h ∙ e
+stepped image slots at i stack stack' frames frames' m there h e = ap (λ o. metered (act_at (inputs_of image slots) o at stack frames)) h
+    ∙ e
 
 -- no step yet, with nothing on the stack and no open loop
 pub begun : (image : Image) (slots : List Outcome) (stack : List Outcome) (frames : List Frame) → stack ≡ [] → frames ≡ []
@@ -106,7 +108,8 @@ module _ (p image : Image) (slots : List Outcome) (accepted : IsAccepted p) (is 
         subst (λ i. length frames ≤ greatest_nesting i) (sym is)
         (never_more_loops p slots accepted.sound filled (on at stack frames) charged steps gets)
 
-    module _ (i : Instr) (m : Move) (there : Position) (stack' : List Outcome) (frames' : List Frame) (hi : slice_get image.code at ≡ Some i)
+    module _ (i : Instr) (m : Move) (there : Position) (stack' : List Outcome) (frames' : List Frame)
+        (hi : slice_get image.code at ≡ Some i)
         (e : metered (act (inputs_of image slots) i at stack frames) ≡ next_of m there stack' frames') where
       steps_to : step image slots (on at stack frames) ≡ next_of m there stack' frames'
       steps_to = sym metered_is ∙ stepped image slots at i stack stack' frames frames' m there hi e

@@ -146,7 +146,13 @@ natural_row f = record { answer = λ m n. Some (f m n); charge = λ m n. 1; resu
 
 -- `==`, and `!=` by the opposite
 abbrev pub equality_row : (Bool → Bool) → TwoRow Any Any
-equality_row f = record { answer = λ v w. Some (Ok (value.Bool (f (same v w)))); charge = lesser_weight; result = compared; greatest = lesser_greatest }
+equality_row f = record {
+  answer = λ v w. Some (Ok (value.Bool (f (same v w))));
+  charge = lesser_weight;
+  result = compared;
+  greatest =
+      lesser_greatest;
+}
 
 -- `<` and its like, by what they say of two values
 abbrev pub order_row : (Value → Value → Option Outcome) → TwoRow Ordered Ordered

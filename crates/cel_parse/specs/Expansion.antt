@@ -131,7 +131,8 @@ loop_by source place l a x b other = plain_method source place a (x ∷ b ∷ []
 
 -- `e.map(x, p, t)`
 abbrev pub where_by : List ℕ → ℕ → Expanded → Expansion → Expansion → Expansion → Role → Expanded
-where_by source place a x p t (names n) = a >>= λ e. p.own >>= λ q. t.own >>= λ u. Ok (expr place (syntax.MapWhere e (word_at source n) q u))
+where_by source place a x p t (names n) =
+    a >>= λ e. p.own >>= λ q. t.own >>= λ u. Ok (expr place (syntax.MapWhere e (word_at source n) q u))
 where_by source place a x p t (selects field c) = plain_method source place a (x ∷ p ∷ t ∷ [])
 where_by source place a x p t other = plain_method source place a (x ∷ p ∷ t ∷ [])
 
@@ -166,7 +167,8 @@ expanded_at source (Tree-F.List place xs) = each xs >>= λ es. Ok (expr place (s
 expanded_at source (Tree-F.Map place xs) = each_entry xs >>= λ es. Ok (expr place (syntax.Map es))
 expanded_at source (Tree-F.Unary place o a) = a.own >>= λ x. Ok (expr place (syntax.Unary o x))
 expanded_at source (Tree-F.Binary place o a b) = a.own >>= λ x. b.own >>= λ y. Ok (expr place (form_of o x y))
-expanded_at source (Tree-F.Conditional place c a b) = c.own >>= λ x. a.own >>= λ y. b.own >>= λ z. Ok (expr place (syntax.Conditional x y z))
+expanded_at source (Tree-F.Conditional place c a b) =
+    c.own >>= λ x. a.own >>= λ y. b.own >>= λ z. Ok (expr place (syntax.Conditional x y z))
 
 -- how a macro sees one level
 abbrev pub role_at : Tree-F Expansion → Role

@@ -30,5 +30,7 @@ IsAsDeep text e = (ts : List Token) (tree : Tree) → IsCut text ts → IsTree t
 pub data IsRefused (text : List ℕ) : ParseFault → Type 0 where
   no_cut : {f : LexFault} → Refuses text f → IsRefused text (Lex f)
   no_tree : {ts : List Token} {f : ParseFault} → IsCut text ts → HasNoTree text ts f → IsRefused text f
-  bad_macro : {ts : List Token} {e : Tree} {place : ℕ} → IsCut text ts → IsTree text ts e → first_wrong text e ≡ Some place → IsRefused text (BadMacro place)
-  no_expression : {ts : List Token} {e : Tree} {f : ParseFault} → IsCut text ts → IsTree text ts e → first_wrong text e ≡ None → expanded text e ≡ Err f → IsRefused text f
+  bad_macro : {ts : List Token} {e : Tree} {place : ℕ} → IsCut text ts → IsTree text ts e → first_wrong text e ≡ Some place
+      → IsRefused text (BadMacro place)
+  no_expression : {ts : List Token} {e : Tree} {f : ParseFault} → IsCut text ts → IsTree text ts e → first_wrong text e ≡ None
+      → expanded text e ≡ Err f → IsRefused text f

@@ -28,7 +28,8 @@ one_tree None most a b ns ms p q = absurd p
 one_tree (Some found) most a b ns ms p q = p.1 also alike_sym q.1
 
 -- the program and the pattern have the same captures
-pub one_text : (text : List ℕ) (r : Regex) (p : Program) → IsRegexOf text r → IsProgramOf text p → SameCaptures (pattern_of p) (regex_pattern r)
+pub one_text : (text : List ℕ) (r : Regex) (p : Program) → IsRegexOf text r → IsProgramOf text p
+    → SameCaptures (pattern_of p) (regex_pattern r)
 unfolding Reads
 one_text text r p (source, config, reads) (names, mine) =
     one_tree (read default_config (chars text)) _ _ _ _ _ mine (rw (config, source) at reads)
@@ -44,7 +45,8 @@ filled p tree text bytes same some i t e =
 
 finds_alike : (p : Program) (r : Regex) → SameCaptures (pattern_of p) (regex_pattern r) → FindsAlike p (regex_pattern r)
 finds_alike p r same some text bytes =
-    sym (is_some-option_map spans _) ∙ ap is_some (find_alike (pattern_of p) (regex_pattern r) same text bytes 0) ∙ is_some-option_map spans _
+    sym (is_some-option_map spans _) ∙ ap is_some (find_alike (pattern_of p) (regex_pattern r) same text bytes 0)
+    ∙ is_some-option_map spans _
     ∙ ap is_some (find_str_of_filled (regex_pattern r) text bytes r.whole_characters (filled p (regex_pattern r) text bytes same some) 0)
 
 -- what two readings of one text keep

@@ -1,5 +1,6 @@
 -- Answers, as more come.
-use Rattle.std.proofs.Common.{◌≡◌, ℕ, List, [], ◌∷◌, ◌++◌, map, Bool, true, false, cond, not, ◌||◌, Option, None, Some, IfSome, IsSome, refl, sym, ap, subst, ◌∙◌, rules}
+use Rattle.std.proofs.Common.{◌≡◌, ℕ, List, [], ◌∷◌, ◌++◌, map, Bool, true, false, cond, not, ◌||◌, Option, None, Some, IfSome, IsSome}
+use Rattle.std.proofs.Common.{refl, sym, ap, subst, ◌∙◌, rules}
 use Rattle.std.specs.Prelude.{String, string_bytes, string_cmp}
 use Rattle.std.specs.BTreeMap.{BTreeMap, is_at, get_by_text, UpdatesBy}
 use Rattle.std.specs.Map.{lookup}
@@ -16,20 +17,24 @@ use Rattle.cel_patterns.specs.Meaning.{tree_of}
 use Rattle.cel_patterns.proofs.Places.{same_bytes}
 
 under : {Y : Type 0} (entries : List (String Y × Bool)) (text : List ℕ) →
-    lookup (bytes_eq text) (map (λ entry. (string_bytes entry.0, entry.1)) entries) ≡ lookup (is_at (λ k. slice_cmp nat_cmp text (string_bytes k))) entries
+    lookup (bytes_eq text) (map (λ entry. (string_bytes entry.0, entry.1)) entries)
+    ≡ lookup (is_at (λ k. slice_cmp nat_cmp text (string_bytes k))) entries
 under [] text = refl
 under (e ∷ es) text = rw (is_eq-slice_cmp text (string_bytes e.0), under es text) refl
 
 -- the answer that is told of a text is the one that stands under it
-pub answer_is : {Y : Type 0} (answers : BTreeMap (String Y) Bool) (refused : List (String Y)) (text : List ℕ) → answer_in (told_by answers refused) text ≡ get_by_text answers text
+pub answer_is : {Y : Type 0} (answers : BTreeMap (String Y) Bool) (refused : List (String Y)) (text : List ℕ)
+    → answer_in (told_by answers refused) text ≡ get_by_text answers text
 answer_is answers refused text = under answers.entries text
 
 -- one more answer, and all others as before
 pub record Adds (old new : Asked) (text : List ℕ) (built : Bool) : Type 0 where
   pub each : (other : List ℕ) → answer_in new other ≡ cond (bytes_eq text other) (Some built) (answer_in old other)
 
-pub adds : {Y : Type 0} (old new : BTreeMap (String Y) Bool) (before after : List (String Y)) (key text : List ℕ) (built : Bool) → key ≡ text
-    → UpdatesBy string_cmp (λ k. slice_cmp nat_cmp key (string_bytes k)) old new (Some built) → Adds (told_by old before) (told_by new after) text built
+pub adds : {Y : Type 0} (old new : BTreeMap (String Y) Bool) (before after : List (String Y)) (key text : List ℕ) (built : Bool)
+    → key ≡ text
+    → UpdatesBy string_cmp (λ k. slice_cmp nat_cmp key (string_bytes k)) old new (Some built)
+    → Adds (told_by old before) (told_by new after) text built
 adds old new before after key text built same updates = record {
   each = λ other. answer_is new after other ∙ btree_map_updates_text key old new _ updates other
       ∙ ap (λ k. cond (bytes_eq k other) (Some built) (get_by_text old other)) same
@@ -50,7 +55,8 @@ grows_by : (old new : Asked) (text : List ℕ) (built : Bool) → Adds old new t
 grows_by old new text built more none other =
     stays (answer_in old other) (answer_in new other) (bytes_eq text other) built (more.each other) (unasked old text other none)
 
-pub grows_seen : (seen old new : Asked) (text : List ℕ) (built : Bool) → old ≡ seen → Adds old new text built → answer_in seen text ≡ None → Grows seen new
+pub grows_seen : (seen old new : Asked) (text : List ℕ) (built : Bool) → old ≡ seen → Adds old new text built → answer_in seen text ≡ None
+    → Grows seen new
 grows_seen seen old new text built same more none =
     subst (λ asked. Grows asked new) same (grows_by old new text built more (ap (λ asked. answer_in asked text) same ∙ none))
 
@@ -61,7 +67,8 @@ pub answered_by : (old new : Asked) (text : List ℕ) (built : Bool) → Adds ol
 answered_by old new text built more = more.each text ∙ ap (λ b. cond b (Some built) (answer_in old text)) (is_itself text)
 
 -- a text that is built leaves the choice as it was
-chosen_yes : (r : Bool) (o new : Option Bool) (b : Bool) → new ≡ cond b (Some true) o → (b ≡ true → o ≡ None) → r ≡ says_no o → r ≡ says_no new
+chosen_yes : (r : Bool) (o new : Option Bool) (b : Bool) → new ≡ cond b (Some true) o → (b ≡ true → o ≡ None) → r ≡ says_no o
+    → r ≡ says_no new
 chosen_yes r o new true e none h = h ∙ ap says_no (none refl) ∙ sym (ap says_no e)
 chosen_yes r o new false e none h = h ∙ sym (ap says_no e)
 
@@ -75,10 +82,12 @@ one_refused false o false h = h
 chosen_no : (choice : List (List ℕ)) (text other : List ℕ) (o new : Option Bool) → new ≡ cond (bytes_eq text other) (Some false) o
     → refuses choice other ≡ says_no o → refuses (choice ++ text ∷ []) other ≡ says_no new
 chosen_no choice text other o new e h =
-    list_any-append (λ t. bytes_eq t other) choice (text ∷ []) ∙ one_refused (refuses choice other) o (bytes_eq text other) h ∙ sym (ap says_no e)
+    list_any-append (λ t. bytes_eq t other) choice (text ∷ []) ∙ one_refused (refuses choice other) o (bytes_eq text other) h
+    ∙ sym (ap says_no e)
 
 -- what is said of each text that was built, with one more, and with one that was refused
-one_more : {P : Type 0} (o new : Option Bool) (b : Bool) → new ≡ cond b (Some true) o → (b ≡ true → P) → (o ≡ Some true → P) → new ≡ Some true → P
+one_more : {P : Type 0} (o new : Option Bool) (b : Bool) → new ≡ cond b (Some true) o → (b ≡ true → P) → (o ≡ Some true → P)
+    → new ≡ Some true → P
 one_more o new true e here was h = here refl
 one_more o new false e here was h = was (sym e ∙ h)
 
@@ -90,27 +99,33 @@ pub honest_built : (old new : Asked) (text : List ℕ) → Adds old new text tru
     → choice_in new ≡ choice_in old → IsHonest old → IsHonest new
 honest_built old new text more none is same honest = record {
   chosen = λ other. ap (λ choice. refuses choice other) same
-      ∙ chosen_yes _ (answer_in old other) (answer_in new other) (bytes_eq text other) (more.each other) (unasked old text other none) (honest.chosen other);
+      ∙ chosen_yes _ (answer_in old other) (answer_in new other) (bytes_eq text other) (more.each other) (unasked old text other none)
+      (honest.chosen other);
   are_patterns = λ other. one_more (answer_in old other) (answer_in new other) (bytes_eq text other) (more.each other)
       (λ here. rw (sym (same_bytes text other here)) is) (honest.are_patterns other);
 }
 
-pub honest_refused : (old new : Asked) (text : List ℕ) → Adds old new text false → choice_in new ≡ choice_in old ++ text ∷ [] → IsHonest old → IsHonest new
+pub honest_refused : (old new : Asked) (text : List ℕ) → Adds old new text false → choice_in new ≡ choice_in old ++ text ∷ []
+    → IsHonest old → IsHonest new
 honest_refused old new text more last honest = record {
   chosen = λ other. ap (λ choice. refuses choice other) last
       ∙ chosen_no (choice_in old) text other (answer_in old other) (answer_in new other) (more.each other) (honest.chosen other);
-  are_patterns = λ other. no_more (answer_in old other) (answer_in new other) (bytes_eq text other) (more.each other) (honest.are_patterns other);
+  are_patterns = λ other. no_more (answer_in old other) (answer_in new other) (bytes_eq text other) (more.each other)
+      (honest.are_patterns other);
 }
 
 -- what is answered once more leaves the choice
-again : (choice : List (List ℕ)) (text : List ℕ) (r built : Bool) → refuses choice text ≡ r → r ≡ not built → choice ≡ then_answered choice text built
+again : (choice : List (List ℕ)) (text : List ℕ) (r built : Bool) → refuses choice text ≡ r → r ≡ not built
+    → choice ≡ then_answered choice text built
 again choice text r true e h = refl
 again choice text r false e h = rw (e ∙ h) refl
 
-pub settled : (asked : Asked) (text : List ℕ) (built : Bool) → IsHonest asked → answer_in asked text ≡ Some built → choice_in asked ≡ then_answered (choice_in asked) text built
+pub settled : (asked : Asked) (text : List ℕ) (built : Bool) → IsHonest asked → answer_in asked text ≡ Some built
+    → choice_in asked ≡ then_answered (choice_in asked) text built
 settled asked text built honest e = again (choice_in asked) text _ built (honest.chosen text) (ap says_no e)
 
-pub joined : (asked : Asked) (text : List ℕ) → IsHonest asked → answer_in asked text ≡ None → choice_in asked ++ text ∷ [] ≡ then_answered (choice_in asked) text false
+pub joined : (asked : Asked) (text : List ℕ) → IsHonest asked → answer_in asked text ≡ None
+    → choice_in asked ++ text ∷ [] ≡ then_answered (choice_in asked) text false
 joined asked text honest none = rw (honest.chosen text ∙ ap says_no none) refl
 
 honours : (o : Option Bool) (r : Bool) → r ≡ says_no o → IfSome o (λ v. r ≡ not v)
@@ -119,4 +134,5 @@ honours (Some v) r h = h
 
 -- the choice says no where the answer is no
 pub honours_own : (asked seen : Asked) → asked ≡ seen → IsHonest asked → Honours seen (choice_in seen)
-honours_own asked seen same honest = subst (λ a. Honours a (choice_in a)) same (λ text. honours (answer_in asked text) (refuses (choice_in asked) text) (honest.chosen text))
+honours_own asked seen same honest = subst (λ a. Honours a (choice_in a)) same
+    (λ text. honours (answer_in asked text) (refuses (choice_in asked) text) (honest.chosen text))

@@ -30,5 +30,6 @@ pub grows_same : (p : Asked) → Grows p p
 grows_same p = λ text. kept (answer_in p text)
 
 -- at a text that was answered, such a choice says the same
-pub at_answer : (p : Asked) (text : List ℕ) (built : Bool) (choice : List (List ℕ)) → answer_in p text ≡ Some built → Honours p choice → refuses choice text ≡ not built
+pub at_answer : (p : Asked) (text : List ℕ) (built : Bool) (choice : List (List ℕ)) → answer_in p text ≡ Some built → Honours p choice
+    → refuses choice text ≡ not built
 at_answer p text built choice e honours = known (answer_in p text) built (refuses choice text) e (honours text)

@@ -3,4 +3,5 @@ pub mod Alike
 pub mod Places
 pub mod Asked
 pub mod Choices
+pub mod Only
 pub mod Sent

@@ -1,5 +1,6 @@
 -- What a text is read as, and what follows for what was built of it.
-use Rattle.std.proofs.Common.{◌≡◌, ◌≢◌, inl, inr, ℕ, ◌<◌, ◌≤◌, List, All, Option, None, Some, IsSome, IfSome, IsSomeAnd, true, false, nat_le, is_some, length, refl, sym, ap, ◌∙◌, rules, arith}
+use Rattle.std.proofs.Common.{◌≡◌, ◌≢◌, inl, inr, ℕ, ◌<◌, ◌≤◌, List, All, Option, None, Some, IsSome, IfSome, IsSomeAnd, true, false}
+use Rattle.std.proofs.Common.{nat_le, is_some, length, refl, sym, ap, ◌∙◌, rules, arith}
 use Rattle.std.specs.Prelude.{option_and_then, chars}
 use Rattle.regex_syntax.specs.Brackets.{Nested}
 use Rattle.regex_syntax.specs.Grammar.{Names, read, group_count}
@@ -26,7 +27,8 @@ high depth most h = search (rules, arith)
 
 -- what is read within the limit is the tree
 abbrev ReadsIn : Option (Nested Re × Names) → Re → Names → Type 0
-ReadsIn o tree names = IsSomeAnd o (λ (re, found). (re.depth ≤ 250) × SameCaptures tree re.value × (names ≡ found) × (group_count tree ≤ length names))
+ReadsIn o tree names = IsSomeAnd o (λ (re, found). (re.depth ≤ 250) × SameCaptures tree re.value × (names ≡ found)
+    × (group_count tree ≤ length names))
 
 tree_step : (o : Option (Nested Re × Names)) (tree : Re) (names : Names) → ReadsIn o tree names → IsSome (option_and_then (within 250) o)
 tree_step None tree names h = absurd h

@@ -1,7 +1,7 @@
 //! The answer of `regex` for each text that was asked.
-ghost use Rattle.std.specs.Prelude.{◌≡◌, List, ℕ, [], true, false, map, string_bytes};
+ghost use Rattle.std.specs.Prelude.{◌≡◌, List, ℕ, [], ◌∷◌, true, false, map, string_bytes};
 ghost use Rattle.std.specs.Prelude.{IfOk, OnOk, OnErr, IsSome, Some, None};
-ghost use Rattle.cel_patterns.specs.Answers.{answer_in, choice_in, Grows, Honours, IsHonest};
+ghost use Rattle.cel_patterns.specs.Answers.{answer_in, choice_in, AsksOnly, Grows, Honours, IsHonest};
 ghost use Rattle.cel_patterns.specs.Choice.{then_answered, refuses};
 ghost use Rattle.cel_patterns.specs.Meaning.{tree_of};
 
@@ -46,6 +46,7 @@ impl Patterns {
         ensures is_pattern { IfOk result (λ built. built ≡ true → IsSome (tree_of text.now)) }
         ensures in_order { IfOk result (λ built. choice_in self.new ≡ then_answered (choice_in self.old) text.now built) }
         ensures grows { Grows self.old self.new }
+        ensures only { AsksOnly self.old self.new (text.now ∷ []) }
         ensures err { OnErr result (choice_in self.new ≡ choice_in self.old) }
     {
         match self.answer(text) {
@@ -76,6 +77,7 @@ impl Patterns {
     pub fn choice(&self) -> &[String]
         ensures same { map string_bytes result.now ≡ choice_in self.now }
         ensures honours { Honours self.now (choice_in self.now) }
+        ensures honest { IsHonest self.now }
     {
         self.refused.as_slice()
     }
@@ -89,6 +91,7 @@ impl Patterns {
         ensures is_pattern { IfOk result (λ built. built ≡ true → IsSome (tree_of text.now)) }
         ensures in_order { IfOk result (λ built. choice_in self.new ≡ then_answered (choice_in self.old) text.now built) }
         ensures grows { Grows self.old self.new }
+        ensures only { AsksOnly self.old self.new (text.now ∷ []) }
         ensures err { OnErr result (choice_in self.new ≡ choice_in self.old) }
     {
         let built = builds(alloc, text)?;
@@ -106,6 +109,7 @@ impl Patterns {
         ensures answered { OnOk result (answer_in self.new text.now ≡ Some true) }
         ensures choice { choice_in self.new ≡ choice_in self.old }
         ensures grows { Grows self.old self.new }
+        ensures only { AsksOnly self.old self.new (text.now ∷ []) }
     {
         let key = String::from_str(alloc, text)?;
         self.answers.insert(key, true)?;
@@ -117,6 +121,7 @@ impl Patterns {
         ensures answered { OnOk result (answer_in self.new text.now ≡ Some false) }
         ensures in_order { OnOk result (choice_in self.new ≡ then_answered (choice_in self.old) text.now false) }
         ensures grows { Grows self.old self.new }
+        ensures only { AsksOnly self.old self.new (text.now ∷ []) }
         ensures err { OnErr result (choice_in self.new ≡ choice_in self.old) }
     {
         let key = String::from_str(alloc, text)?;

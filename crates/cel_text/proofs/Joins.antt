@@ -1,5 +1,6 @@
 -- Texts in a row: what is still to come behind those that stand there, and how long the whole is.
-use Rattle.std.proofs.Common.{◌≡◌, ◌+◌, ◌-◌, ◌*◌, ◌<◌, ◌≤◌, ℕ, List, [], ◌∷◌, ◌++◌, length, take, drop, get_or, take_all, ap, sym, ◌∙◌, refl, arith, append_assoc, append-nil, inl, inr, suc-mul, ◌⊎◌}
+use Rattle.std.proofs.Common.{◌≡◌, ◌+◌, ◌-◌, ◌*◌, ◌<◌, ◌≤◌, ℕ, List, [], ◌∷◌, ◌++◌, length, take, drop, get_or, take_all, ap, sym, ◌∙◌}
+use Rattle.std.proofs.Common.{refl, arith, append_assoc, append-nil, inl, inr, suc-mul, ◌⊎◌}
 use Rattle.std.proofs.Common.{Option, Some, None}
 use Rattle.std.proofs.lemmas.List.{at_drop_more, at_drop_all}
 use Rattle.std.proofs.lemmas.List.Sums.{sum_by-cons}
@@ -15,20 +16,24 @@ use Rattle.cel_text.specs.Joined.{text_at, text_of, texts_of, joined}
 abbrev pub more : List ℕ → List ℕ → List Value → Option (List ℕ)
 more separator text vs = option_map (λ ts. text ++ flat_map (λ t. separator ++ t) ts) (texts_of vs)
 
-pub joined_first : (separator text : List ℕ) (v : Value) (vs : List Value) → text_of v ≡ Some text → joined separator (v ∷ vs) ≡ more separator text vs
+pub joined_first : (separator text : List ℕ) (v : Value) (vs : List Value) → text_of v ≡ Some text
+    → joined separator (v ∷ vs) ≡ more separator text vs
 joined_first separator text v vs e = rw e (by (texts_of vs))
   where
-    by : (o : Option (List (List ℕ))) → option_map (λ ts. join_by (λ t. t) separator ts) (option_map (λ ts. text ∷ ts) o) ≡ option_map (λ ts. text ++ flat_map (λ t. separator ++ t) ts) o
+    by : (o : Option (List (List ℕ))) → option_map (λ ts. join_by (λ t. t) separator ts) (option_map (λ ts. text ∷ ts) o)
+        ≡ option_map (λ ts. text ++ flat_map (λ t. separator ++ t) ts) o
     by None = refl
     by (Some ts) = refl
 
 pub joined_no_text : (separator : List ℕ) (v : Value) (vs : List Value) → text_of v ≡ None → joined separator (v ∷ vs) ≡ None
 joined_no_text separator v vs e = rw e refl
 
-pub more_next : (separator made text : List ℕ) (v : Value) (vs : List Value) → text_of v ≡ Some text → more separator made (v ∷ vs) ≡ more separator ((made ++ separator) ++ text) vs
+pub more_next : (separator made text : List ℕ) (v : Value) (vs : List Value) → text_of v ≡ Some text
+    → more separator made (v ∷ vs) ≡ more separator ((made ++ separator) ++ text) vs
 more_next separator made text v vs e = rw e (by (texts_of vs))
   where
-    by : (o : Option (List (List ℕ))) → option_map (λ ts. made ++ flat_map (λ t. separator ++ t) ts) (option_map (λ ts. text ∷ ts) o) ≡ option_map (λ ts. ((made ++ separator) ++ text) ++ flat_map (λ t. separator ++ t) ts) o
+    by : (o : Option (List (List ℕ))) → option_map (λ ts. made ++ flat_map (λ t. separator ++ t) ts) (option_map (λ ts. text ∷ ts) o)
+        ≡ option_map (λ ts. ((made ++ separator) ++ text) ++ flat_map (λ t. separator ++ t) ts) o
     by None = refl
     by (Some ts) = ap Some (simp append_assoc)
 
@@ -39,10 +44,12 @@ pub more_none : (separator made : List ℕ) → more separator made [] ≡ Some 
 more_none separator made = ap Some (append-nil made)
 
 -- one more text, at a place of those to come
-pub more_step : (separator made next text : List ℕ) (vs : List Value) (i : ℕ) (d : Value) → i < length vs → text_of (get_or vs i d) ≡ Some text
+pub more_step : (separator made next text : List ℕ) (vs : List Value) (i : ℕ) (d : Value) → i < length vs
+    → text_of (get_or vs i d) ≡ Some text
     → next ≡ (made ++ separator) ++ text → more separator next (drop (i + 1) vs) ≡ more separator made (drop i vs)
 more_step separator made next text vs i d within t e =
-    ap (λ l. more separator l (drop (i + 1) vs)) e ∙ sym (more_next separator made text (get_or vs i d) (drop (i + 1) vs) t) ∙ sym (at_drop_more (more separator made) vs i d within)
+    ap (λ l. more separator l (drop (i + 1) vs)) e ∙ sym (more_next separator made text (get_or vs i d) (drop (i + 1) vs) t)
+    ∙ sym (at_drop_more (more separator made) vs i d within)
 
 -- none are left to come
 pub more_end : (separator made : List ℕ) (vs : List Value) (i : ℕ) → length vs ≤ i → more separator made (drop i vs) ≡ Some made
@@ -54,7 +61,8 @@ pub joined_opened : (separator text : List ℕ) (vs : List Value) (d : Value) �
 joined_opened separator text [] d some t = absurd (omega arith)
 joined_opened separator text (v ∷ vs) d some t =
     let one_less : length (v ∷ vs) - 1 ≡ length vs = omega arith in
-    joined_first separator text v vs t ∙ ap (more separator text) (sym (ap (λ n. take n vs) one_less ∙ take_all (length vs) vs (omega arith)))
+    joined_first separator text v vs t ∙ ap (more separator text)
+    (sym (ap (λ n. take n vs) one_less ∙ take_all (length vs) vs (omega arith)))
 
 -- the length of a value that is a text
 length_at_text : (p : Value-F Value) (text : List ℕ) → text_at p ≡ Some text → length_at p ≡ code_points text
@@ -82,7 +90,15 @@ more_length separator made (v ∷ vs) text e = elim (option_cases (text_of v)) [
   | inr h ↦
       let rest = more_length separator ((made ++ separator) ++ h.0) vs text (sym (more_next separator made h.0 v vs h.1) ∙ e) in
       let long : length_of v ≡ code_points h.0 = length_at_text (out-Value v) h.0 h.1 in
-      omega (arith, rest, long, sum_by-cons length_of v vs, code_points-append (made ++ separator) h.0, code_points-append made separator, suc-mul (length vs) (code_points separator))
+      omega (
+        arith,
+        rest,
+        long,
+        sum_by-cons length_of v vs,
+        code_points-append (made ++ separator) h.0,
+        code_points-append made separator,
+        suc-mul (length vs) (code_points separator),
+      )
 ]
 
 pub joined_length : (separator : List ℕ) (vs : List Value) (text : List ℕ) → joined separator vs ≡ Some text

@@ -15,7 +15,7 @@ use Rattle.cel_code.specs.declared.instr.Instr.TheVariants.{Jump, End, Slot, Loc
 use Rattle.cel_code.specs.declared.instr.Instr.TheVariants as instr
 use Rattle.cel_code.specs.declared.image.Image.{Image}
 use Rattle.cel_operators.specs.Wants.{is_there, is_truth}
-use Rattle.cel_verify.specs.declared.fault.VerifyRule.TheVariants.{TooDeep, WrongKind}
+use Rattle.cel_verify.specs.declared.fault.VerifyRule.TheVariants.{TooDeep, WrongKind, OverBudget}
 use Rattle.cel_verify.specs.Bodies.{same_body}
 use Rattle.cel_verify.specs.StackTypes.{StackTypes, all_assignable}
 use Rattle.cel_verify.specs.Sound.{Falls, Open, some_of, every, jumps_of, is_jumped, is_target, is_placed, enters, loop_rule, shallow}
@@ -151,7 +151,8 @@ still_fewer at (o ∷ os) = by (nat_lt at o.exit) (still_fewer at os)
 entry_long : (o : Option StackTypes) (r : Falls) (ns ts : StackTypes) → entered o r ≡ Ok (Some ns) → entry_or o (Some ns) ≡ Some ts
     → length ts ≡ length ns
 entry_long None r ns ts h e = let same : ns ≡ ts = cc e in ap (length {A = CelType}) (sym same)
-entry_long (Some es) (Err k) ns ts h e = cc
+entry_long (Some es) (Err OverBudget) ns ts h e = cc
+entry_long (Some es) (Err _) ns ts h e = cc
 entry_long (Some es) (Ok None) ns ts h e = cc
 entry_long (Some es) (Ok (Some ms)) ns ts h e =
     let p = needs_is (all_assignable ms es) WrongKind (Ok (Some ms)) (Some ns) h in

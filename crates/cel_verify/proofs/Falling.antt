@@ -2,7 +2,7 @@
 use Rattle.std.proofs.Common.{◌≡◌, ℕ, zero, suc, ◌<◌, Bool, true, false, ◌&&◌, List, [], ◌∷◌, length}
 use Rattle.std.proofs.Common.{Option, Some, None, refl, sym, arith, true≢false}
 use Rattle.std.specs.Prelude.{Ok, Err, slice_get}
-use Rattle.cel_verify.specs.declared.fault.VerifyRule.TheVariants.{WrongKind}
+use Rattle.cel_verify.specs.declared.fault.VerifyRule.TheVariants.{WrongKind, OverBudget}
 use Rattle.cel_verify.specs.StackTypes.{StackTypes, all_assignable}
 use Rattle.cel_verify.specs.Sound.{Falls, needs, entered, enters}
 
@@ -20,7 +20,8 @@ one_needs false r m e = cc
 pub entered_ok : (o : Option StackTypes) (r : Falls) (n : Option StackTypes) → entered o r ≡ Ok n
     → (m : Option StackTypes) × (r ≡ Ok m)
 entered_ok None r n e = (n, e)
-entered_ok (Some es) (Err k) n e = cc
+entered_ok (Some es) (Err OverBudget) n e = cc
+entered_ok (Some es) (Err _) n e = cc
 entered_ok (Some es) (Ok m) n e = (m, refl)
 
 pub enters_is : (o : Option StackTypes) (ts : StackTypes) → enters o ts ≡ true

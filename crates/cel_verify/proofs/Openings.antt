@@ -1,5 +1,5 @@
 -- What an instruction's rule makes of the types and of the open loops.
-use Rattle.std.proofs.Common.{◌≡◌, ℕ, suc, ◌+◌, ◌-◌, ◌<◌, ◌≤◌, Bool, true, false, cond, not, ◌&&◌, ◌||◌, min, List, [], ◌∷◌}
+use Rattle.std.proofs.Common.{◌≡◌, ◌≢◌, ℕ, suc, ◌+◌, ◌-◌, ◌<◌, ◌≤◌, Bool, true, false, cond, not, ◌&&◌, ◌||◌, min, List, [], ◌∷◌}
 use Rattle.std.proofs.Common.{◌++◌, length}
 use Rattle.std.proofs.Common.{Option, Some, None, refl, sym, ap, ◌∙◌, inl, inr, ⊎_elim, arith, length-append, true≢false}
 use Rattle.std.specs.Borrow.{Bor}
@@ -20,13 +20,14 @@ use Rattle.cel_code.specs.declared.instr.Instr.{Instr}
 use Rattle.cel_code.specs.declared.instr.Instr.TheVariants as instr
 use Rattle.cel_code.specs.declared.image.Image.{Image}
 use Rattle.cel_verify.specs.declared.fault.VerifyRule.{VerifyRule}
-use Rattle.cel_verify.specs.declared.fault.VerifyRule.TheVariants.{WrongKind, TooDeep}
+use Rattle.cel_verify.specs.declared.fault.VerifyRule.TheVariants.{WrongKind, TooDeep, OverBudget}
 use Rattle.cel_verify.specs.declared.open_loop.Open.{Open}
 use Rattle.cel_verify.specs.declared.refusal.Refusal.{Refusal}
 use Rattle.cel_verify.specs.declared.refusal.Refusal.TheVariants.{Broken, NoMemory}
 use Rattle.cel_verify.specs.StackTypes.{StackTypes, all_assignable}
 use Rattle.cel_verify.specs.Sound.{Falls, needs, below_all, entered, shallow, typed_rule, entry_in, entry_or, opening, with_loop}
-use Rattle.cel_verify.specs.Sound.{empty_rule, range_rule, loop_rule, next_rule, no_items, still_open, in_innermost, max_depth, max_loops}
+use Rattle.cel_verify.specs.Sound.{enters, empty_rule, range_rule, loop_rule, next_rule, no_items, still_open, in_innermost}
+use Rattle.cel_verify.specs.Sound.{max_depth, max_loops}
 use Rattle.cel_verify.specs.Paths.{is_loop}
 use Rattle.cel_verify.specs.Walked.{Refuses, arrived, Arrives, typed_here, Passes, TakesNone, IsRange, Awaits, Begins, ceiling}
 
@@ -45,20 +46,45 @@ pub met : (b : Bool) (k : VerifyRule) (r : Falls) → b ≡ true → needs b k r
 met true k r e = refl
 met false k r e = cc
 
--- a rule that is broken stays so
-entered_broken : (entry : Option StackTypes) (k : VerifyRule) → entered entry (Err k) ≡ Err k
-entered_broken None k = refl
-entered_broken (Some es) k = refl
+-- a rule that is broken is told as it is, unless a limit is past the greatest
+pub told_alike : (entry : Option StackTypes) (k : VerifyRule) → k ≢ OverBudget → entered entry (Err k) ≡ Err k
+told_alike None k h = refl
+told_alike (Some es) OverBudget h = absurd (h refl)
+told_alike (Some es) _ h = refl
 
-arrived_broken : (image : Image) (to : ℕ) (opens : List Open) (k : VerifyRule) → arrived image to opens (Err k) ≡ Err k
-arrived_broken image to opens k = ap (shallow opens) (entered_broken (entry_in image.targets to) k)
-
-pub refused_typed : (image : Image) (at : ℕ) (i : Instr) (ts : StackTypes) (opens : List Open) (r : Refusal)
-    → Refuses r (typed_rule image i opens ts) → Refuses r (typed_here image at i ts opens)
-refused_typed image at i ts opens (Broken k) h =
+-- a broken rule by what is told of it at the next instruction
+pub told_typed : (image : Image) (at : ℕ) (i : Instr) (ts : StackTypes) (opens : List Open) (k told : VerifyRule)
+    → typed_rule image i opens ts ≡ Err k → entered (entry_in image.targets (at + 1)) (Err k) ≡ Err told
+    → typed_here image at i ts opens ≡ Err told
+told_typed image at i ts opens k told h e =
     let behind = opening image at (Some i) (Some ts) opens in
-    ap (arrived image (at + 1) behind) h ∙ arrived_broken image (at + 1) behind k
-refused_typed image at i ts opens NoMemory h = tt
+    ap (arrived image (at + 1) behind) h ∙ ap (shallow behind) e
+
+-- where a loop begins there is no limit past the greatest
+one_told : (b : Bool) (k : VerifyRule) → needs b WrongKind (Ok (Some [])) ≡ Err k → k ≢ OverBudget
+one_told true k e = λ q. cc
+one_told false k e = λ q. cc
+
+empty_told : (es : Option StackTypes) (ts : StackTypes) (r : Result CelType TypeRule) (k : VerifyRule) → empty_rule es ts r ≡ Err k
+    → k ≢ OverBudget
+empty_told es ts (Err broken) k e = λ q. cc
+empty_told es ts (Ok s) k e = one_told (enters es (s ∷ ts)) k e
+
+range_told : (l : Loop) (span : Option Span) (es : Option StackTypes) (ts : StackTypes) (k : VerifyRule)
+    → range_rule l span es ts ≡ Err k → k ≢ OverBudget
+range_told l None es ts k e = λ q. cc
+range_told l (Some span) es ts k e = empty_told es ts (loop_type l no_items type.Never) k e
+
+loop_told : (l : Loop) (es : Option StackTypes) (ts : StackTypes) (k : VerifyRule) → loop_rule l es ts ≡ Err k → k ≢ OverBudget
+loop_told l es [] k e = λ q. cc
+loop_told l es (t ∷ ts) k e = range_told l (limit_of Ranged t) es ts k e
+
+pub refused_loop : (image : Image) (at : ℕ) (l : Loop) (exit : ℕ) (ts : StackTypes) (opens : List Open) (r : Refusal)
+    → Refuses r (loop_rule l (entry_in image.targets exit) ts) → Refuses r (typed_here image at (instr.Loop l exit) ts opens)
+refused_loop image at l exit ts opens (Broken k) h =
+    let alike = told_alike (entry_in image.targets (at + 1)) k (loop_told l (entry_in image.targets exit) ts k h) in
+    told_typed image at (instr.Loop l exit) ts opens k k h alike
+refused_loop image at l exit ts opens NoMemory h = tt
 
 -- an instruction whose own rule holds
 module _ (image : Image) (at : ℕ) (i : Instr) (ts : StackTypes) (opens behind : List Open) (next : Option StackTypes)

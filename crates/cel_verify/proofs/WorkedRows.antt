@@ -1,5 +1,5 @@
 -- The definitions at small images.
-use Rattle.std.proofs.Common.{◌≡◌, true, false, List, [], ◌∷◌, Some, None, refl}
+use Rattle.std.proofs.Common.{◌≡◌, ℕ, true, false, List, [], ◌∷◌, Some, None, refl}
 use Rattle.std.specs.Prelude.{Ok, Err, pos}
 use Rattle.cel_value.specs.declared.value.Value as value
 use Rattle.cel_value.specs.declared.cel_type.CelType as type
@@ -9,8 +9,9 @@ use Rattle.cel_code.specs.declared.instr.Instr.TheVariants.{Const, Op, WithText,
 use Rattle.cel_code.specs.declared.instr.Instr.TheVariants as instr
 use Rattle.cel_code.specs.declared.image.Image.{Image}
 use Rattle.cel_operators.specs.declared.text_operator.TextOperator.TheVariants.{Matches}
-use Rattle.cel_verify.specs.declared.fault.VerifyRule.TheVariants.{Underflow, WrongKind, BadTarget, BadConstant}
-use Rattle.cel_verify.specs.Sound.{rule_at, label_at, is_nested}
+use Rattle.cel_operators.specs.declared.type_rule.TypeRule.TheVariants.{TooLarge}
+use Rattle.cel_verify.specs.declared.fault.VerifyRule.TheVariants.{Underflow, WrongKind, BadTarget, BadConstant, OverBudget}
+use Rattle.cel_verify.specs.Sound.{Open, rule_at, label_at, is_nested, closing_rule}
 use Rattle.cel_verify.specs.Paths.{path_cost, path_steps}
 use Rattle.cel_verify.specs.Accepted.{misplaced_entry}
 use Rattle.cel_value.proofs.Reflexive.{assignable-refl}
@@ -119,3 +120,28 @@ across =
 
 across_bodies : is_nested (whole across) 3 (instr.Loop loop.Map 7) [] ≡ false
 across_bodies = refl
+
+-- `true && text + text`, whose right side has a limit past the greatest
+abbrev long_side : ℕ → List Instr → Image
+long_side to behind =
+    record {
+      slots = type.Text 4294967295 ∷ [];
+      constants = value.Bool true ∷ [];
+      targets = record { at = to; types = type.Bool ∷ [] } ∷ [];
+      result = type.Bool;
+      code = Const 0 ∷ AndTest to ∷ instr.Slot 0 ∷ instr.Slot 0 ∷ Op 4 ∷ behind;
+    }
+
+-- in front of a target it fits no entry
+before_target : rule_at (long_side 5 (End ∷ [])) 4 (Some (Op 4)) (label_at (long_side 5 (End ∷ [])) 4) ≡ Err WrongKind
+unfolding value.out-Value denote.Hole.Carrier.out type.out-CelType
+before_target = rw (assignable-refl type.Bool) refl
+
+-- in front of another instruction it is told by itself
+before_other : rule_at (long_side 6 (And ∷ End ∷ [])) 4 (Some (Op 4)) (label_at (long_side 6 (And ∷ End ∷ [])) 4) ≡ Err OverBudget
+unfolding value.out-Value denote.Hole.Carrier.out type.out-CelType
+before_other = rw (assignable-refl type.Bool) refl
+
+-- what NEXT makes fits no entry either, where its loop leads
+past_at_exit : (o : Open) → closing_rule o (Err TooLarge) ≡ Err WrongKind
+past_at_exit o = refl

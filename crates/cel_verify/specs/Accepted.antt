@@ -88,7 +88,8 @@ pub data IsFault (image : Image) (f : VerifyFault) : Type 0 where
   EndsWrong : IsCounted image → IsWrongEnd image.code f.at → f.rule ≡ BadTarget → IsFault image f
   Breaks : IsCounted image → EndsOnce image.code → IsFirstFault image f.at f.rule → IsFault image f
   Misplaced : IsCounted image → IsSound image → misplaced_entry image ≡ Some f.at → f.rule ≡ BadTarget → IsFault image f
-  TooDear : IsCounted image → IsSound image → misplaced_entry image ≡ None → budget < path_cost image → f ≡ fault OverBudget (length image.code - 1) → IsFault image f
+  TooDear : IsCounted image → IsSound image → misplaced_entry image ≡ None → budget < path_cost image
+      → f ≡ fault OverBudget (length image.code - 1) → IsFault image f
 
 -- a refusal: for want of memory, or for the image's fault, with which it is not accepted
 abbrev pub IsRefused : Image → VerifyError → Type 0

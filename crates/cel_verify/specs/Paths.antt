@@ -135,8 +135,11 @@ is_loop _ = false
 -- body so often
 pub data Route (weigh times : ℕ → ℕ) (code : List Instr) : ℕ → ℕ → Type 0 where
   Stops : {at sum : ℕ} (i : Instr) → slice_get code at ≡ Some i → goes_to i at ≡ [] → sum ≡ weigh at → Route weigh times code at sum
-  Via : {at sum : ℕ} (i : Instr) (to rest : ℕ) → slice_get code at ≡ Some i → is_loop i ≡ false → IsIn to (goes_to i at) → at < to → Route weigh times code to rest → sum ≡ weigh at + rest → Route weigh times code at sum
-  Rounds : {at sum : ℕ} (l : Loop) (exit body rest : ℕ) → slice_get code at ≡ Some (instr.Loop l exit) → at < exit → Route weigh times code (at + 1) body → Route weigh times code exit rest → sum ≡ weigh at + (times at * body + rest) → Route weigh times code at sum
+  Via : {at sum : ℕ} (i : Instr) (to rest : ℕ) → slice_get code at ≡ Some i → is_loop i ≡ false → IsIn to (goes_to i at) → at < to
+      → Route weigh times code to rest → sum ≡ weigh at + rest → Route weigh times code at sum
+  Rounds : {at sum : ℕ} (l : Loop) (exit body rest : ℕ) → slice_get code at ≡ Some (instr.Loop l exit) → at < exit
+      → Route weigh times code (at + 1) body → Route weigh times code exit rest → sum ≡ weigh at + (times at * body + rest)
+      → Route weigh times code at sum
 
 -- the greatest sum of the routes from an instruction
 pub record IsGreatest (weigh times : ℕ → ℕ) (code : List Instr) (at greatest : ℕ) : Type 0 where

@@ -17,7 +17,8 @@ use Rattle.cel_operators.specs.declared.type_rule.TypeRule.{TypeRule}
 use Rattle.cel_operators.specs.declared.type_rule.TypeRule.TheVariants.{TooLarge}
 use Rattle.cel_operators.specs.declared.operator.Operator.{Operator}
 use Rattle.cel_code.specs.declared.instr.Instr.{Instr}
-use Rattle.cel_code.specs.declared.instr.Instr.TheVariants.{Const, Op, WithText, AndTest, OrTest, And, Or, Cond, Jump, End, Slot, Local, Item, When, Next}
+use Rattle.cel_code.specs.declared.instr.Instr.TheVariants.{Const, Op, WithText, AndTest, OrTest, And, Or, Cond, Jump, End, Slot, Local}
+use Rattle.cel_code.specs.declared.instr.Instr.TheVariants.{Item, When, Next}
 use Rattle.cel_code.specs.Machine.{taken_off, constant_text}
 use Rattle.cel_operators.specs.Maps.{entries_type}
 use Rattle.cel_operators.specs.TextOperators.{row_with}
@@ -28,7 +29,8 @@ use Rattle.cel_code.specs.declared.image.Image.{Image}
 use Rattle.cel_code.specs.declared.image.Target.{Target}
 use Rattle.cel_operators.specs.Operators.{Row, One, Two, row, operator_of, type_of_one, type_of_two}
 use Rattle.cel_verify.specs.declared.fault.VerifyRule.{VerifyRule}
-use Rattle.cel_verify.specs.declared.fault.VerifyRule.TheVariants.{Underflow, WrongKind, BadTarget, BadNesting, BadConstant, TooDeep, OverBudget}
+use Rattle.cel_verify.specs.declared.fault.VerifyRule.TheVariants.{Underflow, WrongKind, BadTarget, BadNesting, BadConstant, TooDeep}
+use Rattle.cel_verify.specs.declared.fault.VerifyRule.TheVariants.{OverBudget}
 use Rattle.cel_verify.specs.StackTypes.{StackTypes, all_assignable, constant_type}
 
 -- the types below all open loops
@@ -119,7 +121,7 @@ is_placed image at _ opens = true
 abbrev pub is_nested : Image → ℕ → Instr → List Open → Bool
 is_nested image at i opens = is_placed image at i opens && every (same_body image.code at) (jumps_of i)
 
--- the type that an operator gives, on top of those below its operands; a limit of it that is too large is told by itself
+-- the type that an operator gives, on top of those below its operands; a limit of it past the greatest is told by itself
 abbrev pub given : Result CelType TypeRule → StackTypes → Falls
 given (Err TooLarge) ts = Err OverBudget
 given (Err rule) ts = Err WrongKind
@@ -257,9 +259,10 @@ typed_rule image When opens ts = when_rule ts
 typed_rule image Next opens ts = next_rule opens ts
 typed_rule image End opens ts = end_rule image.result ts
 
--- what goes on may stand at the next instruction's entry
+-- what goes on may stand at the next instruction's entry; what has a limit past the greatest is assignable to no entry
 abbrev pub entered : Option StackTypes → Falls → Falls
 entered (Some es) (Ok (Some ts)) = needs (all_assignable ts es) WrongKind (Ok (Some ts))
+entered (Some es) (Err OverBudget) = Err WrongKind
 entered _ r = r
 
 -- the most operands, over all open loops together
@@ -301,7 +304,10 @@ reached (Some ts) f = f ts
 -- an instruction's rule; its first part that is broken is the fault
 abbrev pub rule : Image → ℕ → Instr → Label → Falls
 rule image at i l =
-    needs (is_named image i) BadConstant (needs (is_wanted image at && every (is_target image at) (jumps_of i)) BadTarget (reached l.types (λ ts. needs (is_nested image at i l.opens) BadNesting (shallow (opening image at (Some i) l.types l.opens) (entered (entry_in image.targets (at + 1)) (typed_rule image i l.opens ts))))))
+    needs (is_named image i) BadConstant
+    (needs (is_wanted image at && every (is_target image at) (jumps_of i)) BadTarget
+    (reached l.types (λ ts. needs (is_nested image at i l.opens) BadNesting
+    (shallow (opening image at (Some i) l.types l.opens) (entered (entry_in image.targets (at + 1)) (typed_rule image i l.opens ts))))))
 
 -- the rule of the instruction at a place, if there is one
 abbrev pub rule_at : Image → ℕ → Option Instr → Label → Falls

@@ -99,7 +99,8 @@ total image weigh s = path_from image weigh s.at + owed (path_from image weigh) 
 
 -- a step goes on to such a state, pays for itself at every weighing, or ends with an outcome of the image's type
 abbrev pub GoesOn : Image → State → Next → Type 0
-GoesOn image s (Goes charge to) = Typed image to × (charge ≤ charge_at image s.at) × ((weigh : ℕ → ℕ) → weigh s.at + total image weigh to ≤ total image weigh s)
+GoesOn image s (Goes charge to) = Typed image to × (charge ≤ charge_at image s.at)
+    × ((weigh : ℕ → ℕ) → weigh s.at + total image weigh to ≤ total image weigh s)
 GoesOn image s (Ends x) = Fits x image.result
 GoesOn image s Stuck = ⊥
 
@@ -116,5 +117,6 @@ pub record RunsWithin (image : Image) (slots : List Outcome) : Type 0 where
   pub never : (s : State) (charge steps : ℕ) → Gets image slots (on 0 [] []) s charge steps → step image slots s ≢ Stuck
   pub charge : (s : State) (charge steps : ℕ) → Gets image slots (on 0 [] []) s charge steps → charge ≤ path_cost image
   pub steps : (s : State) (charge steps : ℕ) → Gets image slots (on 0 [] []) s charge steps → steps + 1 ≤ path_steps image
-  pub outcome : (s : State) (charge steps : ℕ) (x : Outcome) → Gets image slots (on 0 [] []) s charge steps → step image slots s ≡ Ends x → Fits x image.result
+  pub outcome : (s : State) (charge steps : ℕ) (x : Outcome) → Gets image slots (on 0 [] []) s charge steps → step image slots s ≡ Ends x
+      → Fits x image.result
   pub ends : HasRun image slots

@@ -105,10 +105,28 @@ fn pass(
             let begun = opened(alloc, image, arrivals, at, mode, exit, types)?;
             enter(alloc, image, arrivals, at + 1, begun, opens)
         }
-        _ => {
-            let falls = typed(alloc, image, arrivals, instr, opens, types)?;
-            go_on(alloc, image, arrivals, at + 1, falls, opens)
-        }
+        _ => match typed(alloc, image, arrivals, instr, opens, types) {
+            Ok(falls) => go_on(alloc, image, arrivals, at + 1, falls, opens),
+            Err(Refusal::Broken(rule)) => {
+                Err(Refusal::Broken(told_at(image, arrivals, at + 1, rule)))
+            }
+            Err(Refusal::NoMemory) => Err(Refusal::NoMemory),
+        },
+    }
+}
+
+// The rule that is told in front of an instruction, where one is broken. What has a limit past the greatest may stand at no entry.
+fn told_at(image: &Image, arrivals: &Arrivals, to: usize, broken: VerifyRule) -> VerifyRule
+    requires known { AreArrivals image.now arrivals.now }
+    requires inside { to ≤ length image.now.code }
+    ensures { entered (entry_in image.now.targets to) (Err broken) ≡ Err result }
+{
+    match broken {
+        VerifyRule::OverBudget => match entry(image, arrivals, to) {
+            Some(_) => VerifyRule::WrongKind,
+            None => VerifyRule::OverBudget,
+        },
+        _ => broken,
     }
 }
 

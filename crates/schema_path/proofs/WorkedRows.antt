@@ -16,7 +16,9 @@ a_list_needs_items = refl
 pub the_first_property_is_told :
     document_place
     (json.object
-    (json.member (codes "properties") (json.object (json.member (codes "a") (json.object json.no_members) (json.member (codes "b") (json.boolean true) json.no_members))) (json.member (codes "type") (json.string (codes "object")) json.no_members)))
+    (json.member (codes "properties") (json.object
+    (json.member (codes "a") (json.object json.no_members) (json.member (codes "b") (json.boolean true) json.no_members)))
+    (json.member (codes "type") (json.string (codes "object")) json.no_members)))
     ≡ Err (record { fault = NoType; path = codes "properties" ∷ codes "a" ∷ [] })
 unfolding schema_place
 the_first_property_is_told = refl
@@ -25,7 +27,8 @@ the_first_property_is_told = refl
 pub a_reference_is_told_at_its_keyword :
     document_place
     (json.object
-    (json.member (codes "additionalProperties") (json.object (json.member (codes "$ref") (json.string (codes "b")) json.no_members)) (json.member (codes "type") (json.string (codes "object")) json.no_members)))
+    (json.member (codes "additionalProperties") (json.object (json.member (codes "$ref") (json.string (codes "b")) json.no_members))
+    (json.member (codes "type") (json.string (codes "object")) json.no_members)))
     ≡ Err (record { fault = BadKeyword; path = codes "additionalProperties" ∷ codes "$ref" ∷ [] })
 unfolding schema_place
 a_reference_is_told_at_its_keyword = refl

@@ -10,7 +10,8 @@ use Rattle.vap_check.specs.declared.failure.CheckFailure.{CheckFailure}
 use Rattle.vap_check.specs.declared.judgement.Judgement.{Judgement}
 use Rattle.vap_check.specs.declared.made.Made.{Made}
 use Rattle.vap_check.specs.declared.refusal.FileRefusal.{FileRefusal}
-use Rattle.vap_check.specs.Checks.{IsJudged, IsMadeIn, TellsObject, TellsMade, TellsRefused, TellsResult, TellsDocument, TellsBytes, TellsFile, Read, Unread}
+use Rattle.vap_check.specs.Checks.{IsJudged, IsMadeIn, TellsObject, TellsMade, TellsRefused, TellsResult, TellsDocument, TellsBytes}
+use Rattle.vap_check.specs.Checks.{TellsFile, Read, Unread}
 use Rattle.vap_check.specs.Documents.{IsUnread, Spells, longest}
 use Rattle.vap_check.specs.Report.{estimate_line, judgement_lines, refused_line, status_of_judgement}
 

@@ -122,7 +122,8 @@ fn tell<W: Write>(
     out: &mut Counted<W>,
 ) -> Result<Ended, CheckFailure>
     requires { failures_of out.old < 2 ^ 64 - 1 }
-    ensures written { OnOk result (Appends (W.contents (inner_of out.old)) (W.contents (inner_of out.new)) (judgement_lines judgement.now)) }
+    ensures written { OnOk result (Appends (W.contents (inner_of out.old)) (W.contents (inner_of out.new))
+        (judgement_lines judgement.now)) }
     ensures ended { IfOk result (λ ended. ended.status ≡ status_of_judgement judgement.now) }
     ensures all_written { OnOk result (failures_of out.new ≡ failures_of out.old) }
     ensures read { IsErrOf result failure.Read → ⊥ }

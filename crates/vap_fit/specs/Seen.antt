@@ -129,7 +129,8 @@ seen_members fields path (json.member k d ms) = do
 -- nothing, or the fault of the first required field that is absent
 abbrev pub all_there : List (Keyed (Field Reader)) → List ℕ → List (Keyed Value) → Result (Unit {0}) FitFault
 all_there [] path es = Ok tt
-all_there (f ∷ fields) path es = if f.value.required && not (is_some (value_under f.key es)) then Err (fault Missing (at_field path f.key)) else all_there fields path es
+all_there (f ∷ fields) path es = if f.value.required
+    && not (is_some (value_under f.key es)) then Err (fault Missing (at_field path f.key)) else all_there fields path es
 
 -- the entries, unless a required field is absent
 abbrev pub if_all_there : List (Keyed (Field Reader)) → List ℕ → List (Keyed Value) → Result (List (Keyed Value)) FitFault

@@ -1,10 +1,8 @@
--- Of two errors the first is told.
-use Rattle.std.proofs.Common.{◌≡◌, ℕ, List, refl}
-use Rattle.vap_found.specs.declared.conditions.Gate.{Gate}
-use Rattle.vap_found.specs.declared.conditions.Gate.TheVariants.{Open, Shut, Broken}
-use Rattle.vap_found.specs.Conditions.{unless_shut}
+-- Of two errors the first is said.
+use Rattle.std.proofs.Common.{◌≡◌, ℕ, List, Option, Some, None, refl}
+use Rattle.std.specs.Option.{option_or}
 
-pub first_is_told : (first second : List ℕ) (rest : Gate) → unless_shut first rest ≡ unless_shut first (unless_shut second rest)
-first_is_told first second Open = refl
-first_is_told first second Shut = refl
-first_is_told first second (Broken later) = refl
+pub first_is_said : (first second rest : Option (List ℕ))
+    → option_or (option_or first second) rest ≡ option_or first (option_or second rest)
+first_is_said None second rest = refl
+first_is_said (Some message) second rest = refl

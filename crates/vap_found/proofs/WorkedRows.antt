@@ -1,23 +1,28 @@
 -- Rows of what is said and noted, worked by computing.
-use Rattle.std.proofs.Common.{◌≡◌, true, false, [], ◌∷◌, None, Some, Ok, Err, refl}
+use Rattle.std.proofs.Common.{◌≡◌, true, false, ◌||◌, [], ◌∷◌, None, Some, Ok, Err, refl}
 use Rattle.std.specs.Prelude.{codes}
+use Rattle.std.specs.Option.{option_or}
 use Rattle.cel_value.specs.declared.value.Value as value
 use Rattle.cel_value.specs.declared.cel_error.CelError.TheVariants.{DivideByZero}
 use Rattle.vap_policies.specs.declared.policy.FailurePolicy.TheVariants.{Ignore}
 use Rattle.vap_found.specs.declared.conditions.Gate.TheVariants.{Open, Shut, Broken}
 use Rattle.vap_found.specs.Words.{condition_error, can_tell, written, told_or}
-use Rattle.vap_found.specs.Conditions.{behind}
+use Rattle.vap_found.specs.Conditions.{conditions_pass, gate_of, is_false, said}
 use Rattle.vap_found.specs.Validations.{counted}
 use Rattle.vap_found.specs.Annotations.{note_by}
 
--- an error in front of what is false is not told
-error_then_false : behind (codes "a") (Err DivideByZero) (behind (codes "b") (Ok false) Open) ≡ Shut
-error_then_false = refl
+-- an error beside what is false is not said
+error_and_false : gate_of (is_false (Err DivideByZero) || (is_false (Ok false) || false)) (said (codes "a") (Err DivideByZero)) ≡ Shut
+error_and_false = refl
 
--- of two errors the first is told
-two_errors : behind (codes "a") (Err DivideByZero) (behind (codes "b") (Err DivideByZero) Open)
+-- of two errors the first is said
+two_errors : gate_of false (option_or (said (codes "a") (Err DivideByZero)) (said (codes "b") (Err DivideByZero)))
     ≡ Broken (condition_error (codes "a") DivideByZero)
 two_errors = refl
+
+-- none passes
+no_condition : conditions_pass [] [] ≡ Open
+no_condition = refl
 
 -- nothing, spaces and a second line are not told; a tab is
 nothing : can_tell [] ≡ false

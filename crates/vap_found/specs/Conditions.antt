@@ -1,5 +1,7 @@
 -- Whether the match conditions of a policy pass (Kubernetes, "Matching requests: matchConditions").
-use Rattle.std.specs.Prelude.{ℕ, ◌+◌, true, false, List, [], ◌∷◌, Ok, Err}
+use Rattle.std.specs.Prelude.{ℕ, ◌+◌, Bool, true, false, List, [], ◌∷◌, Option, Some, None, Ok, Err}
+use Rattle.std.specs.List.{list_any}
+use Rattle.std.specs.Option.{option_or}
 use Rattle.cel_operators.specs.Outcomes.{Outcome, Side}
 use Rattle.vap_programs.specs.declared.programs.Condition.{Condition}
 use Rattle.vap_found.specs.declared.conditions.Gate.{Gate}
@@ -7,30 +9,37 @@ use Rattle.vap_found.specs.declared.conditions.Gate.TheVariants.{Open, Shut, Bro
 use Rattle.vap_found.specs.Runs.{holds, charge}
 use Rattle.vap_found.specs.Words.{condition_error}
 
--- an error counts where no later condition is false, and before the error of a later one
-abbrev pub unless_shut : List ℕ → Gate → Gate
-unless_shut message Open = Broken message
-unless_shut message Shut = Shut
-unless_shut message (Broken later) = Broken message
+-- a side is false
+abbrev pub is_false : Side → Bool
+is_false (Ok true) = false
+is_false (Ok false) = true
+is_false (Err e) = false
 
--- conditions behind those that came to this
-abbrev pub past : Gate → Gate → Gate
-past Open rest = rest
-past Shut rest = Shut
-past (Broken message) rest = unless_shut message rest
+-- a condition is false
+abbrev pub is_shut : List Outcome → Condition → Bool
+is_shut slots c = is_false (holds c.expression slots)
 
--- a condition in front of others
-abbrev pub behind : List ℕ → Side → Gate → Gate
-behind name (Ok true) rest = rest
-behind name (Ok false) rest = Shut
-behind name (Err e) rest = unless_shut (condition_error name e) rest
+-- what is said of a side that is an error
+abbrev pub said : List ℕ → Side → Option (List ℕ)
+said name (Ok truth) = None
+said name (Err e) = Some (condition_error name e)
 
--- all conditions: shut where one is false, else broken by the first error, else open
+-- what is said of the first condition that has an error
+abbrev pub first_error : List Condition → List Outcome → Option (List ℕ)
+first_error [] slots = None
+first_error (c ∷ cs) slots = option_or (said c.name (holds c.expression slots)) (first_error cs slots)
+
+-- shut, or else broken by a message, or else open
+abbrev pub gate_of : Bool → Option (List ℕ) → Gate
+gate_of true message = Shut
+gate_of false None = Open
+gate_of false (Some message) = Broken message
+
+-- all conditions: shut if one is false, else broken by the first error, else open
 abbrev pub conditions_pass : List Condition → List Outcome → Gate
-conditions_pass [] slots = Open
-conditions_pass (c ∷ cs) slots = behind c.name (holds c.expression slots) (conditions_pass cs slots)
+conditions_pass cs slots = gate_of (list_any (is_shut slots) cs) (first_error cs slots)
 
--- nothing more is charged behind what is false
+-- after what is false nothing more is charged
 abbrev pub unless_false : Side → ℕ → ℕ
 unless_false (Ok true) n = n
 unless_false (Ok false) n = 0

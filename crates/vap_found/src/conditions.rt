@@ -1,13 +1,13 @@
 //! Match conditions.
 
-ghost use Rattle.std.specs.Prelude.{◌≡◌, ◌≤◌, true, List, sum_by, Err, IfOk, IsErrOf};
+ghost use Rattle.std.specs.Prelude.{◌≡◌, ◌≤◌, true, false, List, sum_by, Err, IfOk, IsErrOf};
+ghost use Rattle.std.specs.Option.{option_or};
 ghost use Rattle.std.specs.List.{Any};
 ghost use Rattle.cel_value.specs.declared.cel_type.CelType.{CelType};
 ghost use Rattle.cel_operators.specs.Outcomes.{slots_fit};
 ghost use Rattle.vap_programs.specs.Pairs.{condition_estimate, most};
 ghost use Rattle.vap_programs.specs.Ready.{AreConditionsAt};
-ghost use Rattle.vap_found.specs.declared.conditions.Gate.{Gate};
-ghost use Rattle.vap_found.specs.Conditions.{behind, conditions_pass, conditions_charge, past};
+ghost use Rattle.vap_found.specs.Conditions.{conditions_pass, conditions_charge, gate_of, said};
 ghost use Rattle.vap_found.specs.Patterns.{ConditionMayMatch};
 
 use crate::running::{Tested, test};
@@ -34,14 +34,28 @@ pub struct Passed {
     pub charged: u64,
 }
 
-/// The same with one more condition behind them, which has an error: the first error is told.
-fn with_error(alloc: Global, gate: Gate, name: &Text, error: CelError) -> Result<Gate, AllocError>
-    ensures { IfOk result (λ g. (rest : Gate) → past g rest ≡ past gate (behind name.now (Err error) rest)) }
+/// The first error, as it is said, with one more condition that has an error.
+fn first_error(
+    alloc: Global,
+    first: Option<Text>,
+    name: &Text,
+    error: CelError,
+) -> Result<Option<Text>, AllocError>
+    ensures { IfOk result (λ o. o ≡ option_or first (said name.now (Err error))) }
 {
-    match gate {
-        Gate::Open => Ok(Gate::Broken(condition_error(alloc, name, error)?)),
-        Gate::Shut => Ok(Gate::Shut),
-        Gate::Broken(message) => Ok(Gate::Broken(message)),
+    match first {
+        Some(message) => Ok(Some(message)),
+        None => Ok(Some(condition_error(alloc, name, error)?)),
+    }
+}
+
+/// The gate if no condition is false.
+fn unless_broken(first: Option<Text>) -> Gate
+    ensures { result ≡ gate_of false first }
+{
+    match first {
+        Some(message) => Gate::Broken(message),
+        None => Gate::Open,
     }
 }
 
@@ -61,7 +75,7 @@ pub fn pass(
     ensures within { IfOk result (λ p. p.charged ≤ sum_by condition_estimate conditions.now) }
     ensures pattern { IsErrOf result RunFault.Pattern → Any ConditionMayMatch conditions.now }
 {
-    let mut broken = Gate::Open;
+    let mut first = None;
     let mut total: u64 = 0;
     for condition in conditions {
         let tested = test(alloc, &condition.expression, slots, matchers)?;
@@ -75,11 +89,11 @@ pub fn pass(
                     charged: total,
                 });
             }
-            Err(error) => broken = with_error(alloc, broken, &condition.name, error)?,
+            Err(error) => first = first_error(alloc, first, &condition.name, error)?,
         }
     }
     Ok(Passed {
-        gate: broken,
+        gate: unless_broken(first),
         charged: total,
     })
 }

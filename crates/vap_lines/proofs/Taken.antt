@@ -49,7 +49,8 @@ handed (Some TooLong) a r old new before line taken (same, kept, over) = (
 pub handed_plain : (ending : Option Ending) (old new before line : List ℕ) → All (λ x. x ≢ 10) before
     → Hands ending old new before line → All (λ x. x ≢ 10) line
 handed_plain None old new before line plain (takes, none) = rw takes.grown (All-append (λ x. x ≢ 10) before old plain takes.plain)
-handed_plain (Some Feed) old new before line plain (part, takes, split) = rw takes.grown (All-append (λ x. x ≢ 10) before part plain takes.plain)
+handed_plain (Some Feed) old new before line plain (part, takes, split) =
+    rw takes.grown (All-append (λ x. x ≢ 10) before part plain takes.plain)
 handed_plain (Some End) old new before line plain none = absurd none
 handed_plain (Some TooLong) old new before line plain (same, kept, over) = rw same plain
 

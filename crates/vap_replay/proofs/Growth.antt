@@ -19,7 +19,8 @@ pub record GoesOn (s t : Sofar) : Type 0 where
   pub counted : t.lines ≡ s.lines + 1
   pub log : StartsWith t.log s.log
 
-with_event : (a b : Bool) (s t u : Sofar) (e f : LineFault) → GoesOn s u → (if a then (if b then Ok u else Err e) else Err f) ≡ Ok t → GoesOn s t
+with_event : (a b : Bool) (s t u : Sofar) (e f : LineFault) → GoesOn s u → (if a then (if b then Ok u else Err e) else Err f) ≡ Ok t
+    → GoesOn s t
 with_event true true s t u e f on h =
     let same : u ≡ t = cc in
     rw (← same) on

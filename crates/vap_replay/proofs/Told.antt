@@ -1,5 +1,6 @@
 -- What is written, told of the lines of the whole text.
-use Rattle.std.proofs.Common.{◌≡◌, ◌≢◌, ℕ, ◌+◌, Bool, true, false, List, [], ◌∷◌, ◌++◌, length, map, flat_map, take, drop, Option, None, Some}
+use Rattle.std.proofs.Common.{◌≡◌, ◌≢◌, ℕ, ◌+◌, Bool, true, false, List, [], ◌∷◌, ◌++◌, length, map, flat_map, take, drop, Option, None}
+use Rattle.std.proofs.Common.{Some}
 use Rattle.std.proofs.Common.{Contains, subst}
 use Rattle.std.proofs.Common.{Result, Ok, Err, ◌⊎◌, inl, inr, refl, sym, ap, ◌∙◌, append-nil, append_assoc, suc, arith}
 use Rattle.std.specs.Prelude.{⊤, IfErr, IfSome, OnOk}
@@ -136,7 +137,8 @@ reached_answered front old new there same = record {
   lines = there.lines;
   read = there.read;
   taken = λ choices agrees.
-      let seen : Agrees choices old.writer.published = agrees_same choices old.writer.published new.writer.published (ap (λ (s : Sofar). s.log) (sym same)) agrees in
+      let seen : Agrees choices old.writer.published =
+      agrees_same choices old.writer.published new.writer.published (ap (λ (s : Sofar). s.log) (sym same)) agrees in
       there.taken choices seen ∙ ap (λ (s : Sofar). Ok s) (sym same);
 }
 
@@ -151,16 +153,19 @@ refused_at contents audit all front first others session line start before after
     let choices : Choices = choices_of session.writer.published in
     let agrees : Agrees choices session.writer.published = agrees_itself session.writer.published in
     let taken : after_lines choices there.lines beginning ≡ Ok (sofar_of session) = there.taken choices agrees in
-    let counted : session.lines ≡ length there.lines = omega (arith, lines_counted choices there.lines beginning (sofar_of session) taken) in
+    let counted : session.lines ≡ length there.lines = omega (arith, lines_counted choices there.lines beginning (sofar_of session) taken)
+    in
     let many : length front ≡ length there.lines = read_length front there.lines there.read in
     let last : number ≡ length front + 1 = at.numbered ∙ ap (λ n. n + 1) (counted ∙ sym many) in
     let told : replayed choices (there.lines ++ line ∷ []) ≡ refusing (sofar_of session).entries number why =
     replayed_behind choices there.lines (line ∷ []) beginning (sofar_of session) taken
     ∙ (ap (λ (r : Result Sofar LineFault). behind (sofar_of session) (λ t. replay_from choices t []) r) (at.refused choices agrees)
     ∙ ap (λ (n : ℕ). refusing (sofar_of session).entries n why) (sym at.numbered)) in
-    let text : text_of audit (replayed choices (there.lines ++ line ∷ [])) ≡ answers_text session.history ++ answers_text (waiting_entries session) =
+    let text : text_of audit (replayed choices (there.lines ++ line ∷ [])) ≡ answers_text session.history
+    ++ answers_text (waiting_entries session) =
     ap (λ (r : Replayed). text_of audit r) told
-    ∙ (text_refused audit (sofar_of session).entries (record { line = number; fault = why }) ∙ answers_more session.history (waiting_entries session)) in
+    ∙ (text_refused audit (sofar_of session).entries (record { line = number; fault = why })
+    ∙ answers_more session.history (waiting_entries session)) in
     record {
       choices = choices;
       lines = there.lines ++ line ∷ [];

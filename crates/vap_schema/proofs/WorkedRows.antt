@@ -15,7 +15,9 @@ a_list_needs_items = refl
 pub a_keyword_is_read_where_it_does_not_count :
     object_type_of
     (json.object
-    (json.member (codes "additionalProperties") (json.boolean true) (json.member (codes "required") (json.string (codes "a")) (json.member (codes "type") (json.string (codes "object")) json.no_members))))
+    (json.member (codes "additionalProperties") (json.boolean true)
+    (json.member (codes "required") (json.string (codes "a"))
+    (json.member (codes "type") (json.string (codes "object")) json.no_members))))
     ≡ Err BadKeyword
 a_keyword_is_read_where_it_does_not_count = refl
 
@@ -23,7 +25,9 @@ a_keyword_is_read_where_it_does_not_count = refl
 pub a_reference_may_not_stand :
     object_type_of
     (json.object
-    (json.member (codes "properties") (json.object (json.member (codes "a") (json.object (json.member (codes "$ref") (json.string (codes "b")) json.no_members)) json.no_members)) (json.member (codes "type") (json.string (codes "object")) json.no_members)))
+    (json.member (codes "properties") (json.object
+    (json.member (codes "a") (json.object (json.member (codes "$ref") (json.string (codes "b")) json.no_members)) json.no_members))
+    (json.member (codes "type") (json.string (codes "object")) json.no_members)))
     ≡ Err BadKeyword
 unfolding schema_type
 a_reference_may_not_stand = refl

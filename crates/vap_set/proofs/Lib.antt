@@ -5,5 +5,4 @@ pub mod ParamKinds
 pub mod Behind
 pub mod ReportOrder
 pub mod Named
-pub mod Put
-pub mod Chosen
+pub mod Asked

@@ -1,5 +1,5 @@
 -- A policy is something at each kind that it names.
-use Rattle.std.proofs.Common.{◌≡◌, ℕ, zero, suc, Bool, true, false, cond, ◌||◌, List, [], ◌∷◌, ◌++◌, take, drop, map, find}
+use Rattle.std.proofs.Common.{◌≡◌, ℕ, Bool, true, false, cond, ◌||◌, List, [], ◌∷◌, map, filter, find}
 use Rattle.std.proofs.Common.{Option, Some, None, option_map, option_and_then, is_some, Result, Ok, Err, refl, sym, ap, subst}
 use Rattle.std.specs.Prelude.{if◌then◌else◌}
 use Rattle.std.specs.List.{AllByRecursion, list_any}
@@ -20,85 +20,52 @@ use Rattle.vap_programs.specs.declared.pair_fault.PairFault.{PairFault}
 use Rattle.vap_programs.specs.declared.programs.Programs.{Programs}
 use Rattle.vap_set.specs.Kinds.{kind_of_params, params_by, params_type, type_or_opaque, types_at}
 use Rattle.vap_set.specs.Ready.{IsFirst, IsOneOf}
-use Rattle.vap_set.specs.Sets.{Built, bound_of, is_looked_at, is_pair_of, kind_pair, kinds_of, place_of, policies_of, with_kind, with_kinds}
-use Rattle.vap_set.specs.Sets.{with_pair}
+use Rattle.vap_set.specs.Sets.{Built, bound_of, is_looked_at, is_pair_of, kind_pair, kinds_of, pairs_of, policies_of}
 use Rattle.vap_set.specs.Whole.{AreWhole, HasKnownParams, IsSomething, IsWholeAt}
 use Rattle.vap_set.specs.declared.bound.KindPair.{KindPair}
 use Rattle.vap_set.specs.declared.choice.Choice.{Choice}
 use Rattle.vap_set.proofs.Firsts.{kinds_first, own_name}
-use Rattle.vap_set.proofs.Standing.{IsOfKind, all_put}
+use Rattle.vap_set.proofs.Standing.{IsOfKind, all_of_kinds}
 
 second : (b c : Bool) → c ≡ true → (b || c) ≡ true
 second true c h = refl
 second false c h = h
 
-either : (b c d : Bool) → (c ≡ true → d ≡ true) → (b || c) ≡ true → (b || d) ≡ true
-either true c d more h = refl
-either false c d more h = more h
-
 first : (b c : Bool) → b ≡ true → (b || c) ≡ true
 first true c h = refl
 first false c h = absurd cc
 
--- what stands among pairs stands there where one more is put among them, and so does that one
-kept : (q : KindPair → Bool) (n : ℕ) (es : List KindPair) (e : KindPair) → list_any q es ≡ true
-    → list_any q (take n es ++ e ∷ drop n es) ≡ true
-kept q zero [] e h = absurd cc
-kept q zero (x ∷ xs) e h = second (q e) (list_any q (x ∷ xs)) h
-kept q (suc n) [] e h = absurd cc
-kept q (suc n) (x ∷ xs) e h =
-    either (q x) (list_any q xs) (list_any q (take n xs ++ e ∷ drop n xs)) (kept q n xs e) h
-
-put : (q : KindPair → Bool) (n : ℕ) (es : List KindPair) (e : KindPair) → q e ≡ true → list_any q (take n es ++ e ∷ drop n es) ≡ true
-put q zero [] e h = first (q e) false h
-put q zero (x ∷ xs) e h = first (q e) (list_any q (x ∷ xs)) h
-put q (suc n) [] e h = first (q e) false h
-put q (suc n) (x ∷ xs) e h = second (q x) (list_any q (take n xs ++ e ∷ drop n xs)) (put q n xs e h)
-
-one_kept : (q : KindPair → Bool) (choice : Choice) (kinds : List Kind) (p : PolicySpec) (k : Kind) (es : List KindPair)
-    → list_any q es ≡ true → list_any q (with_kind choice kinds p k es) ≡ true
-unfolding with_kind
-one_kept q choice kinds p k es h = at (is_looked_at p k)
+-- a kind that is looked at has its own pair
+all_there : (choice : Choice) (kinds : List Kind) (p : PolicySpec) (g v n : List ℕ) (k : Kind) (ks : List Kind)
+    → kind_named g v n ks ≡ Some k → is_looked_at p k ≡ true
+    → list_any (is_pair_of k) (map (kind_pair choice kinds p) (filter (is_looked_at p) ks)) ≡ true
+all_there choice kinds p g v n k [] found looked = absurd cc
+all_there choice kinds p g v n k (x ∷ xs) found looked =
+    at (is_named g v n x) (λ rest. among (is_looked_at p x) (all_there choice kinds p g v n k xs rest looked)) found
   where
-    e : KindPair
-    e = kind_pair choice kinds p k
+    Among : List KindPair → Type 0
+    Among es = list_any (is_pair_of k) es ≡ true
 
-    at : (b : Bool) → list_any q (if b then with_pair e es else es) ≡ true
-    at true = kept q (place_of e es) es e h
-    at false = h
+    rest : List KindPair
+    rest = map (kind_pair choice kinds p) (filter (is_looked_at p) xs)
 
-all_kept : (q : KindPair → Bool) (choice : Choice) (kinds : List Kind) (p : PolicySpec) (ks : List Kind) (es : List KindPair)
-    → list_any q es ≡ true → list_any q (with_kinds choice kinds p ks es) ≡ true
-all_kept q choice kinds p [] es h = h
-all_kept q choice kinds p (k ∷ ks) es h =
-    all_kept q choice kinds p ks (with_kind choice kinds p k es) (one_kept q choice kinds p k es h)
+    among : (b : Bool) → Among rest → Among
+        (map (kind_pair choice kinds p) (cond b (x ∷ filter (is_looked_at p) xs) (filter (is_looked_at p) xs)))
+    among true h = second (is_pair_of k (kind_pair choice kinds p x)) (list_any (is_pair_of k) rest) h
+    among false h = h
 
--- a kind that is looked at has its own
-own_put : (choice : Choice) (kinds : List Kind) (p : PolicySpec) (k : Kind) (es : List KindPair) → is_looked_at p k ≡ true
-    → list_any (is_pair_of k) (with_kind choice kinds p k es) ≡ true
-unfolding with_kind
-own_put choice kinds p k es looked = at (is_looked_at p k) looked
-  where
-    e : KindPair
-    e = kind_pair choice kinds p k
+    own : (b : Bool) → is_looked_at p x ≡ b → k ≡ x
+        → Among (map (kind_pair choice kinds p) (cond b (x ∷ filter (is_looked_at p) xs) (filter (is_looked_at p) xs)))
+    own true e same =
+        first (is_pair_of k (kind_pair choice kinds p x)) (list_any (is_pair_of k) rest)
+        (subst (λ (y : Kind). is_pair_of k (kind_pair choice kinds p y) ≡ true) same (own_name k))
+    own false e same = absurd (let h = subst (λ (y : Kind). is_looked_at p y ≡ true) same looked in cc)
 
-    at : (b : Bool) → b ≡ true → list_any (is_pair_of k) (if b then with_pair e es else es) ≡ true
-    at true h = put (is_pair_of k) (place_of e es) es e (own_name k)
-    at false h = absurd cc
-
-all_there : (choice : Choice) (kinds : List Kind) (p : PolicySpec) (g v n : List ℕ) (k : Kind) (ks : List Kind) (es : List KindPair)
-    → kind_named g v n ks ≡ Some k → is_looked_at p k ≡ true → list_any (is_pair_of k) (with_kinds choice kinds p ks es) ≡ true
-all_there choice kinds p g v n k [] es found looked = absurd cc
-all_there choice kinds p g v n k (x ∷ xs) es found looked =
-    at (is_named g v n x) (λ rest. all_there choice kinds p g v n k xs (with_kind choice kinds p x es) rest looked) found
-  where
-    at : (b : Bool) → (kind_named g v n xs ≡ Some k → list_any (is_pair_of k) (with_kinds choice kinds p (x ∷ xs) es) ≡ true)
-        → cond b (Some x) (kind_named g v n xs) ≡ Some k → list_any (is_pair_of k) (with_kinds choice kinds p (x ∷ xs) es) ≡ true
-    at true rest e =
-        let same : k ≡ x = cc in
-        all_kept (is_pair_of k) choice kinds p xs (with_kind choice kinds p x es)
-        (subst (λ (y : Kind). list_any (is_pair_of k) (with_kind choice kinds p y es) ≡ true) same (own_put choice kinds p k es looked))
-    at false rest e = rest e
+    at : (b : Bool)
+        → (kind_named g v n xs ≡ Some k → Among (map (kind_pair choice kinds p) (filter (is_looked_at p) (x ∷ xs))))
+        → cond b (Some x) (kind_named g v n xs) ≡ Some k → Among (map (kind_pair choice kinds p) (filter (is_looked_at p) (x ∷ xs)))
+    at true other e = own (is_looked_at p x) refl (cc)
+    at false other e = other e
 
 -- ---- what is found
 
@@ -141,9 +108,9 @@ one_whole : (b : Built) (bindings : List (Keyed Binding)) (p : Keyed Policy) (k 
 one_whole b bindings p None firsts first =
     λ named. something_at b.choice.refused (types_at (type_or_opaque None)) (kinds_of b) p.value.spec.param_kind p.value.spec
 one_whole b bindings p (Some k) firsts first = λ looked.
-    some_found b.choice (kinds_of b) p.value.spec k (with_kinds b.choice (kinds_of b) p.value.spec (kinds_of b) [])
-    (all_put b.choice (kinds_of b) p.value.spec (kinds_of b) [] firsts tt)
-    (all_there b.choice (kinds_of b) p.value.spec k.group k.version k.kind k (kinds_of b) [] first looked)
+    some_found b.choice (kinds_of b) p.value.spec k (pairs_of b.choice (kinds_of b) p.value.spec)
+    (all_of_kinds b.choice (kinds_of b) p.value.spec (kinds_of b) firsts)
+    (all_there b.choice (kinds_of b) p.value.spec k.group k.version k.kind k (kinds_of b) first looked)
 
 each_whole : (b : Built) (bindings : List (Keyed Binding)) (ps : List (Keyed Policy)) (k : Option Kind)
     → AllByRecursion (IsFirst (kinds_of b)) (kinds_of b) → IsOneOf (kinds_of b) k

@@ -1,7 +1,7 @@
 -- What a policy of a set is at a kind may be run there.
 use Rattle.std.proofs.Common.{◌≡◌, ◌≤◌, ℕ, zero, suc, Bool, true, false, cond, ◌&&◌, List, [], ◌∷◌, ◌++◌, Option, Some, None, refl, sym}
 use Rattle.std.proofs.Common.{ap, ◌∙◌, subst}
-use Rattle.std.proofs.Common.{map, take, drop, length, arith, length-append, option_map}
+use Rattle.std.proofs.Common.{map, filter, length, arith, length-append, option_map}
 use Rattle.std.specs.Prelude.{if◌then◌else◌}
 use Rattle.std.specs.List.{AllByRecursion, find}
 use Rattle.std.specs.Str.{bytes_eq}
@@ -16,8 +16,7 @@ use Rattle.vap_policies.specs.declared.policy.Policy.{Policy}
 use Rattle.vap_policies.specs.declared.policy.PolicySpec.{PolicySpec}
 use Rattle.vap_programs.specs.Ready.{PairsAreReady, PairsAreWithin}
 use Rattle.vap_set.specs.Kinds.{params_type, type_or_opaque, types_at}
-use Rattle.vap_set.specs.Sets.{Built, bound_of, is_looked_at, is_pair_of, kind_pair, kinds_of, pairs_of, place_of, policies_of, with_kind}
-use Rattle.vap_set.specs.Sets.{with_kinds, with_pair}
+use Rattle.vap_set.specs.Sets.{Built, bound_of, is_looked_at, is_pair_of, kind_pair, kinds_of, pairs_of, policies_of}
 use Rattle.vap_set.specs.Ready.{IsFirst, IsOneOf, IsReadyBy, IsReadyAt, HasFew, AreFew, AreReady}
 use Rattle.vap_set.specs.declared.bound.KindPair.{KindPair}
 use Rattle.vap_set.specs.declared.choice.Choice.{Choice}
@@ -29,32 +28,17 @@ pub record IsOfKind (choice : Choice) (kinds : List Kind) (p : PolicySpec) (e : 
   pub first : IsFirst kinds kind
   pub is : e ≡ kind_pair choice kinds p kind
 
-placed : {X : Type 0} (P : X → Type 0) (n : ℕ) (xs : List X) (y : X) → P y → AllByRecursion P xs
-    → AllByRecursion P (take n xs ++ y ∷ drop n xs)
-placed P zero [] y h all = (h, tt)
-placed P zero (x ∷ xs) y h all = (h, all)
-placed P (suc n) [] y h all = (h, tt)
-placed P (suc n) (x ∷ xs) y h all = (all.0, placed P n xs y h all.1)
-
-one_put : (choice : Choice) (kinds : List Kind) (p : PolicySpec) (k : Kind) (es : List KindPair) → IsFirst kinds k
-    → AllByRecursion (IsOfKind choice kinds p) es → AllByRecursion (IsOfKind choice kinds p) (with_kind choice kinds p k es)
-unfolding with_kind
-one_put choice kinds p k es first all = at (is_looked_at p k)
-  where
-    e : KindPair
-    e = kind_pair choice kinds p k
-
-    at : (b : Bool) → AllByRecursion (IsOfKind choice kinds p) (if b then with_pair e es else es)
-    at true = placed (IsOfKind choice kinds p) (place_of e es) es e (record { kind = k; first = first; is = refl }) all
-    at false = all
-
 -- each pair is of one of these kinds
-pub all_put : (choice : Choice) (kinds : List Kind) (p : PolicySpec) (ks : List Kind) (es : List KindPair)
-    → AllByRecursion (IsFirst kinds) ks → AllByRecursion (IsOfKind choice kinds p) es
-    → AllByRecursion (IsOfKind choice kinds p) (with_kinds choice kinds p ks es)
-all_put choice kinds p [] es first all = all
-all_put choice kinds p (k ∷ ks) es first all =
-    all_put choice kinds p ks (with_kind choice kinds p k es) first.1 (one_put choice kinds p k es first.0 all)
+pub all_of_kinds : (choice : Choice) (kinds : List Kind) (p : PolicySpec) (ks : List Kind) → AllByRecursion (IsFirst kinds) ks
+    → AllByRecursion (IsOfKind choice kinds p) (map (kind_pair choice kinds p) (filter (is_looked_at p) ks))
+all_of_kinds choice kinds p [] firsts = tt
+all_of_kinds choice kinds p (k ∷ ks) firsts = at (is_looked_at p k) (all_of_kinds choice kinds p ks firsts.1)
+  where
+    at : (b : Bool) → AllByRecursion (IsOfKind choice kinds p) (map (kind_pair choice kinds p) (filter (is_looked_at p) ks))
+        → AllByRecursion (IsOfKind choice kinds p)
+        (map (kind_pair choice kinds p) (cond b (k ∷ filter (is_looked_at p) ks) (filter (is_looked_at p) ks)))
+    at true rest = (record { kind = k; first = firsts.0; is = refl }, rest)
+    at false rest = rest
 
 -- three tests that hold together
 pub all_three : (a b c : Bool) → (a && b && c) ≡ true → (a ≡ true) × (b ≡ true) × (c ≡ true)
@@ -104,7 +88,7 @@ one_ready ready within b bindings p None firsts first = record {
 one_ready ready within b bindings p (Some k) firsts first = record {
   params = refl;
   runs = found_ready ready within b.choice (kinds_of b) p.value.spec k (pairs_of b.choice (kinds_of b) p.value.spec) first
-      (all_put b.choice (kinds_of b) p.value.spec (kinds_of b) [] firsts tt);
+      (all_of_kinds b.choice (kinds_of b) p.value.spec (kinds_of b) firsts);
 }
 
 each_ready : PairsAreReady → PairsAreWithin → (b : Built) (bindings : List (Keyed Binding)) (ps : List (Keyed Policy)) (k : Option Kind)

@@ -1,11 +1,10 @@
 -- Which literal texts `matches` is given in the expressions of policies, and which choice is for these.
-use Rattle.std.specs.Prelude.{◌≡◌, ℕ, false, IsSome, List, [], ◌++◌, Option, Some, None, Result, Ok, Err}
+use Rattle.std.specs.Prelude.{◌≡◌, ℕ, false, IsSome, List, [], ◌++◌, Option, Some, None}
 use Rattle.std.specs.List.{All, Contains, flat_map}
 use Rattle.plain.specs.declared.text.Keyed.{Keyed}
-use Rattle.cel_check.specs.PatternTexts.{patterns_in}
-use Rattle.cel_grammar.specs.declared.fault.ParseFault.{ParseFault}
-use Rattle.cel_parse.specs.Parsed.{parsed}
-use Rattle.cel_parse.specs.declared.expr.Expr.{Expr}
+use Rattle.cel_check.specs.PatternTexts.{AreAnswered}
+use Rattle.cel_expression.specs.Patterns.{patterns_of}
+use Rattle.cel_patterns.specs.Answers.{Asked, AsksOnly, Grows}
 use Rattle.cel_patterns.specs.Choice.{refuses}
 use Rattle.cel_patterns.specs.Meaning.{tree_of}
 use Rattle.vap_policies.specs.declared.policy.AuditAnnotation.{AuditAnnotation}
@@ -13,15 +12,6 @@ use Rattle.vap_policies.specs.declared.policy.NamedExpression.{NamedExpression}
 use Rattle.vap_policies.specs.declared.policy.Policy.{Policy}
 use Rattle.vap_policies.specs.declared.policy.PolicySpec.{PolicySpec}
 use Rattle.vap_policies.specs.declared.policy.Validation.{Validation}
-
--- those in an expression, from left to right, if it is one
-abbrev pub patterns_by : Result Expr ParseFault → List (List ℕ)
-patterns_by (Ok e) = patterns_in e
-patterns_by (Err fault) = []
-
--- those in the expression that a text spells
-abbrev pub patterns_of : List ℕ → List (List ℕ)
-patterns_of text = patterns_by (parsed text)
 
 -- those in a match condition or a variable
 abbrev pub of_named : NamedExpression → List (List ℕ)
@@ -49,6 +39,12 @@ of_policy p =
 -- those in policies
 abbrev pub of_policies : List (Keyed Policy) → List (List ℕ)
 of_policies ps = flat_map (λ p. of_policy p.value.spec) ps
+
+-- each of these texts is asked for, and no other; what was answered stays answered
+pub record AreAsked (texts : List (List ℕ)) (old new : Asked) : Type 0 where
+  pub each : AreAnswered new texts
+  pub only : AsksOnly old new texts
+  pub grows : Grows old new
 
 -- a choice for texts: it refuses no others, and each of these that it does not refuse is a pattern, so `regex` was asked for it
 pub record IsChoiceFor (texts refused : List (List ℕ)) : Type 0 where

@@ -1,9 +1,9 @@
 -- What a set of policies is built of, and what it holds.
-use Rattle.std.specs.Prelude.{ℕ, suc, Bool, ◌&&◌, is_some, if◌then◌else◌, List, [], ◌∷◌, map, insert}
+use Rattle.std.specs.Prelude.{ℕ, Bool, ◌&&◌, is_some, List, [], ◌∷◌, map, filter}
 use Rattle.std.specs.Prelude.{Option, Some, None, option_map}
 use Rattle.std.specs.List.{find, flat_map}
 use Rattle.std.specs.List.Sorted.{IsSorted, IsStable}
-use Rattle.std.specs.Ordering.{is_lt, nat_cmp, on, then_cmp}
+use Rattle.std.specs.Ordering.{nat_cmp, on, then_cmp}
 use Rattle.std.specs.declared.cmp.Ordering.{Ordering}
 use Rattle.std.specs.Cmp.Lexicographic.{slice_cmp}
 use Rattle.plain.specs.declared.text.Keyed.{Keyed}
@@ -54,33 +54,9 @@ kind_pair choice kinds p k = record { group = k.group; version = k.version; kind
 abbrev pub is_looked_at : PolicySpec → Kind → Bool
 is_looked_at p k = is_some k.object_type && is_named_by p.match_constraints.resource_rules k
 
--- pairs stand by group, then by version, then by kind
-abbrev pub pair_cmp : KindPair → KindPair → Ordering
-pair_cmp =
-    then_cmp (on (λ p. p.group) (slice_cmp nat_cmp))
-    (then_cmp (on (λ p. p.version) (slice_cmp nat_cmp)) (on (λ p. p.kind) (slice_cmp nat_cmp)))
-
--- where a pair goes: before the first that is above it
-abbrev pub place_of : KindPair → List KindPair → ℕ
-place_of p [] = 0
-place_of p (q ∷ qs) = if is_lt (pair_cmp p q) then 0 else suc (place_of p qs)
-
--- pairs with one more, in its place
-abbrev pub with_pair : KindPair → List KindPair → List KindPair
-with_pair p ps = insert ps (place_of p ps) p
-
--- pairs with what a policy is at a kind, if it is looked at there
-unfoldable pub with_kind : Choice → List Kind → PolicySpec → Kind → List KindPair → List KindPair
-with_kind choice kinds p k ps = if is_looked_at p k then with_pair (kind_pair choice kinds p k) ps else ps
-
--- pairs with what a policy is at each of these kinds
-abbrev pub with_kinds : Choice → List Kind → PolicySpec → List Kind → List KindPair → List KindPair
-with_kinds choice kinds p [] ps = ps
-with_kinds choice kinds p (k ∷ ks) ps = with_kinds choice kinds p ks (with_kind choice kinds p k ps)
-
 -- a policy at the kinds where it is looked at
 abbrev pub pairs_of : Choice → List Kind → PolicySpec → List KindPair
-pairs_of choice kinds p = with_kinds choice kinds p kinds []
+pairs_of choice kinds p = map (kind_pair choice kinds p) (filter (is_looked_at p) kinds)
 
 -- a policy at the kinds that are not known
 abbrev pub other_of : Choice → List Kind → PolicySpec → Pair

@@ -1,13 +1,11 @@
 //! What policies are at each kind.
 
 ghost use Rattle.std.specs.Prelude.{◌≡◌, ◌≤◌, ℕ, true, List, length, IfOk, IsErrOf, OnOk, map, Some};
-ghost use Rattle.std.specs.Cmp.Lexicographic.{slice_cmp};
-ghost use Rattle.std.specs.Ordering.{nat_cmp};
 ghost use Rattle.std.specs.List.{All};
 ghost use Rattle.vap_set.specs.Fitted.{params_of};
 ghost use Rattle.vap_set.specs.Kinds.{params_type, type_or_opaque, types_at};
 ghost use Rattle.vap_set.specs.Ready.{HasItsParams};
-ghost use Rattle.vap_set.specs.Sets.{bound_of, is_looked_at, kind_pair, pair_cmp, pairs_of, place_of, with_kind, with_pair};
+ghost use Rattle.vap_set.specs.Sets.{bound_of, is_looked_at, kind_pair, pairs_of};
 ghost use Rattle.vap_set.specs.Unverified.{AreUnverified, error_of, expressions_at, HasUnverified};
 ghost use Rattle.vap_set.specs.declared.build_error.BuildError.TheVariants as build_error;
 ghost use Rattle.cel_expression.specs.declared.refusal.CompileError.TheVariants.{Unverified};
@@ -20,9 +18,8 @@ use crate::choice::Choice;
 use crate::fitting::{KindParams, fitted_params};
 use crate::params::{is_named_by, params_type, types_at};
 use cel_value::CelType;
-use plain::{Items, Keyed, Shared, Text};
+use plain::{Items, Keyed, Shared};
 use std::alloc::{AllocError, Global};
-use std::cmp::Ordering;
 use vap_bindings::Binding;
 use vap_kinds::Kind;
 use vap_objects::{Objects, bindings_of};
@@ -73,66 +70,6 @@ fn is_looked_at(policy: &PolicySpec, kind: &Kind) -> bool
         && is_named_by(policy.match_constraints.resource_rules.as_slice(), kind)
 }
 
-fn pair_order(left: &KindPair, right: &KindPair) -> Ordering
-    ensures { result ≡ pair_cmp left.now right.now }
-{
-    order(&left.group, &right.group).then(order(&left.version, &right.version).then(order(
-        &left.kind,
-        &right.kind,
-    )))
-}
-
-/// The order of texts, by their bytes.
-pub fn order(left: &Text, right: &Text) -> Ordering
-    ensures { result ≡ slice_cmp nat_cmp left.now right.now }
-{
-    left.as_str().cmp(right.as_str())
-}
-
-/// Where a pair goes: before the first that is above it.
-fn place_of(pair: &KindPair, pairs: &[KindPair]) -> usize
-    ensures place { result ≡ place_of pair.now pairs.now }
-    ensures within { result ≤ length pairs.now }
-{
-    let mut place = 0;
-    for other in pairs {
-        if pair_order(pair, other).is_lt() {
-            return place;
-        }
-        place += 1;
-    }
-    place
-}
-
-fn put_pair(pair: KindPair, pairs: &mut Vec<KindPair>) -> Result<(), AllocError>
-    ensures { OnOk result (pairs.new.items ≡ with_pair pair pairs.old.items) }
-{
-    let place = place_of(&pair, pairs.as_slice());
-    pairs.insert(place, pair)?;
-    Ok(())
-}
-
-/// Puts what a policy is at a kind in its place, if it is looked at there.
-#[tactic(auto, unfolding(crate::specs::Sets::with_kind))]
-fn put_kind(
-    alloc: Global,
-    choice: &Choice,
-    kinds: &[Kind],
-    policy: &PolicySpec,
-    kind: &Kind,
-    pairs: &mut Vec<KindPair>,
-) -> Result<(), CompileError>
-    ensures put { OnOk result (pairs.new.items ≡ with_kind choice.now kinds.now policy.now kind.now pairs.old.items) }
-    ensures looked_at { (at : ℕ) → IsErrOf result (Unverified at) → is_looked_at policy.now kind.now ≡ true }
-    ensures unverified { (at : ℕ) → IsErrOf result (Unverified at)
-        → IsOneUnverified at (expressions_at choice.now kinds.now policy.now (type_or_opaque kind.now.object_type)) }
-{
-    if is_looked_at(policy, kind) {
-        put_pair(kind_pair(alloc, choice, kinds, policy, kind)?, pairs)?;
-    }
-    Ok(())
-}
-
 fn pairs_of(
     alloc: Global,
     choice: &Choice,
@@ -144,7 +81,9 @@ fn pairs_of(
 {
     let mut pairs = Vec::new(alloc);
     for kind in kinds {
-        put_kind(alloc, choice, kinds, policy, kind, &mut pairs)?;
+        if is_looked_at(policy, kind) {
+            pairs.push(kind_pair(alloc, choice, kinds, policy, kind)?)?;
+        }
     }
     Ok(Items::from_vec(pairs))
 }

@@ -12,7 +12,6 @@ mod choice;
 mod choosing;
 mod fitting;
 mod params;
-mod patterns;
 mod report;
 mod set;
 

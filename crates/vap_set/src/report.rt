@@ -1,10 +1,11 @@
 //! Where policies are misconfigured.
 
 ghost use Rattle.std.specs.Prelude.{◌≡◌, ◌++◌, IfOk, OnOk};
+ghost use Rattle.std.specs.Cmp.Lexicographic.{slice_cmp};
+ghost use Rattle.std.specs.Ordering.{nat_cmp};
 ghost use Rattle.vap_set.specs.Sets.{misconfigured_at, misconfigured_in, report_cmp, IsReport};
 
 use crate::bound::{BoundPolicy, KindPair};
-use crate::building::order;
 use plain::{Items, Text};
 use std::alloc::{AllocError, Global};
 use std::cmp::Ordering;
@@ -50,6 +51,13 @@ fn put_in(policy: &BoundPolicy, report: &mut Vec<Misconfigured>) -> Result<(), A
         put_at(&policy.name, pair, report)?;
     }
     Ok(())
+}
+
+/// The order of texts, by their bytes.
+fn order(left: &Text, right: &Text) -> Ordering
+    ensures { result ≡ slice_cmp nat_cmp left.now right.now }
+{
+    left.as_str().cmp(right.as_str())
 }
 
 fn report_order(left: &Misconfigured, right: &Misconfigured) -> Ordering

@@ -208,6 +208,7 @@ fn instr(text: &str) -> Instr {
     match word {
         "const" => Instr::Const(number(rest)),
         "op" => Instr::Op(number(rest)),
+        "slot" => Instr::Slot(number(rest)),
         "local" => Instr::Local(number(rest)),
         "select" => Instr::WithText(TextOperator::Select, number(rest)),
         "list" => Instr::List(number(rest)),

@@ -13,4 +13,5 @@ invariant-most_of_items-loop-item l =
 abbrev pub invariant-most_of_entries-loop-entry : goal.invariant-most_of_entries-loop-entry
 invariant-most_of_entries-loop-entry l =
     (l.sum < 2 ^ 64)
-    × (min (l.sum + estimates_of (by_turns (drop l.entry-index l.entries))) (2 ^ 64 - 1) ≡ min (estimates_of (by_turns l.entries)) (2 ^ 64 - 1))
+    × (min (l.sum + estimates_of (by_turns (drop l.entry-index l.entries))) (2 ^ 64 - 1)
+    ≡ min (estimates_of (by_turns l.entries)) (2 ^ 64 - 1))

@@ -16,7 +16,8 @@ read_unary-read_nots-operand-requires t c = omega arith
 pub read_unary-returns-in-Some : goal.read_unary-returns-in-Some
 read_unary-returns-in-Some t c =
     nots_give (expression c.args.source.now c.args.brackets) c.args.source.now c.args.brackets c.args.tokens.now
-    (c.in-Some.place, c.in-Some.after.now) c.signed.result c.in-Some.ensures (c.signed.ensures _ (rw c.most_signs.ensures at c.read_nots-operand.ensures))
+    (c.in-Some.place, c.in-Some.after.now) c.signed.result c.in-Some.ensures
+    (c.signed.ensures _ (rw c.most_signs.ensures at c.read_nots-operand.ensures))
 
 pub read_operators-returns-in_default : goal.read_operators-returns-in_default
 read_operators-returns-in_default t c =
@@ -34,7 +35,8 @@ pub read_operators-loop-turn-preserved : goal.read_operators-loop-turn-preserved
 read_operators-loop-turn-preserved t c =
     let x : Joint × ℕ × List Token = (c.in-Some.joint, c.in-Some.place, c.in-Some.after.now) in (
       c.loop-turn.invariant.0,
-      loop_goes_on _ _ c.loop-turn._turn (seen c.loop-turn.left) _ c.loop-turn-test.true c.loop-turn.invariant.1 x c.in-Some.ensures (seen c.in_ok-left-2.left) (c.in_ok-left-2.ensures _ c.read_operators-right.ensures),
+      loop_goes_on _ _ c.loop-turn._turn (seen c.loop-turn.left) _ c.loop-turn-test.true c.loop-turn.invariant.1 x c.in-Some.ensures
+          (seen c.in_ok-left-2.left) (c.in_ok-left-2.ensures _ c.read_operators-right.ensures),
     )
 
 pub read_operators-returns : goal.read_operators-returns

@@ -51,7 +51,8 @@ loop-place-preserved-then-bytes-place-eq92 c =
     record {
       within = escape_within bytes place lt n v (sym c.in-Some.ensures);
       cut = escape_cut bytes place lt n v (sym c.in-Some.ensures) c.as_bytes-bytes.ensures.utf8;
-      means = ap (λ (x : List ℕ). after x (place + (1 + n)) (meaning_of 0 (drop (place + (1 + n)) bytes))) c.in_ok-push.ensures.bytes ∙ turn;
+      means = ap (λ (x : List ℕ). after x (place + (1 + n)) (meaning_of 0 (drop (place + (1 + n)) bytes))) c.in_ok-push.ensures.bytes
+          ∙ turn;
     }
 
 pub range-requires-clause-end_boundary : goal.range-requires-clause-end_boundary
@@ -78,7 +79,8 @@ loop-place-preserved c =
     record {
       within = plain_within bytes place lt n is;
       cut = plain_cut bytes place lt n is c.as_bytes-bytes.ensures.utf8;
-      means = ap (λ (x : List ℕ). after x (place + (1 + n)) (meaning_of 0 (drop (place + (1 + n)) bytes))) (c.in_ok-push_str.ensures.bytes ∙ ap (λ (x : List ℕ). string_bytes c.loop-place.out ++ x) slice) ∙ turn;
+      means = ap (λ (x : List ℕ). after x (place + (1 + n)) (meaning_of 0 (drop (place + (1 + n)) bytes)))
+          (c.in_ok-push_str.ensures.bytes ∙ ap (λ (x : List ℕ). string_bytes c.loop-place.out ++ x) slice) ∙ turn;
     }
 
 pub returns : goal.returns

@@ -35,7 +35,8 @@ returns-in-Faulty-clause-fault c = λ f e.
     let next = subst (λ o. Reads (drop c.loop-place.place c.args.text.now) o) c.in-Some.is c.in_ok-length.ensures.reads in
     refuses_as c.args.text.now (at_place c.in-Faulty.found.kind (c.loop-place.place + c.in-Faulty.found.place)) f (cc)
     (first (omega arith)
-    (c.loop-place.invariant.fault _ (faulty_turn c.args.text.now c.loop-place.place c.in-Some.length c.in-Some.piece c.loop-place.invariant.within next c.in-Faulty.found c.in-Faulty.is)))
+    (c.loop-place.invariant.fault _ (faulty_turn c.args.text.now c.loop-place.place c.in-Some.length c.in-Some.piece
+    c.loop-place.invariant.within next c.in-Faulty.found c.in-Faulty.is)))
 
 pub loop-place-preserved : goal.loop-place-preserved
 loop-place-preserved c =
@@ -48,18 +49,25 @@ loop-place-preserved c =
     elim c.match-piece.branch [
       | in-Blank w ↦ record {
         within = turn_within text place n what le next;
-        cut = λ ts cuts. subst (λ (v : List Token). Cuts 0 text (v ++ ts)) (sym (ap (λ v. v.items) w.out-is)) (c.loop-place.invariant.cut ts (blank_cuts text place n what le next ts w.in-Blank.is cuts));
+        cut = λ ts cuts. subst (λ (v : List Token). Cuts 0 text (v ++ ts)) (sym (ap (λ v. v.items) w.out-is))
+            (c.loop-place.invariant.cut ts (blank_cuts text place n what le next ts w.in-Blank.is cuts));
         fault = λ f fails. c.loop-place.invariant.fault f (blank_fails text place n what le next f w.in-Blank.is fails);
       }
       | in-Token+in_ok-push-in-Token w ↦ record {
         within = turn_within text place n what le next;
-        cut = λ ts cuts. pushed text c.loop-place.out.items c.match-piece.out.items _ ts (ap (λ v. v.items) w.out-is ∙ w.in_ok-push-in-Token.ensures.items) (c.loop-place.invariant.cut _ (token_cuts text place n what le next w.in-Token.kind ts w.in-Token.is cuts));
+        cut = λ ts cuts. pushed text c.loop-place.out.items c.match-piece.out.items _ ts
+            (ap (λ v. v.items) w.out-is ∙ w.in_ok-push-in-Token.ensures.items)
+            (c.loop-place.invariant.cut _ (token_cuts text place n what le next w.in-Token.kind ts w.in-Token.is cuts));
         fault = λ f fails. c.loop-place.invariant.fault f (token_fails text place n what le next w.in-Token.kind f w.in-Token.is fails);
       }
     ]
 
 pub returns-clause-cut : goal.returns-clause-cut
-returns-clause-cut c = record { short = omega arith; cut = cut_done c.args.text.now c.loop-place.place c.loop-place.out.items c.loop-place-test.false c.loop-place.invariant.cut }
+returns-clause-cut c = record {
+  short = omega arith;
+  cut =
+      cut_done c.args.text.now c.loop-place.place c.loop-place.out.items c.loop-place-test.false c.loop-place.invariant.cut;
+}
 
 pub returns-clause-together : goal.returns-clause-together
 returns-clause-together c =

@@ -47,7 +47,8 @@ overflow_add-charged c =
     let i = c.image-image in
     let run = next c.args.program.now i.result.now c.args.slots.now i.ensures.accepted i.ensures.image c.requires in
     let turn = run l.position.at l.stack.items l.frames.items l.charged l.steps l.invariant.0 c.in-Some.instr.now c.in_ok-step.field-0 in
-    let after = turn c.step.new.position c.step.new.stack.items c.step.new.frames.items (sym c.in-Some.ensures.value) c.in_ok-step.ensures.acts in
+    let after = turn c.step.new.position c.step.new.stack.items c.step.new.frames.items (sym c.in-Some.ensures.value)
+    c.in_ok-step.ensures.acts in
     let t = after c.in-GoesOn.is in
     omega (arith, t.cheap)
 
@@ -73,7 +74,8 @@ loop-instr-preserved c =
     let i = c.image-image in
     let run = goes c.args.program.now i.result.now c.args.slots.now i.ensures.accepted i.ensures.image c.requires in
     let turn = run l.position.at l.stack.items l.frames.items l.charged l.steps l.invariant.0 c.in-Some.instr.now c.in_ok-step.field-0 in
-    let after = turn c.step.new.position c.step.new.stack.items c.step.new.frames.items (sym c.in-Some.ensures.value) c.in_ok-step.ensures.acts in (
+    let after = turn c.step.new.position c.step.new.stack.items c.step.new.frames.items (sym c.in-Some.ensures.value)
+    c.in_ok-step.ensures.acts in (
       after c.in-GoesOn.is,
       c.step.ensures.room ∙ l.invariant.1,
       c.step.ensures.frame_room ∙ l.invariant.2,
@@ -93,7 +95,8 @@ returns-in-IsOver-clause-fits c =
     let i = c.image-image in
     let run = outcome_fits c.args.program.now i.result.now c.args.slots.now i.ensures.accepted i.ensures.image c.requires in
     let turn = run l.position.at l.stack.items l.frames.items l.charged l.steps l.invariant.0 c.in-Some.instr.now c.in_ok-step.field-0 in
-    let after = turn c.step.new.position c.step.new.stack.items c.step.new.frames.items (sym c.in-Some.ensures.value) c.in_ok-step.ensures.acts in
+    let after = turn c.step.new.position c.step.new.stack.items c.step.new.frames.items (sym c.in-Some.ensures.value)
+    c.in_ok-step.ensures.acts in
     after c.in_ok-outcome-in-IsOver.outcome c.in-IsOver.is c.in_ok-outcome-in-IsOver.ensures
 
 pub returns-in-IsOver-clause-steps : goal.returns-in-IsOver-clause-steps
@@ -126,7 +129,8 @@ unreachable-requires c =
     let i = c.image-image in
     let run = not_stuck c.args.program.now i.result.now c.args.slots.now i.ensures.accepted i.ensures.image c.requires in
     let turn = run l.position.at l.stack.items l.frames.items l.charged l.steps l.invariant.0 c.in-Some.instr.now c.in_ok-step.field-0 in
-    let after = turn c.step.new.position c.step.new.stack.items c.step.new.frames.items (sym c.in-Some.ensures.value) c.in_ok-step.ensures.acts in
+    let after = turn c.step.new.position c.step.new.stack.items c.step.new.frames.items (sym c.in-Some.ensures.value)
+    c.in_ok-step.ensures.acts in
     after c.in-IsStuckHere.is
 
 pub unreachable-requires-2 : goal.unreachable-requires-2
@@ -143,5 +147,6 @@ taken-requires c =
     let i = c.image-image in
     let run = has_top c.args.program.now i.result.now c.args.slots.now i.ensures.accepted i.ensures.image c.requires in
     let turn = run l.position.at l.stack.items l.frames.items l.charged l.steps l.invariant.0 c.in-Some.instr.now c.in_ok-step.field-0 in
-    let after = turn c.step.new.position c.step.new.stack.items c.step.new.frames.items (sym c.in-Some.ensures.value) c.in_ok-step.ensures.acts in
+    let after = turn c.step.new.position c.step.new.stack.items c.step.new.frames.items (sym c.in-Some.ensures.value)
+    c.in_ok-step.ensures.acts in
     after c.in-IsOver.is

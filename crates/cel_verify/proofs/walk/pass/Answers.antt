@@ -1,9 +1,8 @@
 use Rattle.std.proofs.Common.{sym, subst}
 use Rattle.std.specs.Prelude.{MatchResult}
 use Rattle.std.proofs.lemmas.Result.{err_from_is_err_and}
-use Rattle.cel_code.specs.declared.instr.Instr.TheVariants as instr
 use Rattle.cel_verify.specs.Walked.{Refuses, Passes, typed_here}
-use Rattle.cel_verify.proofs.Openings.{plain_is, refused_typed, passes_on, passes_in}
+use Rattle.cel_verify.proofs.Openings.{plain_is, refused_loop, told_typed, passes_on, passes_in}
 use Rattle.cel_verify.proofs.walk.pass.Goals as goal
 
 pub returns-in_err-begun-in-Loop : goal.returns-in_err-begun-in-Loop
@@ -13,8 +12,7 @@ returns-in_err-begun-in-Loop c =
     let p = err_from_is_err_and c.from_residual.result c.from_residual.ensures.1 in
     rw (p.1, p.2)
     (subst (λ i. Refuses r (typed_here image c.args.at i c.args.types c.args.opens.now)) (sym c.in-Loop.is)
-    (refused_typed image c.args.at (instr.Loop c.in-Loop.mode c.in-Loop.exit) c.args.types c.args.opens.now r
-    c.in_err-begun-in-Loop.ensures))
+    (refused_loop image c.args.at c.in-Loop.mode c.in-Loop.exit c.args.types c.args.opens.now r c.in_err-begun-in-Loop.ensures))
 
 pub returns-in_ok-begun-in-Loop : goal.returns-in_ok-begun-in-Loop
 returns-in_ok-begun-in-Loop c =
@@ -32,15 +30,15 @@ returns-in_ok-begun-in-Loop c =
 pub typed-requires-clause-plain : goal.typed-requires-clause-plain
 typed-requires-clause-plain c = plain_is c.args.instr c.in_default.not-Loop
 
-pub returns-in_err-falls-in_default : goal.returns-in_err-falls-in_default
-returns-in_err-falls-in_default c =
-    let r = c.in_err-falls-in_default.field-0.0 in
-    let p = err_from_is_err_and c.from_residual-in_err-falls-in_default.result c.from_residual-in_err-falls-in_default.ensures.1 in
-    rw (p.1, p.2)
-    (refused_typed c.args.image.now c.args.at c.args.instr c.args.types c.args.opens.now r c.in_err-falls-in_default.ensures)
-
-pub returns-in_ok-falls-in_default : goal.returns-in_ok-falls-in_default
-returns-in_ok-falls-in_default c =
+pub returns-in-Ok : goal.returns-in-Ok
+returns-in-Ok c =
     let plain = plain_is c.args.instr c.in_default.not-Loop in
-    passes_on c.args.image.now c.args.at c.args.instr c.args.types c.args.opens.now c.in_ok-falls-in_default.falls plain
-    c.in_ok-falls-in_default.ensures c.go_on.result c.go_on.ensures
+    passes_on c.args.image.now c.args.at c.args.instr c.args.types c.args.opens.now c.in-Ok.falls plain c.in-Ok.ensures c.go_on.result
+    c.go_on.ensures
+
+pub returns-in-Err-Broken : goal.returns-in-Err-Broken
+returns-in-Err-Broken c =
+    let image = c.args.image.now in
+    let here = c.in-Err-Broken in
+    told_typed image c.args.at c.args.instr c.args.types c.args.opens.now here.rule c.told_at.result
+    (rw here.field-0-is at here.ensures) (rw here.field-0-is at c.told_at.ensures)

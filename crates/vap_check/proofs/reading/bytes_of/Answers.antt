@@ -8,7 +8,8 @@ loop-file-init g c = record { taken = taken_none _ _ (search rules); counts = se
 pub loop-file-preserved : goal.loop-file-preserved
 loop-file-preserved g c = record {
   taken = taken_more _ _ _ _ _ _ c.loop-file.invariant.taken c.in-Ok.ensures.bytes.0
-      (c.in_ok-extend_from_slice-in-Ok.ensures.items ∙ ap (λ l. c.loop-file.bytes.items ++ take c.in-Ok.count l) (c.deref.ensures.value ∙ whole_buffer _ _ _ (search rules)));
+      (c.in_ok-extend_from_slice-in-Ok.ensures.items
+      ∙ ap (λ l. c.loop-file.bytes.items ++ take c.in-Ok.count l) (c.deref.ensures.value ∙ whole_buffer _ _ _ (search rules)));
   counts = search rules;
   room = search rules;
 }

@@ -32,14 +32,16 @@ pub emit_within-returns-in_ok-emit_over-in-Binary-clause-stands : goal.emit_with
 emit_within-returns-in_ok-emit_over-in-Binary-clause-stands t c =
     on_ok_weaker c.put-in-Binary.result
     (λ e.
-    emits_binary _ _ _ _ _ _ _ _ _ _ _ c.in-Binary.is c.get-in-Binary.ensures c.get-in-Binary-2.ensures c.in_ok-emit-in-Binary.ensures.stands c.in_ok-emit_over-in-Binary.ensures.stands c.code-in-Binary.ensures e)
+    emits_binary _ _ _ _ _ _ _ _ _ _ _ c.in-Binary.is c.get-in-Binary.ensures c.get-in-Binary-2.ensures
+    c.in_ok-emit-in-Binary.ensures.stands c.in_ok-emit_over-in-Binary.ensures.stands c.code-in-Binary.ensures e)
     c.put-in-Binary.ensures.code
 
 pub emit_within-returns-in_ok-emit_over-in-Binary-clause-writes : goal.emit_within-returns-in_ok-emit_over-in-Binary-clause-writes
 emit_within-returns-in_ok-emit_over-in-Binary-clause-writes t c =
     on_ok_weaker c.put-in-Binary.result
     (λ g.
-    writes_binary _ _ _ _ _ _ _ _ _ _ _ c.in-Binary.is c.get-in-Binary.ensures c.get-in-Binary-2.ensures c.get-in-Binary-3.ensures c.in_ok-emit-in-Binary.ensures.writes c.in_ok-emit_over-in-Binary.ensures.writes g)
+    writes_binary _ _ _ _ _ _ _ _ _ _ _ c.in-Binary.is c.get-in-Binary.ensures c.get-in-Binary-2.ensures c.get-in-Binary-3.ensures
+    c.in_ok-emit-in-Binary.ensures.writes c.in_ok-emit_over-in-Binary.ensures.writes g)
     c.put-in-Binary.ensures.grows
 
 pub emit_and-returns-clause-stands : goal.emit_and-returns-clause-stands
@@ -66,14 +68,16 @@ pub emit_within-returns-in_ok-number-in-WithText-clause-stands : goal.emit_withi
 emit_within-returns-in_ok-number-in-WithText-clause-stands t c =
     on_ok_weaker c.put-in-WithText.result
     (λ e.
-    emits_with_text _ _ _ _ _ _ _ _ _ _ c.in-WithText.is c.get-in-WithText.ensures c.in_ok-emit-in-WithText.ensures.stands c.in_ok-number-in-WithText.ensures.number e)
+    emits_with_text _ _ _ _ _ _ _ _ _ _ c.in-WithText.is c.get-in-WithText.ensures c.in_ok-emit-in-WithText.ensures.stands
+    c.in_ok-number-in-WithText.ensures.number e)
     c.put-in-WithText.ensures.code
 
 pub emit_within-returns-in_ok-number-in-WithText-clause-writes : goal.emit_within-returns-in_ok-number-in-WithText-clause-writes
 emit_within-returns-in_ok-number-in-WithText-clause-writes t c =
     on_ok_weaker c.put-in-WithText.result
     (λ g.
-    writes_with_text _ _ _ _ _ _ _ _ _ c.in-WithText.is c.get-in-WithText.ensures c.in_ok-emit-in-WithText.ensures.writes c.in_ok-number-in-WithText.ensures.grows g)
+    writes_with_text _ _ _ _ _ _ _ _ _ c.in-WithText.is c.get-in-WithText.ensures c.in_ok-emit-in-WithText.ensures.writes
+    c.in_ok-number-in-WithText.ensures.grows g)
     c.put-in-WithText.ensures.grows
 
 pub emit_conditional-returns-clause-stands : goal.emit_conditional-returns-clause-stands
@@ -107,7 +111,8 @@ emit_map-returns-clause-writes t c =
     let under = c.leave.ensures.below _ _ c.in_ok-emit_entries.ensures.writes.below c.len-below.ensures in
     on_ok_weaker c.put.result
     (λ g.
-    writes_entries _ _ _ _ _ _ _ c.requires.is c.as_slice.ensures c.in_ok-emit_entries.ensures.writes c.leave.ensures.code c.leave.ensures.targets under g)
+    writes_entries _ _ _ _ _ _ _ c.requires.is c.as_slice.ensures c.in_ok-emit_entries.ensures.writes c.leave.ensures.code
+    c.leave.ensures.targets under g)
     c.put.ensures.grows
 
 pub emit_entries-loop-entry-preserved : goal.emit_entries-loop-entry-preserved
@@ -189,5 +194,6 @@ emit_body-returns-clause-writes t c =
     let aside : Draft = record old { below = c.replace-below.new.dest } in
     on_ok_weaker c.emit-emitted.result
     (λ w.
-    writes_body old aside c.emit-emitted.new.self _ _ refl refl (c.replace-below.ensures.after ∙ c.new.ensures) w refl refl c.replace-below.ensures.value)
+    writes_body old aside c.emit-emitted.new.self _ _ refl refl (c.replace-below.ensures.after ∙ c.new.ensures) w refl refl
+    c.replace-below.ensures.value)
     c.emit-emitted.ensures.writes

@@ -24,7 +24,8 @@ invariant_of-self-2 c = (
   numbered_after c.push.result c.self.inside.values c.push.new.self c.self.inside.numbers c.note.new.numbers c.args.value.now
       c.in_ok-copy.field-0 c.len.result c.in_ok-copy.ensures c.len.ensures c.self.invariant.0
       (search rules) c.in_ok-note.ensures.ok c.push.ensures.ok c.push.ensures.err,
-  texts_after c.push.result c.self.inside.values c.push.new.self (get_by_text c.self.inside.texts) (get_by_text c.note_text.new.numbers) c.args.value.now
+  texts_after c.push.result c.self.inside.values c.push.new.self (get_by_text c.self.inside.texts) (get_by_text c.note_text.new.numbers)
+      c.args.value.now
       c.in_ok-copy.field-0 _ c.in_ok-copy.ensures c.len-2.ensures c.self.invariant.1
       (search rules) c.in_ok-note_text.ensures.ok c.push.ensures.ok c.push.ensures.err,
 )

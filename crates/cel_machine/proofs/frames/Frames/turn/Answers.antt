@@ -15,6 +15,7 @@ returns-clause-turned c =
     let is : suc last ≡ length v.items = omega (arith, v.ok.0, some) in
     let h : c.in-Some.frame.now ≡ slice_index_or v.items last c.in-Some.frame.now = c.in-Some.ensures.value in
     let after = reverse (slice_set v.items last c.turn.new.self) in
-    subst (λ (s : OpenLoops). IfOk c.turn.result (λ t. (stack : List Outcome) → next_in (c.args.x ∷ stack) s.items ≡ turned_in t stack after))
+    subst (λ (s : OpenLoops). IfOk c.turn.result
+    (λ t. (stack : List Outcome) → next_in (c.args.x ∷ stack) s.items ≡ turned_in t stack after))
     c.self.view_is
     (turning c.turn.result v.items last c.in-Some.frame.now c.turn.new.self c.args.x is h c.turn.ensures.turned c.turn.ensures.kept)

@@ -6,4 +6,5 @@ use Rattle.cel_patterns.proofs.matchers.Matchers.place_of.Goals as goal
 
 pub returns-in-Some-clause-place : goal.returns-in-Some-clause-place
 returns-in-Some-clause-place c =
-    named_here (texts_of c.args.self.now) (get_by_text c.args.self.now.places c.args.pattern.now) _ c.args.pattern.now (search rules) (c.args.self.now.named c.args.pattern.now)
+    named_here (texts_of c.args.self.now) (get_by_text c.args.self.now.places c.args.pattern.now) _ c.args.pattern.now (search rules)
+    (c.args.self.now.named c.args.pattern.now)

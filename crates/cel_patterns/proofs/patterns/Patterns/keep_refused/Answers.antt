@@ -1,20 +1,24 @@
 use Rattle.std.proofs.Common.{◌≡◌, ◌∙◌, ◌++◌, ◌∷◌, [], ap, false, string_bytes}
 use Rattle.cel_patterns.specs.Answers.{answer_in, choice_in, told_by}
 use Rattle.cel_patterns.proofs.Asked.{Adds, adds, answered_by, grows_seen, honest_refused, joined}
+use Rattle.cel_patterns.proofs.Only.{asks_nothing, asks_one}
 use Rattle.std.proofs.lemmas.List.{map-append}
 use Rattle.cel_patterns.specs.Choice.{then_answered}
 use Rattle.cel_patterns.proofs.patterns.Patterns.keep_refused.Goals as goal
 
 added : (c : goal.After-push_reserved) →
-    Adds (told_by c.self.inside.answers c.self.inside.refused.items) (told_by c.insert.new.self c.push_reserved.new.self.items) c.args.text.now false
+    Adds (told_by c.self.inside.answers c.self.inside.refused.items) (told_by c.insert.new.self c.push_reserved.new.self.items)
+    c.args.text.now false
 added c =
-    adds c.self.inside.answers c.insert.new.self c.self.inside.refused.items c.push_reserved.new.self.items (string_bytes c.in_ok-key.key) c.args.text.now false
-    c.in_ok-key.ensures.ok c.in_ok-insert.ensures.updates
+    adds c.self.inside.answers c.insert.new.self c.self.inside.refused.items c.push_reserved.new.self.items
+    (string_bytes c.in_ok-key.key) c.args.text.now false c.in_ok-key.ensures.ok c.in_ok-insert.ensures.updates
 
 last : (c : goal.After-push_reserved) →
-    choice_in (told_by c.insert.new.self c.push_reserved.new.self.items) ≡ choice_in (told_by c.self.inside.answers c.self.inside.refused.items) ++ c.args.text.now ∷ []
+    choice_in (told_by c.insert.new.self c.push_reserved.new.self.items)
+    ≡ choice_in (told_by c.self.inside.answers c.self.inside.refused.items) ++ c.args.text.now ∷ []
 last c =
-    rw (c.push_reserved.ensures.items, c.reserve.ensures.items, map-append string_bytes c.self.inside.refused.items (c.in_ok-name.name ∷ []))
+    rw
+    (c.push_reserved.ensures.items, c.reserve.ensures.items, map-append string_bytes c.self.inside.refused.items (c.in_ok-name.name ∷ []))
     (ap (λ text. choice_in (told_by c.self.inside.answers c.self.inside.refused.items) ++ text ∷ []) c.in_ok-name.ensures.ok)
 
 pub invariant_of-self : goal.invariant_of-self
@@ -33,3 +37,11 @@ returns-clause-in_order c =
 
 pub returns-clause-grows : goal.returns-clause-grows
 returns-clause-grows c = grows_seen _ _ _ c.args.text.now false c.self.view_is (added c) c.requires.new
+
+pub returns-clause-only : goal.returns-clause-only
+returns-clause-only c = asks_one _ _ _ c.args.text.now false c.self.view_is (added c)
+
+pub returns-in_err-insert-clause-only : goal.returns-in_err-insert-clause-only
+returns-in_err-insert-clause-only c =
+    asks_nothing _ c.self.inside.answers c.insert.new.self c.self.inside.refused.items c.reserve.new.self.items _ c.self.view_is
+    c.in_err-insert.ensures.err

@@ -25,6 +25,11 @@ loop-rest-preserved g c =
     let rest = c.loop-rest.rest.now in
     let taken = c.in_ok-taken.taken in
     record {
-      written = (done ++ take taken rest, moves_front _ done rest taken split, Appends-trans _ _ _ _ _ appended c.in_ok-taken.ensures.bytes);
+      written = (
+        done ++ take taken rest,
+        moves_front _ done rest taken split,
+        Appends-trans _ _ _ _ _ appended
+            c.in_ok-taken.ensures.bytes,
+      );
       counts = c.in_ok-taken.ensures.counts ∙ counts_none (the_row.Denot) _ _ _ c.if-taken-eq0.false ∙ c.loop-rest.invariant.counts;
     }

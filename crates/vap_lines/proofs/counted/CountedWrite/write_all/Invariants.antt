@@ -6,7 +6,8 @@ use Rattle.vap_lines.proofs.counted.CountedWrite.write_all.Given as goal
 -- what is gone from the rest was appended, and nothing has failed
 abbrev pub invariant-loop-rest : goal.invariant-loop-rest
 invariant-loop-rest g l = record {
-  written : (done : List ℕ) × (l.initial.rest ≡ done ++ l.rest) × Appends (g.W.Write.contents (inner_of l.initial.self)) (g.W.Write.contents (inner_of l.self)) done;
+  written : (done : List ℕ) × (l.initial.rest ≡ done ++ l.rest)
+      × Appends (g.W.Write.contents (inner_of l.initial.self)) (g.W.Write.contents (inner_of l.self)) done;
   counts : failures_of l.self ≡ failures_of l.initial.self;
 }
 

@@ -17,7 +17,8 @@ returns-in-Some-clause-first g c =
 
 pub returns-then-count-eq0-clause-first : goal.returns-then-count-eq0-clause-first
 returns-then-count-eq0-clause-first g c =
-    is_first End _ _ _ (handed_plain c.in_ok-ending.field-0 _ _ _ _ c.loop-ending.invariant.plain c.in_ok-ending.ensures.hands) (search rules)
+    is_first End _ _ _ (handed_plain c.in_ok-ending.field-0 _ _ _ _ c.loop-ending.invariant.plain c.in_ok-ending.ensures.hands)
+    (search rules)
 
 pub returns-then-count-eq0-clause-no_failure : goal.returns-then-count-eq0-clause-no_failure
 returns-then-count-eq0-clause-no_failure g c = search rules
