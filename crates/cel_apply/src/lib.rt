@@ -6,8 +6,8 @@
 //! it is none, and [`map_of`] makes the map of a literal's entries. No stack and no image is known here.
 #![tactic(auto)]
 
-mod comparing;
-mod folding;
+mod aggregates;
+mod comparisons;
 mod kinds;
 mod lists;
 mod maps;

@@ -3,8 +3,8 @@ ghost use Rattle.cel_operators.specs.Operators.{row, at_one, at_two};
 ghost use Rattle.cel_apply.specs.Counted.{counted};
 ghost use Rattle.cel_apply.specs.Lent.{lent};
 
-use crate::comparing::{equality, order};
-use crate::folding::{join, on_naturals, on_wholes};
+use crate::aggregates::{join, on_naturals, on_wholes};
+use crate::comparisons::{equality, order};
 use crate::lists::{
     in_list, in_map, item_of_list, lists_in_a_row, size_list, size_map, value_of_map,
 };

@@ -94,7 +94,7 @@ pub fn index_overloads() -> &'static [Operator]
 }
 
 /// The overloads of a function of one argument, by its name.
-#[tactic(auto, unfolding(crate::specs::Typing::function_overloads))]
+#[tactic(auto, unfolding(crate::specs::Overloads::function_overloads))]
 pub fn function_overloads(name: &str) -> &'static [Operator]
     ensures { result.now ≡ function_overloads name.now }
 {
@@ -121,7 +121,7 @@ pub fn function_overloads(name: &str) -> &'static [Operator]
 }
 
 /// The overloads of a method with no argument, by its name.
-#[tactic(auto, unfolding(crate::specs::Typing::method_overloads))]
+#[tactic(auto, unfolding(crate::specs::Overloads::method_overloads))]
 pub fn method_overloads(name: &str) -> &'static [Operator]
     ensures { result.now ≡ method_overloads name.now }
 {
@@ -144,7 +144,7 @@ pub fn method_overloads(name: &str) -> &'static [Operator]
 }
 
 /// The overloads of a method with one argument, by its name.
-#[tactic(auto, unfolding(crate::specs::Typing::method_overloads_with))]
+#[tactic(auto, unfolding(crate::specs::Overloads::method_overloads_with))]
 pub fn method_overloads_with(name: &str) -> &'static [Operator]
     ensures { result.now ≡ method_overloads_with name.now }
 {

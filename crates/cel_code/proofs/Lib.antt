@@ -1,9 +1,24 @@
 pub mod Numbering
 pub mod Texts
 pub mod OneRun
+pub mod Elements
+pub mod SameCode
+pub mod KeptCode
+pub mod OperandCode
+pub mod BranchCode
+pub mod LoopCode
 pub mod Place
+pub mod Stretches
+pub mod OperatorRuns
+pub mod BranchRuns
+pub mod ListRuns
+pub mod LoopRuns
 pub mod Runs
 mod WorkedRows
+pub mod TargetLists
+pub mod TargetOrder
+pub mod JumpGoals
+pub mod TargetSources
 pub mod Jumped
 pub mod Unique
 pub mod Written

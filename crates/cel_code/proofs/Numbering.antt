@@ -1,34 +1,32 @@
 -- Constants and the numbers under which their keys stand.
-use Rattle.std.proofs.Common.{◌≡◌, ◌≢◌, ℕ, zero, suc, ◌-◌, true, false, [], ◌∷◌, ◌++◌, length}
-use Rattle.std.proofs.Common.{Some, refl, sym, ap, ◌∙◌, subst, inl, inr, ⊎_elim, rules, arith}
-use Rattle.std.specs.Prelude.{pos, negsuc, nat_eq, slice_get, Contains, if◌then◌else◌, ◌⊎◌, Result, Ok, Err, OnOk, OnErr}
+use Rattle.std.proofs.Common.{◌≡◌, ◌≢◌, ℕ, zero, suc, true, false, [], ◌∷◌, ◌++◌, length}
+use Rattle.std.proofs.Common.{Some, refl, sym, ap, ◌∙◌, subst, inl, inr, ⊎_elim, rules}
+use Rattle.std.specs.Prelude.{slice_get, Contains, ◌⊎◌, Result, Ok, Err, OnOk, OnErr}
 use Rattle.std.proofs.lemmas.Option.{same_Some}
-use Rattle.std.proofs.lemmas.Map.Lookups.{CmpEqualImpliesEq, exact_pairs, exact_unsigned}
+use Rattle.std.proofs.lemmas.Map.Lookups.{CmpEqualImpliesEq, exact_signed, exact_unsigned}
 use Rattle.std.specs.declared.cmp.Ordering.{Ordering}
 use Rattle.std.specs.declared.cmp.Ordering.TheVariants.{Less, Equal, Greater}
-use Rattle.std.specs.Ordering.{nat_cmp, is_eq}
+use Rattle.std.specs.Ordering.{is_eq}
 use Rattle.std.specs.BTreeMap.{BTreeMap, get, is_at, Updates}
 use Rattle.cel_value.specs.declared.value.Value.{Value, out-Value, roll-Value, the_lemmas}
 use Rattle.cel_value.specs.declared.value.Value.TheOpen.{Value-F}
+use Rattle.cel_code.specs.declared.key.Key.TheVariants as key
+use Rattle.cel_code.specs.declared.key.Key.{Key}
 use Rattle.cel_code.specs.Numbered.{Values, key_at, key_of, key_cmp, IsNumbered, Notes}
 use Rattle.cel_code.proofs.Place.{contains_at, get_kept, get_last}
 
 -- the level that has a key
-at_key : ℕ × ℕ → Value-F Value
-at_key q =
-    if nat_eq q.0 0 then Value-F.Null else if nat_eq q.0 1 then Value-F.Bool (nat_eq q.1 1) else if nat_eq q.0 2 then Value-F.Int (pos q.1)
-    else if nat_eq q.0 3 then Value-F.Int (negsuc (q.1 - 1)) else Value-F.Uint q.1
+at_key : Key → Value-F Value
+at_key key.Null = Value-F.Null
+at_key (key.Truth b) = Value-F.Bool b
+at_key (key.Int n) = Value-F.Int n
+at_key (key.Uint n) = Value-F.Uint n
 
-less_one : (n : ℕ) → suc n - 1 ≡ n
-less_one n = omega arith
-
-of_key : (o : Value-F Value) (q : ℕ × ℕ) → key_at o ≡ Some q → o ≡ at_key q
+of_key : (o : Value-F Value) (q : Key) → key_at o ≡ Some q → o ≡ at_key q
 unfolding at_key
 of_key Value-F.Null q e = ap at_key (same_Some _ _ e)
-of_key (Value-F.Bool false) q e = ap at_key (same_Some _ _ e)
-of_key (Value-F.Bool true) q e = ap at_key (same_Some _ _ e)
-of_key (Value-F.Int (pos n)) q e = ap at_key (same_Some _ _ e)
-of_key (Value-F.Int (negsuc n)) q e = ap (λ m. Value-F.Int (negsuc m)) (sym (less_one n)) ∙ ap at_key (same_Some _ _ e)
+of_key (Value-F.Bool b) q e = ap at_key (same_Some _ _ e)
+of_key (Value-F.Int n) q e = ap at_key (same_Some _ _ e)
 of_key (Value-F.Uint n) q e = ap at_key (same_Some _ _ e)
 of_key (Value-F.Text bs) q e = cc
 of_key (Value-F.List vs) q e = cc
@@ -40,14 +38,19 @@ roll_out : (v : Value) → roll-Value (out-Value v) ≡ v
 roll_out v = search (rules, the_lemmas)
 
 -- values with one key are one
-pub one_key : (v w : Value) (q : ℕ × ℕ) → key_of v ≡ Some q → key_of w ≡ Some q → v ≡ w
+pub one_key : (v w : Value) (q : Key) → key_of v ≡ Some q → key_of w ≡ Some q → v ≡ w
 one_key v w q e f = sym (roll_out v) ∙ ap roll-Value (of_key (out-Value v) q e ∙ sym (of_key (out-Value w) q f)) ∙ roll_out w
 
 -- keys that compare alike are one
 exact : CmpEqualImpliesEq key_cmp
-exact = exact_pairs nat_cmp nat_cmp exact_unsigned exact_unsigned
+exact key.Null key.Null e = refl
+exact (key.Truth false) (key.Truth false) e = refl
+exact (key.Truth true) (key.Truth true) e = refl
+exact (key.Int m) (key.Int n) e = ap key.Int (exact_signed m n e)
+exact (key.Uint m) (key.Uint n) e = ap key.Uint (exact_unsigned m n e)
+exact _ _ e = let no : ⊥ = cc in absurd no
 
-apart : (p q : ℕ × ℕ) → p ≢ q → is_at (key_cmp p) q ≡ false
+apart : (p q : Key) → p ≢ q → is_at (key_cmp p) q ≡ false
 apart p q ne = by (key_cmp p q) refl
   where
     by : (o : Ordering) → key_cmp p q ≡ o → is_eq o ≡ false
@@ -55,7 +58,7 @@ apart p q ne = by (key_cmp p q) refl
     by Equal e = absurd (ne (exact p q e))
     by Greater e = refl
 
-pub noted : (old new : BTreeMap (ℕ × ℕ) ℕ) (v : Value) (q : ℕ × ℕ) (number : ℕ) → key_of v ≡ Some q
+pub noted : (old new : BTreeMap Key ℕ) (v : Value) (q : Key) (number : ℕ) → key_of v ≡ Some q
     → Updates key_cmp old new q (Some number) → Notes old new v number
 noted old new v q number has u =
     record {
@@ -64,7 +67,7 @@ noted old new v q number has u =
     }
 
 -- a number is noted for a value that is no constant yet
-pub still_numbered : (constants : Values) (old new : BTreeMap (ℕ × ℕ) ℕ) (v : Value) (number : ℕ) → IsNumbered constants old
+pub still_numbered : (constants : Values) (old new : BTreeMap Key ℕ) (v : Value) (number : ℕ) → IsNumbered constants old
     → ¬ Contains constants v → Notes old new v number → IsNumbered constants new
 still_numbered constants old new v number is fresh notes =
     record {
@@ -84,7 +87,7 @@ last_or_before (z ∷ xs) y x zero h = inl h
 last_or_before (z ∷ xs) y x (suc k) h = last_or_before xs y x k h
 
 -- and then it is one
-pub numbered_next : (constants : Values) (old new : BTreeMap (ℕ × ℕ) ℕ) (v : Value) → IsNumbered constants old
+pub numbered_next : (constants : Values) (old new : BTreeMap Key ℕ) (v : Value) → IsNumbered constants old
     → ¬ Contains constants v → Notes old new v (length constants) → IsNumbered (constants ++ v ∷ []) new
 numbered_next constants old new v is fresh notes =
     let before = still_numbered constants old new v (length constants) is fresh notes in
@@ -97,7 +100,7 @@ numbered_next constants old new v is fresh notes =
     }
 
 -- whichever way the list of constants ends
-pub numbered_after : {A B : Type 0} (r : Result A B) (constants new : Values) (old numbers : BTreeMap (ℕ × ℕ) ℕ) (v w : Value)
+pub numbered_after : {A B : Type 0} (r : Result A B) (constants new : Values) (old numbers : BTreeMap Key ℕ) (v w : Value)
     (number : ℕ) → w ≡ v → number ≡ length constants → IsNumbered constants old → ¬ Contains constants v
     → Notes old numbers v number → OnOk r (new ≡ constants ++ w ∷ []) → OnErr r (new ≡ constants) → IsNumbered new numbers
 numbered_after (Ok a) constants new old numbers v w number same last is fresh notes ok err =

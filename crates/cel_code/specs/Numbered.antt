@@ -1,38 +1,37 @@
--- Constants that are found by what tells them apart: a key of numbers, or a text.
-use Rattle.std.specs.Prelude.{◌≡◌, ◌≢◌, ℕ, pos, negsuc, suc, true, false, List, slice_get, Option, Some, None}
+-- Constants that are found by what tells them apart: a key, or a text.
+use Rattle.std.specs.Prelude.{◌≡◌, ◌≢◌, ℕ, List, slice_get, Option, Some, None}
 use Rattle.std.specs.declared.cmp.Ordering.{Ordering}
-use Rattle.std.specs.Ordering.{nat_cmp, ordering_then}
 use Rattle.std.specs.BTreeMap.{BTreeMap, get}
 use Rattle.cel_value.specs.declared.value.Value as value
 use Rattle.cel_value.specs.declared.value.Value.{Value, out-Value}
 use Rattle.cel_value.specs.declared.value.Value.TheOpen.{Value-F}
+use Rattle.cel_code.specs.declared.key.Key.TheVariants as key
+use Rattle.cel_code.specs.declared.key.Key.{Key}
+use Rattle.cel_code.specs.contracts.key.KeyOrd.TheImpl.{cmp-value}
 
 -- constants, each at its number
 abbrev pub Values : Type 0
 Values = List Value
 
--- the kind of a value and its content, where the value is null, a truth value or a number: of kind 0 is null, of 1 a truth
--- value, of 2 an integer from 0 on, of 3 a negative one, by its amount, and of 4 a number without a sign
-abbrev pub key_at : Value-F Value → Option (ℕ × ℕ)
-key_at Value-F.Null = Some (0, 0)
-key_at (Value-F.Bool false) = Some (1, 0)
-key_at (Value-F.Bool true) = Some (1, 1)
-key_at (Value-F.Int (pos n)) = Some (2, n)
-key_at (Value-F.Int (negsuc n)) = Some (3, suc n)
-key_at (Value-F.Uint n) = Some (4, n)
+-- the key of a value, by its outermost level: null, a truth value and a number has one
+abbrev pub key_at : Value-F Value → Option Key
+key_at Value-F.Null = Some key.Null
+key_at (Value-F.Bool b) = Some (key.Truth b)
+key_at (Value-F.Int n) = Some (key.Int n)
+key_at (Value-F.Uint n) = Some (key.Uint n)
 key_at _ = None
 
--- likewise of a whole value, by its outermost level
-abbrev pub key_of : Value → Option (ℕ × ℕ)
+-- the key of a value
+abbrev pub key_of : Value → Option Key
 key_of v = key_at (out-Value v)
 
--- by the kind, and then by the content
-abbrev pub key_cmp : ℕ × ℕ → ℕ × ℕ → Ordering
-key_cmp p q = ordering_then (nat_cmp p.0 q.0) (nat_cmp p.1 q.1)
+-- the order of keys, which is derived: by the kind, and then by the content
+abbrev pub key_cmp : Key → Key → Ordering
+key_cmp = cmp-value.it
 
 -- each constant that has a key stands under the number that its key has
-pub record IsNumbered (constants : Values) (numbers : BTreeMap (ℕ × ℕ) ℕ) : Type 0 where
-  pub each : (k : ℕ) (v : Value) (q : ℕ × ℕ) → slice_get constants k ≡ Some v → key_of v ≡ Some q
+pub record IsNumbered (constants : Values) (numbers : BTreeMap Key ℕ) : Type 0 where
+  pub each : (k : ℕ) (v : Value) (q : Key) → slice_get constants k ≡ Some v → key_of v ≡ Some q
       → (n : ℕ) × (get key_cmp numbers q ≡ Some n) × (slice_get constants n ≡ Some v)
 
 -- each text that stands among the constants stands under the number that the text has
@@ -46,6 +45,6 @@ pub record NotesText (old new : List ℕ → Option ℕ) (v : Value) (number : �
   pub others : (text : List ℕ) → v ≢ value.Text text → new text ≡ old text
 
 -- the key of a value has this number, and what is under other keys stays
-pub record Notes (old new : BTreeMap (ℕ × ℕ) ℕ) (v : Value) (number : ℕ) : Type 0 where
-  pub own : (q : ℕ × ℕ) → key_of v ≡ Some q → get key_cmp new q ≡ Some number
-  pub others : (q : ℕ × ℕ) → key_of v ≢ Some q → get key_cmp new q ≡ get key_cmp old q
+pub record Notes (old new : BTreeMap Key ℕ) (v : Value) (number : ℕ) : Type 0 where
+  pub own : (q : Key) → key_of v ≡ Some q → get key_cmp new q ≡ Some number
+  pub others : (q : Key) → key_of v ≢ Some q → get key_cmp new q ≡ get key_cmp old q

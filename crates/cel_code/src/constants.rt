@@ -3,6 +3,7 @@ ghost use Rattle.std.specs.BTreeMap.{IsUnchanged, get_by_text};
 ghost use Rattle.cel_value.specs.declared.value.Value.TheVariants.{Text as text_value};
 ghost use Rattle.cel_code.specs.Numbered.{key_of, IsNumbered, Notes, AreTextsNumbered, NotesText};
 
+use crate::key::Key;
 use cel_value::{Value, equal};
 use plain::Items;
 use std::alloc::{AllocError, Global};
@@ -14,7 +15,7 @@ use std::marker::Model;
 #[derive(Drop)]
 pub struct Constants {
     values: Items<Value>,
-    numbers: BTreeMap<(u8, u64), usize>,
+    numbers: BTreeMap<Key, usize>,
     texts: BTreeMap<String, usize>,
 }
 
@@ -86,28 +87,21 @@ impl Constants {
     }
 }
 
-// What tells a constant that is no text from all others: its kind and its content.
-fn key(value: &Value) -> Option<(u8, u64)>
+// The key of a constant, where it has one.
+fn key(value: &Value) -> Option<Key>
     ensures { result ≡ key_of value.now }
 {
     match value {
-        Value::Null => Some((0, 0)),
-        Value::Bool(truth) => Some((1, if *truth { 1 } else { 0 })),
-        Value::Int(number) => {
-            let kind = if *number < 0 { 3 } else { 2 };
-            Some((kind, number.unsigned_abs()))
-        }
-        Value::Uint(number) => Some((4, *number)),
+        Value::Null => Some(Key::Null),
+        Value::Bool(truth) => Some(Key::Truth(*truth)),
+        Value::Int(number) => Some(Key::Int(*number)),
+        Value::Uint(number) => Some(Key::Uint(*number)),
         _ => None,
     }
 }
 
 // The number of a value under its key, where it has one.
-fn note(
-    numbers: &mut BTreeMap<(u8, u64), usize>,
-    value: &Value,
-    number: usize,
-) -> Result<(), AllocError>
+fn note(numbers: &mut BTreeMap<Key, usize>, value: &Value, number: usize) -> Result<(), AllocError>
     ensures ok { OnOk result (Notes numbers.old numbers.new value.now number) }
     ensures err { OnErr result (IsUnchanged numbers.old numbers.new) }
 {
@@ -155,8 +149,8 @@ fn find_text(
 // there is looked at.
 fn find_by(
     constants: &[Value],
-    numbers: &BTreeMap<(u8, u64), usize>,
-    key: (u8, u64),
+    numbers: &BTreeMap<Key, usize>,
+    key: Key,
     value: &Value,
 ) -> Option<usize>
     requires numbered { IsNumbered constants.now numbers.now }

@@ -7,6 +7,7 @@ mod compiler;
 mod constants;
 mod image;
 mod instr;
+mod key;
 
 pub use compiler::compile;
 pub use image::{Image, Target};

@@ -2,8 +2,8 @@
 #![tactic(auto)]
 
 mod limits;
-mod measuring;
+mod measure;
 mod over_budget;
 
-pub use measuring::estimate;
+pub use measure::estimate;
 pub use over_budget::OverBudget;

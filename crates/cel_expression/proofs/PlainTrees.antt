@@ -29,7 +29,7 @@ use Rattle.cel_operators.proofs.Opened.{out-Bool, out-Int, out-Null, out-Uint}
 use Rattle.cel_patterns.specs.Choice.{refuses}
 use Rattle.cel_check.specs.Loops.{loop_type}
 use Rattle.cel_check.specs.Meaning.{type_of, by_turns}
-use Rattle.cel_check.specs.Opaque.{is_opaque}
+use Rattle.cel_check.specs.Opaque.{is_opaque, is_equality}
 use Rattle.cel_check.specs.PatternTexts.{Seen, seen, seen_step, of_each, of_entries, of_method, one_or_none}
 use Rattle.cel_check.specs.declared.fault.TypeFault.{TypeFault}
 use Rattle.cel_check.specs.declared.tree.TypedTree.{TypedTree, out-TypedTree, roll-TypedTree, the_lemmas}
@@ -41,8 +41,8 @@ use Rattle.cel_check.specs.Typing.{Trees, tree_in_front, each_tree, Pairs, entry
 use Rattle.cel_check.specs.Typing.{joined_branches, at_name, name_in, or_else, variable_in, named, slot_from}
 use Rattle.cel_check.specs.Typing.{literal_text, literal_text_at, is_text, with_pattern, matched}
 use Rattle.cel_check.specs.Typing.{unary_overloads, binary_overloads, index_overloads, function_overloads, method_overloads}
-use Rattle.cel_check.specs.Typing.{method_overloads_with, first_of_one, first_of_two, called, called_on, beside}
-use Rattle.cel_check.specs.Typing.{Inside, entered, once_inside, read, with_opaque, checked_at, checked_step}
+use Rattle.cel_check.specs.Typing.{method_overloads_with, first_of_one, first_of_two, called, called_on, over_two, beside_null, equated}
+use Rattle.cel_check.specs.Typing.{Inside, entered, once_inside, read, Part, part_of, part_step, found_at, found}
 use Rattle.cel_check.specs.Typing.{checked, checked_within, is_too_large}
 use Rattle.cel_check.specs.PatternTexts.{patterns_in}
 use Rattle.cel_check.proofs.Levels.{part as form_part, parts, turns_parts}
@@ -235,7 +235,7 @@ entries_fit s xs place (Ok es) h none_in =
 
 -- the induction
 abbrev AllFit : Expr → Type 0
-AllFit e = (names : Names) → In (Fits (seen e)) (checked e names)
+AllFit e = (names : Names) → In (Fits (seen e)) (found e names)
 
 abbrev Such : Type 0
 Such = (e : Expr) × AllFit e
@@ -243,10 +243,10 @@ Such = (e : Expr) × AllFit e
 abbrev part : {A : Type 0} → (Such → A) → ℕ → Syntax Such → Expr-F A
 part f p y = map-Expr _ _ f (record { place = p; form = y })
 
-abbrev own : Such → Names → Checked
-own e = checked e.0
+abbrev own : Such → Part
+own e = part_of e.0
 
-abbrev own_entry : Entry Such → Entry (Names → Checked)
+abbrev own_entry : Entry Such → Entry Part
 own_entry e = record { key = own e.key; value = own e.value }
 
 abbrev sight : Such → Seen
@@ -255,27 +255,31 @@ sight e = seen e.0
 abbrev sight_entry : Entry Such → Entry Seen
 sight_entry e = record { key = sight e.key; value = sight e.value }
 
+-- a part that is read
+used_in : (e : Such) (names : Names) → In (Fits (sight e)) (checked e.0 names)
+used_in e names = read_in (Fits (sight e)) false (own e).place (found e.0 names) (e.1 names)
+
 each_in : (Q : TypedTree → Type 0) (p : ℕ) (xs : List Such) (names : Names)
     → In Q (after_each (map own xs) names (refused p NoOverload))
 each_in Q p [] names = tt
-each_in Q p (x ∷ xs) names = after_in (Fits (sight x)) Q (checked x.0 names) _ (x.1 names) (λ t h. each_in Q p xs names)
+each_in Q p (x ∷ xs) names = after_in (Fits (sight x)) Q (checked x.0 names) _ (used_in x names) (λ t h. each_in Q p xs names)
 
 trees_fit : (xs : List Such) (names : Names) → EachIn (map sight xs) (each_tree (map own xs) names)
 trees_fit [] names = λ none. refl
 trees_fit (x ∷ xs) names =
-    in_front_fits (sight x) (map sight xs) (checked x.0 names) (each_tree (map own xs) names) (x.1 names) (trees_fit xs names)
+    in_front_fits (sight x) (map sight xs) (checked x.0 names) (each_tree (map own xs) names) (used_in x names) (trees_fit xs names)
 
 pairs_fit : (xs : List (Entry Such)) (names : Names) → EntriesIn (map sight_entry xs) (each_entry (map own_entry xs) names)
 pairs_fit [] names = λ none. refl
 pairs_fit (x ∷ xs) names =
     entry_in_front_fits (sight_entry x) (map sight_entry xs) (checked x.key.0 names) (checked x.value.0 names)
-    (each_entry (map own_entry xs) names) (x.key.1 names) (x.value.1 names) (pairs_fit xs names)
+    (each_entry (map own_entry xs) names) (used_in x.key names) (used_in x.value names) (pairs_fit xs names)
 
 called_fits : (s : Seen) (p : ℕ) (f : List ℕ) (xs : List Such) (names : Names) → (s.patterns ≡ [] → of_each (map sight xs) ≡ [])
     → In (Fits s) (called p f (map own xs) names)
 called_fits s p f [] names parts = tt
 called_fits s p f (x ∷ []) names parts =
-    after_in (Fits (sight x)) (Fits s) (checked x.0 names) _ (x.1 names)
+    after_in (Fits (sight x)) (Fits s) (checked x.0 names) _ (used_in x names)
     (λ t h.
     one_fits s (sight x) p t (first_of_one (function_overloads f) (type_of t)) h
     (λ none. (both_empty (sight x).patterns [] (parts none)).0))
@@ -287,7 +291,7 @@ called_on_fits : (s a : Seen) (p : ℕ) (f : List ℕ) (t : TypedTree) (xs : Lis
 called_on_fits s a p f t [] names h parts =
     one_fits s a p t (first_of_one (method_overloads f) (type_of t)) h (λ none. (both_empty a.patterns [] (parts none)).0)
 called_on_fits s a p f t (x ∷ []) names h parts =
-    after_in (Fits (sight x)) (Fits s) (checked x.0 names) _ (x.1 names)
+    after_in (Fits (sight x)) (Fits s) (checked x.0 names) _ (used_in x names)
     (λ u k.
     by_name_fits s a (sight x) (bytes_eq f (codes "matches")) p names.choice t u
     (first_of_two (method_overloads_with f) (type_of t) (type_of u)) h k parts)
@@ -298,7 +302,7 @@ abbrev other : (s : Seen) (t : CelType) (v : Value) → literal_text_at (out-Val
 other s t v h = node_fits s t (form.Literal v) (λ none. h) (λ none. refl)
 
 level : (p : ℕ) (y : Syntax Such) (names : Names)
-    → In (Fits (seen_step (part sight p y))) (checked_at p (part own p y).form names)
+    → In (Fits (seen_step (part sight p y))) (found_at p (part own p y).form names)
 level p (syntax.Bool b) names = other _ type.Bool (value.Bool b) (ap literal_text_at (out-Bool b))
 level p (syntax.Int n) names = other _ type.Int (value.Int n) (ap literal_text_at (out-Int n))
 level p (syntax.Name n) names =
@@ -315,26 +319,26 @@ level p (syntax.Text bytes) names =
 level p (syntax.Select a f) names =
     let s = seen_step (part sight p (syntax.Select a f)) in
     or_else_in (Fits s) (variable_in (own a) f names) _ (λ t k. node_fits s t (form.Slot k) (λ none. refl) (λ none. refl))
-    (after_in (Fits (sight a)) (Fits s) (checked a.0 names) _ (a.1 names)
+    (after_in (Fits (sight a)) (Fits s) (checked a.0 names) _ (used_in a names)
     (λ t h.
     at_name_in (Fits s) p text_operator.Select t (name_in f (limit_of Members (type_of t)))
     (λ u name. node_fits s u (form.WithText text_operator.Select t name) (λ none. refl) (λ none. h.plain none))))
 level p (syntax.Has a f) names =
     let s = seen_step (part sight p (syntax.Has a f)) in
-    after_in (Fits (sight a)) (Fits s) (checked a.0 names) _ (a.1 names)
+    after_in (Fits (sight a)) (Fits s) (checked a.0 names) _ (used_in a names)
     (λ t h.
     at_name_in (Fits s) p text_operator.Has t (name_in f (limit_of Members (type_of t)))
     (λ u name. node_fits s u (form.WithText text_operator.Has t name) (λ none. refl) (λ none. h.plain none)))
 level p (syntax.Call f xs) names = called_fits (seen_step (part sight p (syntax.Call f xs))) p f xs names (λ none. none)
 level p (syntax.Method a f xs) names =
     let s = seen_step (part sight p (syntax.Method a f xs)) in
-    after_in (Fits (sight a)) (Fits s) (checked a.0 names) _ (a.1 names)
+    after_in (Fits (sight a)) (Fits s) (checked a.0 names) _ (used_in a names)
     (λ t h. called_on_fits s (sight a) p f t xs names h (λ none. none))
 level p (syntax.Index a b) names =
     let s = seen_step (part sight p (syntax.Index a b)) in
-    after_in (Fits (sight a)) (Fits s) (checked a.0 names) _ (a.1 names)
+    after_in (Fits (sight a)) (Fits s) (checked a.0 names) _ (used_in a names)
     (λ t h.
-    after_in (Fits (sight b)) (Fits s) (checked b.0 names) _ (b.1 names)
+    after_in (Fits (sight b)) (Fits s) (checked b.0 names) _ (used_in b names)
     (λ u k. two_fits s (sight a) (sight b) p t u (first_of_two index_overloads (type_of t) (type_of u)) h k (λ none. none)))
 level p (syntax.List xs) names =
     items_fit (seen_step (part sight p (syntax.List xs))) (map sight xs) p (each_tree (map own xs) names) (trees_fit xs names)
@@ -344,23 +348,23 @@ level p (syntax.Map es) names =
     (λ none. none)
 level p (syntax.Loop l a x b) names =
     let s = seen_step (part sight p (syntax.Loop l a x b)) in
-    after_in (Fits (sight a)) (Fits s) (checked a.0 names) _ (a.1 names)
+    after_in (Fits (sight a)) (Fits s) (checked a.0 names) _ (used_in a names)
     (λ t h.
     inside_in (Fits s) (entered p x names (limit_of Ranged (type_of t))) _
     (λ i.
-    after_in (Fits (sight b)) (Fits s) (checked b.0 i.names) _ (b.1 i.names)
+    after_in (Fits (sight b)) (Fits s) (checked b.0 i.names) _ (used_in b i.names)
     (λ u k.
     typed_in (Fits s) p (form.Loop l t u) (loop_type l i.span (type_of u))
     (λ v. node_fits s v (form.Loop l t u) (λ none. refl) (neither s (sight a) (sight b) t u h k (λ none. none))))))
 level p (syntax.MapWhere a x q b) names =
     let s = seen_step (part sight p (syntax.MapWhere a x q b)) in
-    after_in (Fits (sight a)) (Fits s) (checked a.0 names) _ (a.1 names)
+    after_in (Fits (sight a)) (Fits s) (checked a.0 names) _ (used_in a names)
     (λ t h.
     inside_in (Fits s) (entered p x names (limit_of Ranged (type_of t))) _
     (λ i.
-    after_in (Fits (sight q)) (Fits s) (checked q.0 i.names) _ (q.1 i.names)
+    after_in (Fits (sight q)) (Fits s) (checked q.0 i.names) _ (used_in q i.names)
     (λ r j.
-    after_in (Fits (sight b)) (Fits s) (checked b.0 i.names) _ (b.1 i.names)
+    after_in (Fits (sight b)) (Fits s) (checked b.0 i.names) _ (used_in b i.names)
     (λ u k.
     cond_in (Fits s) (is_truth (type_of r)) (typed_by p (form.MapWhere t r u) (loop_type loop.Map i.span (type_of u)))
     (refused p NoOverload)
@@ -368,38 +372,46 @@ level p (syntax.MapWhere a x q b) names =
     (λ v. node_fits s v (form.MapWhere t r u) (λ none. refl) (three s (sight a) (sight q) (sight b) t r u h j k (λ none. none)))) tt))))
 level p (syntax.Unary op a) names =
     let s = seen_step (part sight p (syntax.Unary op a)) in
-    after_in (Fits (sight a)) (Fits s) (checked a.0 names) _ (a.1 names)
+    after_in (Fits (sight a)) (Fits s) (checked a.0 names) _ (used_in a names)
     (λ t h. one_fits s (sight a) p t (first_of_one (unary_overloads op) (type_of t)) h (λ none. none))
 level p (syntax.Binary op a b) names =
     let s = seen_step (part sight p (syntax.Binary op a b)) in
-    let inner = beside op (own a) (own b) names in
-    after_in (Fits (sight a)) (Fits s) (checked a.0 inner) _ (a.1 inner)
+    let two : (t u : TypedTree) → Fits (sight a) t → Fits (sight b) u → In (Fits s) (over_two p (binary_overloads op) t u) =
+    λ t u h k. two_fits s (sight a) (sight b) p t u (first_of_two (binary_overloads op) (type_of t) (type_of u)) h k (λ none. none) in
+    let either : Bool = beside_null (found a.0 names) (found b.0 names) in
+    cond_in (Fits s) (is_equality op)
+    (equated p op (own a).place (found a.0 names) (own b).place (found b.0 names))
+    (after (checked a.0 names) (λ t. after (checked b.0 names) (λ u. over_two p (binary_overloads op) t u)))
+    (after_in (Fits (sight a)) (Fits s) (read either (own a).place (found a.0 names)) _
+    (read_in (Fits (sight a)) either (own a).place (found a.0 names) (a.1 names))
     (λ t h.
-    after_in (Fits (sight b)) (Fits s) (checked b.0 inner) _ (b.1 inner)
-    (λ u k. two_fits s (sight a) (sight b) p t u (first_of_two (binary_overloads op) (type_of t) (type_of u)) h k (λ none. none)))
+    after_in (Fits (sight b)) (Fits s) (read either (own b).place (found b.0 names)) _
+    (read_in (Fits (sight b)) either (own b).place (found b.0 names) (b.1 names)) (λ u k. two t u h k)))
+    (after_in (Fits (sight a)) (Fits s) (checked a.0 names) _ (used_in a names)
+    (λ t h. after_in (Fits (sight b)) (Fits s) (checked b.0 names) _ (used_in b names) (λ u k. two t u h k)))
 level p (syntax.And a b) names =
     let s = seen_step (part sight p (syntax.And a b)) in
-    after_in (Fits (sight a)) (Fits s) (checked a.0 names) _ (a.1 names)
+    after_in (Fits (sight a)) (Fits s) (checked a.0 names) _ (used_in a names)
     (λ t h.
-    after_in (Fits (sight b)) (Fits s) (checked b.0 names) _ (b.1 names)
+    after_in (Fits (sight b)) (Fits s) (checked b.0 names) _ (used_in b names)
     (λ u k.
     cond_in (Fits s) (is_truth (type_of t) && is_truth (type_of u)) (Ok (node type.Bool (form.And t u))) (refused p NoOverload)
     (node_fits s type.Bool (form.And t u) (λ none. refl) (neither s (sight a) (sight b) t u h k (λ none. none))) tt))
 level p (syntax.Or a b) names =
     let s = seen_step (part sight p (syntax.Or a b)) in
-    after_in (Fits (sight a)) (Fits s) (checked a.0 names) _ (a.1 names)
+    after_in (Fits (sight a)) (Fits s) (checked a.0 names) _ (used_in a names)
     (λ t h.
-    after_in (Fits (sight b)) (Fits s) (checked b.0 names) _ (b.1 names)
+    after_in (Fits (sight b)) (Fits s) (checked b.0 names) _ (used_in b names)
     (λ u k.
     cond_in (Fits s) (is_truth (type_of t) && is_truth (type_of u)) (Ok (node type.Bool (form.Or t u))) (refused p NoOverload)
     (node_fits s type.Bool (form.Or t u) (λ none. refl) (neither s (sight a) (sight b) t u h k (λ none. none))) tt))
 level p (syntax.Conditional c a b) names =
     let s = seen_step (part sight p (syntax.Conditional c a b)) in
-    after_in (Fits (sight c)) (Fits s) (checked c.0 names) _ (c.1 names)
+    after_in (Fits (sight c)) (Fits s) (checked c.0 names) _ (used_in c names)
     (λ r j.
-    after_in (Fits (sight a)) (Fits s) (checked a.0 names) _ (a.1 names)
+    after_in (Fits (sight a)) (Fits s) (checked a.0 names) _ (used_in a names)
     (λ t h.
-    after_in (Fits (sight b)) (Fits s) (checked b.0 names) _ (b.1 names)
+    after_in (Fits (sight b)) (Fits s) (checked b.0 names) _ (used_in b names)
     (λ u k.
     cond_in (Fits s) (is_truth (type_of r)) (joined_branches p (form.Conditional r t u) (join (type_of t) (type_of u)))
     (refused p NoOverload)
@@ -442,14 +454,12 @@ fused A f p (syntax.Conditional c a b) = refl
 step : (y : Expr-F Such) → AllFit (roll-Expr (map-Expr _ _ (λ (e : Such). e.0) y))
 step y = λ names.
     let z = map-Expr _ _ (λ (e : Such). e.0) y in
-    let c : checked (roll-Expr z) ≡ checked_step (part own y.place y.form) =
-    fold-roll-Expr (Names → Checked) checked_step z ∙ ap checked_step (fused (Names → Checked) checked y.place y.form) in
+    let c : part_of (roll-Expr z) ≡ part_step (part own y.place y.form) =
+    fold-roll-Expr Part part_step z ∙ ap part_step (fused Part part_of y.place y.form) in
     let s : seen (roll-Expr z) ≡ seen_step (part sight y.place y.form) =
     fold-roll-Expr Seen seen_step z ∙ ap seen_step (fused Seen seen y.place y.form) in
-    subst (λ f. In (Fits (seen (roll-Expr z))) (f names)) (sym c)
-    (subst (λ w. In (Fits w) (checked_step (part own y.place y.form) names)) (sym s)
-    (read_in (Fits (seen_step (part sight y.place y.form))) names.opaque y.place
-    (checked_at y.place (part own y.place y.form).form (with_opaque false names)) (level y.place y.form (with_opaque false names))))
+    subst (λ (q : Part). In (Fits (seen (roll-Expr z))) (q.found names)) (sym c)
+    (subst (λ w. In (Fits w) (found_at y.place (part own y.place y.form).form names)) (sym s) (level y.place y.form names))
 
 fit_all : (e : Expr) → AllFit e
 fit_all = ind-Expr AllFit (λ x y is. subst (λ z. AllFit (roll-Expr z)) is (step y))
@@ -458,6 +468,6 @@ fit_all = ind-Expr AllFit (λ x y is. subst (λ z. AllFit (roll-Expr z)) is (ste
 pub unmatched : (e : Expr) (names : Names) (t : TypedTree) → checked_within e names ≡ Ok t → patterns_in e ≡ [] → has_matches t ≡ false
 unmatched e names t is none =
     let fits : In (Fits (seen e)) (checked_within e names) =
-    cond_in (Fits (seen e)) (is_too_large e) (refused 0 TooLarge) (checked e names) tt (fit_all e names) in
+    cond_in (Fits (seen e)) (is_too_large e) (refused 0 TooLarge) (checked e names) tt (used_in (e, fit_all e) names) in
     let there : Fits (seen e) t = subst (In (Fits (seen e))) is fits in
     there.plain none

@@ -16,7 +16,7 @@ use Rattle.cel_expression.specs.Patterns.{MayMatch}
 use Rattle.cel_expression.specs.Source.{Source}
 use Rattle.cel_expression.specs.declared.compiled.Compiled.TheInside.{Inside}
 use Rattle.cel_expression.proofs.Spelled.{may_match}
-use Rattle.cel_machine.specs.Matches.{HasMatches}
+use Rattle.cel_code.specs.Matches.{HasMatches}
 
 -- what a run came to, and what it charged
 abbrev ran_as : Outcome → ℕ → Ran

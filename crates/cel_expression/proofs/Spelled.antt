@@ -10,7 +10,7 @@ use Rattle.cel_check.specs.declared.tree.TypedTree.{TypedTree}
 use Rattle.cel_check.specs.Typing.{Names, Checked, checked_within}
 use Rattle.cel_code.specs.declared.image.Image.{Image}
 use Rattle.cel_code.specs.Compiled.{IsCompiled}
-use Rattle.cel_machine.specs.Matches.{HasMatches}
+use Rattle.cel_code.specs.Matches.{HasMatches}
 use Rattle.cel_estimate.specs.Estimate.{estimate_of, budget}
 use Rattle.cel_expression.specs.declared.refusal.Refusal.{Refusal}
 use Rattle.cel_expression.specs.declared.refusal.Refusal.TheVariants as refusal

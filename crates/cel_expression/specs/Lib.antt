@@ -4,3 +4,4 @@ pub mod Stages
 pub mod Faulty
 pub mod Holds
 pub mod Patterns
+pub mod Names

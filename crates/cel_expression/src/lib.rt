@@ -2,15 +2,18 @@
 //!
 //! [`compile_text`] reads, types, estimates, compiles and verifies a text, or tells why it is refused; [`Compiled::run`]
 //! answers what the definitions of the language say of the text. [`ask_patterns`] and [`choice_of`] make the choice of texts
-//! that are taken as no patterns, before anything is typed. [`root_type`] is the type of a text's expression, whatever it may charge.
+//! that are taken as no patterns, before anything is typed; [`gather_texts`] gathers the texts that may be. [`root_type`] is the
+//! type of a text's expression, whatever it may charge.
 #![tactic(auto)]
 
 mod choice;
 mod compiled;
 mod refusal;
 mod stages;
+mod texts;
 
 pub use choice::{ask_patterns, choice_of};
 pub use compiled::{Compiled, Ran, compile_text};
 pub use refusal::{CompileError, Refusal};
 pub use stages::root_type;
+pub use texts::gather_texts;

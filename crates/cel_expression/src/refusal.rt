@@ -2,6 +2,7 @@
 
 ghost use Rattle.std.specs.Prelude.{◌≡◌};
 ghost use Rattle.cel_expression.specs.Faulty.{from_verifying};
+ghost use Rattle.cel_expression.specs.Names.{refusal_name, refusal_place};
 ghost use Rattle.cel_expression.specs.declared.refusal.CompileError.TheVariants.{OutOfMemory};
 
 use cel_check::TypeFault;
@@ -16,6 +17,30 @@ pub enum Refusal {
     Type(TypeFault),
     /// It may charge more than 10,000,000; the estimate is told up to the greatest number of 64 bits.
     OverBudget(u64),
+}
+
+impl Refusal {
+    /// The name that is printed: of a fault of the parser or a type its own.
+    pub fn name(&self) -> &'static str
+        ensures { result.now ≡ refusal_name self.now }
+    {
+        match self {
+            Refusal::Parse(fault) => fault.name(),
+            Refusal::Type(fault) => fault.rule.name(),
+            Refusal::OverBudget(_) => "OverBudget",
+        }
+    }
+
+    /// Where the text is at fault, if it is at one place.
+    pub fn place(&self) -> Option<usize>
+        ensures { result ≡ refusal_place self.now }
+    {
+        match self {
+            Refusal::Parse(fault) => fault.place(),
+            Refusal::Type(fault) => Some(fault.place),
+            Refusal::OverBudget(_) => None,
+        }
+    }
 }
 
 /// Why an expression that may be run is not compiled.

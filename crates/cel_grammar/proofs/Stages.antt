@@ -61,6 +61,10 @@ pub data Stage {A : Type 0} (finish : ℕ) (D : Relation A) (K : List Token → 
       → Stage finish D K us (Err (Unexpected place))
 
 module _ (finish : ℕ) where
+  -- a reader is a stage where it reads us
+  abbrev pub IsStage : {A : Type 0} → Relation A → (List Token → ReadOf A) → List Token → Type 0
+  IsStage D K us = Stage finish D K us (K us)
+
   -- a reader that reads the same from what begins the same
   pub stage_same : {A : Type 0} {D : Relation A} {K : List Token → ReadOf A} {us : List Token} {r : ReadOf A}
       (K' : List Token → ReadOf A) → ((vs : List Token) → Agrees us vs → K' vs ≡ K vs) → Stage finish D K us r

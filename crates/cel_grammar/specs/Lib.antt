@@ -5,3 +5,4 @@ pub mod Limits
 pub mod Descent
 pub mod Trees
 pub mod Views
+pub mod Names

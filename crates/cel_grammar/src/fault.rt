@@ -3,6 +3,7 @@
 ghost use Rattle.std.specs.Prelude.{◌≡◌};
 ghost use Rattle.cel_grammar.specs.declared.fault.ParseError.TheVariants.{OutOfMemory};
 ghost use Rattle.cel_grammar.specs.Faults.{from_lexing};
+ghost use Rattle.cel_grammar.specs.Names.{parse_fault_name, parse_fault_place};
 
 use cel_lex::{LexError, LexFault};
 use std::alloc::{AllocError, AllocFailed};
@@ -21,6 +22,31 @@ pub enum ParseFault {
     BadMacro { place: usize },
     #[error("too deep")]
     TooDeep,
+}
+
+impl ParseFault {
+    /// The name that is printed: of a fault of the lexer its own.
+    pub fn name(&self) -> &'static str
+        ensures { result.now ≡ parse_fault_name self.now }
+    {
+        match self {
+            ParseFault::Lex(fault) => fault.kind.name(),
+            ParseFault::Unexpected { .. } => "Unexpected",
+            ParseFault::BadMacro { .. } => "BadMacro",
+            ParseFault::TooDeep => "TooDeep",
+        }
+    }
+
+    /// Where the text has the fault, if it is at one place.
+    pub fn place(&self) -> Option<usize>
+        ensures { result ≡ parse_fault_place self.now }
+    {
+        match self {
+            ParseFault::Lex(fault) => Some(fault.place),
+            ParseFault::Unexpected { place } | ParseFault::BadMacro { place } => Some(*place),
+            ParseFault::TooDeep => None,
+        }
+    }
 }
 
 #[derive(Debug, Drop, Error)]

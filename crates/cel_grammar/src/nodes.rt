@@ -211,7 +211,8 @@ fn shut<'a>(
     }
 }
 
-/// What stands in parentheses, and the closing one.
+/// What is in parentheses, and the closing one.
+// Cut for the prover: it takes the result of a call, so that the cycle of readers has no `?`.
 pub fn within<'a>(
     source: &str,
     inside: Result<Taken<'a, Boxed<Tree>>, ParseError>,

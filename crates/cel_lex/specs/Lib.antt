@@ -11,3 +11,4 @@ pub mod Together
 pub mod Scan
 pub mod Answer
 pub mod Total
+pub mod Names

@@ -1,6 +1,7 @@
 //! Why a text is not cut.
 
 ghost use Rattle.std.specs.Prelude.{◌≡◌};
+ghost use Rattle.cel_lex.specs.Names.{lex_fault_name};
 ghost use Rattle.cel_lex.specs.declared.fault.LexError.TheVariants.{OutOfMemory};
 
 use std::alloc::{AllocError, AllocFailed};
@@ -18,6 +19,21 @@ pub enum LexFaultKind {
     IntRange = 4,
     #[error("a text that is too long")]
     TooLong = 5,
+}
+
+impl LexFaultKind {
+    /// The name that is printed.
+    pub fn name(&self) -> &'static str
+        ensures { result.now ≡ lex_fault_name self.now }
+    {
+        match self {
+            LexFaultKind::BadChar => "BadChar",
+            LexFaultKind::Unterminated => "Unterminated",
+            LexFaultKind::BadEscape => "BadEscape",
+            LexFaultKind::IntRange => "IntRange",
+            LexFaultKind::TooLong => "TooLong",
+        }
+    }
 }
 
 /// The first fault of a text, and the byte at which it stands.

@@ -49,6 +49,7 @@ fn next(alloc: Global, text: &str, place: usize) -> Result<Option<(usize, Piece)
 }
 
 /// The longest piece at a place and how many bytes it is, unless no bytes from there on are one.
+// Cut for the prover: that no longer piece begins there, and how far it goes, follow from the very piece that `next` answers.
 pub fn longest(
     alloc: Global,
     text: &str,

@@ -12,8 +12,8 @@ use Rattle.cel_parse.specs.declared.expr.Loop.TheVariants.{All, Exists, ExistsOn
 use Rattle.cel_check.specs.Loops.{GoesOn, turn}
 use Rattle.cel_check.specs.declared.accumulator.Accumulator.{Accumulator}
 use Rattle.cel_code.specs.Machine.{Frame, on, Goes, gone_on, turned as turn_done}
-use Rattle.cel_machine.specs.declared.turning.Turned.{Turned}
-use Rattle.cel_machine.specs.declared.turning.Turned.TheVariants as turned
+use Rattle.cel_machine.specs.declared.turns.Turned.{Turned}
+use Rattle.cel_machine.specs.declared.turns.Turned.TheVariants as turned
 use Rattle.cel_machine.specs.Ranges.{taking, with_gathered}
 use Rattle.cel_machine.specs.Turns.{passes, turn_by, turn_side}
 use Rattle.cel_machine.specs.Follow.{advanced, below_top, gone_in, next_in, passed_in, top_of, turned_in}

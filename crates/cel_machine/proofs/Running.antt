@@ -11,14 +11,16 @@ use Rattle.cel_machine.specs.declared.step.Move.TheVariants.{IsOver, IsStuckHere
 use Rattle.cel_machine.specs.declared.step.Move.TheVariants as move
 use Rattle.cel_machine.specs.declared.position.Position.{Position}
 use Rattle.cel_verify.specs.StackTypes.{Fits}
-use Rattle.cel_verify.specs.Paths.{charge_at, path_cost, path_steps}
-use Rattle.cel_verify.specs.Typed.{total, GoesOn}
+use Rattle.cel_verify.specs.Sound.{IsWalked}
+use Rattle.cel_verify.specs.Paths.{charge_at, IsRouteCharge, IsRouteLength, IsWithin}
 use Rattle.cel_verify.specs.Accepted.{IsAccepted, budget}
 use Rattle.cel_machine.specs.Follow.{metered, next_of, end_of, top_of}
 use Rattle.cel_verify.specs.Depths.{greatest_depth, greatest_nesting}
-use Rattle.cel_verify.proofs.StepsFit.{steps_fit}
+use Rattle.cel_verify.proofs.Labels.{walks}
+use Rattle.cel_verify.proofs.StepsFit.{cost_fits, steps_fit}
+use Rattle.cel_verify.proofs.ToGo.{path_steps, total, GoesOn}
 use Rattle.cel_verify.proofs.Depths.{never_more, never_more_loops}
-use Rattle.cel_verify.proofs.Steps.{begins, gets_typed, runs_within, step_goes}
+use Rattle.cel_verify.proofs.Steps.{begins, gets_typed, most_charge, most_steps, runs_within, step_goes}
 use Rattle.cel_verify.proofs.Turns.{one_more}
 
 -- what an instruction does, as a step
@@ -50,21 +52,26 @@ pub record IsAt (image : Image) (at charged steps : ℕ) : Type 0 where
   pub room : at + 1 < 65537
   pub within : steps + 1 ≤ path_steps image
   pub few : steps + 1 < 2 ^ 64
-  pub cost : charged ≤ path_cost image
+  pub long : IsWithin (IsRouteLength image) (steps + 1)
+  pub cost : IsWithin (IsRouteCharge image) charged
   pub cheap : charged ≤ budget
 
 module _ (p image : Image) (slots : List Outcome) (accepted : IsAccepted p) (is : image ≡ p) (filled : slots_fit p.slots slots ≡ true) where
+  walked : IsWalked p
+  walked = walks p accepted.sound
+
   state_at : (s : State) (charged steps : ℕ) → Gets p slots (on 0 [] []) s charged steps → IsAt p s.at charged steps
   state_at s charged steps g =
-      let r = gets_typed p slots accepted.sound filled (on 0 [] []) s charged steps g (begins p slots accepted.sound filled) in
-      let w = runs_within p slots accepted.sound filled in
+      let r = gets_typed p slots walked filled (on 0 [] []) s charged steps g (begins p slots walked filled) in
+      let w = runs_within p slots walked filled in
       record {
         inside = r.0.inside;
         room = omega (arith, r.0.inside, accepted.counted.code);
-        within = w.steps s charged steps g;
-        few = omega (arith, w.steps s charged steps g, steps_fit p accepted);
+        within = most_steps p slots walked filled s charged steps g;
+        few = omega (arith, most_steps p slots walked filled s charged steps g, steps_fit p accepted);
+        long = w.steps s charged steps g;
         cost = w.charge s charged steps g;
-        cheap = omega (arith, w.charge s charged steps g, accepted.cheap);
+        cheap = omega (arith, most_charge p slots walked filled s charged steps g, cost_fits p accepted);
       }
 
   metered_next : (s : State) (n : Next) → total p (charge_at p) s ≤ budget → GoesOn p s n → metered n ≡ n
@@ -78,9 +85,9 @@ module _ (p image : Image) (slots : List Outcome) (accepted : IsAccepted p) (is 
   metered_at : (s : State) (charged steps : ℕ) → Gets p slots (on 0 [] []) s charged steps
       → metered (step p slots s) ≡ step p slots s
   metered_at s charged steps g =
-      let r = gets_typed p slots accepted.sound filled (on 0 [] []) s charged steps g (begins p slots accepted.sound filled) in
+      let r = gets_typed p slots walked filled (on 0 [] []) s charged steps g (begins p slots walked filled) in
       let a = r.1 in
-      metered_next s (step p slots s) (omega (arith, accepted.cheap)) (step_goes p slots accepted.sound filled s r.0)
+      metered_next s (step p slots s) (omega (arith, cost_fits p accepted)) (step_goes p slots walked filled s r.0)
 
   module _ (at : ℕ) (stack : List Outcome) (frames : List Frame) (charged steps : ℕ)
       (g : Gets image slots (on 0 [] []) (on at stack frames) charged steps) where
@@ -100,13 +107,13 @@ module _ (p image : Image) (slots : List Outcome) (accepted : IsAccepted p) (is 
     pub deep : length stack ≤ greatest_depth image
     deep =
         subst (λ i. length stack ≤ greatest_depth i) (sym is)
-        (never_more p slots accepted.sound filled (on at stack frames) charged steps gets)
+        (never_more p slots walked filled (on at stack frames) charged steps gets)
 
     -- no more open loops than at any instruction
     pub nested : length frames ≤ greatest_nesting image
     nested =
         subst (λ i. length frames ≤ greatest_nesting i) (sym is)
-        (never_more_loops p slots accepted.sound filled (on at stack frames) charged steps gets)
+        (never_more_loops p slots walked filled (on at stack frames) charged steps gets)
 
     module _ (i : Instr) (m : Move) (there : Position) (stack' : List Outcome) (frames' : List Frame)
         (hi : slice_get image.code at ≡ Some i)
@@ -141,13 +148,13 @@ module _ (p image : Image) (slots : List Outcome) (accepted : IsAccepted p) (is 
 
       pub outcome_fits : (x : Outcome) → m ≡ IsOver → top_of stack' ≡ Some x → Fits x p.result
       outcome_fits x q t =
-          let w = runs_within p slots accepted.sound filled in
+          let w = runs_within p slots walked filled in
           w.outcome (on at stack frames) charged steps x gets
           (subst (λ i. step i slots (on at stack frames) ≡ Ends x) is (ended x q t))
 
       never_stuck : step image slots (on at stack frames) ≡ Stuck → ⊥
       never_stuck h =
-          let w = runs_within p slots accepted.sound filled in
+          let w = runs_within p slots walked filled in
           w.never (on at stack frames) charged steps gets (subst (λ i. step i slots (on at stack frames) ≡ Stuck) is h)
 
       pub not_stuck : m ≡ IsStuckHere → ⊥

@@ -1,6 +1,6 @@
 -- What an index finds.
 use Rattle.cel_operators.specs.declared.operator.Made.{Made}
-use Rattle.cel_machine.specs.declared.indexing.Found.{Found}
+use Rattle.cel_machine.specs.declared.index.Found.{Found}
 
 -- as what an operator makes
 abbrev pub made_by : Found → Made

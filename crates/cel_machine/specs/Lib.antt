@@ -1,7 +1,6 @@
 pub mod Faults
 pub mod Follow
 pub mod Found
-pub mod Matches
 pub mod Operand
 pub mod Ranges
 pub mod Room

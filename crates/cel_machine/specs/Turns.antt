@@ -6,8 +6,8 @@ use Rattle.cel_parse.specs.declared.expr.Loop.TheVariants.{All, Exists, ExistsOn
 use Rattle.cel_check.specs.declared.accumulator.Accumulator.{Accumulator}
 use Rattle.cel_operators.specs.Outcomes.{Side}
 use Rattle.cel_check.specs.Loops.{Turn, Closes, GoesOn, turn_all, turn_exists, turn_exists_one, turn_filter}
-use Rattle.cel_machine.specs.declared.turning.Turned.{Turned}
-use Rattle.cel_machine.specs.declared.turning.Turned.TheVariants as turned
+use Rattle.cel_machine.specs.declared.turns.Turned.{Turned}
+use Rattle.cel_machine.specs.declared.turns.Turned.TheVariants as turned
 
 -- a turn, with what is gathered behind it
 abbrev pub turn_by : Turned → Accumulator → Option Turn

@@ -7,7 +7,7 @@ ghost use Rattle.cel_machine.specs.Turns.{turn_by};
 
 use crate::operand::Operand;
 use crate::range::Range;
-use crate::turning::{Turned, nothing_yet, result_of, turn};
+use crate::turns::{Turned, nothing_yet, result_of, turn};
 use cel_check::Accumulator;
 use cel_parse::Loop;
 use cel_value::{CelError, Value};

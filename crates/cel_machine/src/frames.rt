@@ -5,7 +5,7 @@ ghost use Rattle.cel_machine.specs.Follow.{advanced, next_in, passed_in, turned_
 
 use crate::frame::Frame;
 use crate::operand::Operand;
-use crate::turning::{Turned, passes};
+use crate::turns::{Turned, passes};
 use cel_value::CelError;
 use std::alloc::{AllocError, Global};
 use std::marker::Model;

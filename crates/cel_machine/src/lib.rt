@@ -8,25 +8,25 @@
 //! that a run built for later ones.
 #![tactic(auto)]
 
-mod comparing;
+mod comparison;
 mod ended;
 mod fault;
 mod frame;
 mod frames;
-mod indexing;
-mod listing;
-mod looping;
+mod index;
+mod lists;
+mod loops;
 mod machine;
-mod mapping;
+mod maps;
 mod operand;
 mod parts;
 mod position;
 mod range;
-mod searching;
+mod search;
 mod slots;
 mod stack;
 mod step;
-mod turning;
+mod turns;
 mod with_text;
 
 pub use cel_patterns::Matchers;

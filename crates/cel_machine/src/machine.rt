@@ -2,10 +2,10 @@ ghost use Rattle.std.specs.Prelude.{◌≡◌, ◌<◌, ◌≤◌, true, Some, I
 ghost use Rattle.cel_operators.specs.Outcomes.{slots_fit};
 ghost use Rattle.cel_code.specs.Machine.{Run as IsRun};
 ghost use Rattle.cel_verify.specs.StackTypes.{Fits};
-ghost use Rattle.cel_verify.specs.Paths.{path_cost, path_steps};
+ghost use Rattle.cel_verify.specs.Paths.{IsRouteCharge, IsRouteLength, IsWithin};
 ghost use Rattle.cel_verify.specs.Accepted.{budget};
 ghost use Rattle.cel_machine.specs.Follow.{top_of};
-ghost use Rattle.cel_machine.specs.Matches.{HasMatches};
+ghost use Rattle.cel_code.specs.Matches.{HasMatches};
 
 use crate::ended::Run;
 use crate::fault::RunFault;
@@ -40,8 +40,8 @@ pub fn run<'a>(
     requires { slots_fit program.now.slots slots.now ≡ true }
     ensures run { IfOk result (λ r. IsRun program.now slots.now r.outcome r.charged r.steps) }
     ensures fits { IfOk result (λ r. Fits r.outcome program.now.result) }
-    ensures steps { IfOk result (λ r. r.steps ≤ path_steps program.now) }
-    ensures charged { IfOk result (λ r. r.charged ≤ path_cost program.now) }
+    ensures steps { IfOk result (λ r. IsWithin (IsRouteLength program.now) r.steps) }
+    ensures charged { IfOk result (λ r. IsWithin (IsRouteCharge program.now) r.charged) }
     ensures within_budget { IfOk result (λ r. r.charged ≤ budget) }
     ensures pattern { IsErrOf result RunFault.Pattern → HasMatches program.now }
 {

@@ -10,7 +10,7 @@ use crate::fault::RunFault;
 use crate::operand::read;
 use crate::parts::{field, has_field};
 use crate::position::Position;
-use crate::searching::matches;
+use crate::search::matches;
 use crate::stack::Stack;
 use crate::step::{Move, finish, told};
 use cel_code::Image;

@@ -1,6 +1,6 @@
 -- The rows of truth values and numbers, and those of all values that are compared, are right.
 use Rattle.std.proofs.Common.{◌≡◌, ℕ, zero, suc, ◌-◌, ◌^◌, ◌<◌, ◌≤◌, cond, Bool, true, false, not, List, [], ◌∷◌}
-use Rattle.std.proofs.Common.{Option, Some, None, refl, sym, ◌∙◌, subst, inl, inr, arith, true≢false}
+use Rattle.std.proofs.Common.{Option, Some, None, refl, ap, sym, ◌∙◌, inl, inr, arith, true≢false}
 use Rattle.std.proofs.lemmas.Bool.{cases_Bool, ltb-true}
 use Rattle.std.proofs.lemmas.Option.{none-some}
 use Rattle.std.specs.Prelude.{Ok, Err, ℤ, pos, negsuc, int_div, int_lt, nat_lt, nat_le, chars, decimal}
@@ -24,9 +24,10 @@ use Rattle.cel_value.proofs.Joins.{IsBareLevel, bare_from}
 use Rattle.cel_value.proofs.JoinRules.{join-apart}
 use Rattle.cel_text.proofs.Digits.{int_short, uint_short}
 use Rattle.cel_operators.specs.Outcomes.{Outcome, outcome_fits}
-use Rattle.cel_operators.specs.Wants.{Any, Whole, Natural, Ordered, Wholes, Naturals, Within, order_at, order_of, order_of_level}
+use Rattle.cel_operators.specs.Orders.{Order, order_at, AreInOneOrder, Orders, Only, orders_at, less_at, less}
+use Rattle.cel_operators.specs.Wants.{Any, Whole, Natural, Ordered, Wholes, Naturals, Within}
 use Rattle.cel_operators.specs.Operators.{One, Two, in_range, int_or_overflow, uint_or_overflow, divided, uint_difference, uint_divided}
-use Rattle.cel_operators.specs.Operators.{less_at, less, truth_of, untruth_of, bool_where, lesser_weight, lesser_greatest}
+use Rattle.cel_operators.specs.Operators.{truth_of, untruth_of, bool_where, lesser_weight, lesser_greatest}
 use Rattle.cel_operators.specs.Operators.{arithmetic_row, natural_row, equality_row, order_row, int_row, uint_row, ints_row, uints_row}
 use Rattle.cel_operators.specs.Operators.{string_of_int, string_of_uint, uint_of_int, left_of, extreme_of}
 use Rattle.cel_operators.proofs.Opened.{opened, fits-out, bool_fits, int_fits, uint_fits, text_fits}
@@ -125,8 +126,8 @@ equality_right f = λ s t.
     compared_gives s t (TwoGood Any Any (equality_row f) s t)
     (one_greatest s t, λ v w p q. (bool_fits (f (same v w)), weight_within v w s t p q))
 
--- types of one kind give their values one order
-kind_order : (o r : CelType-F CelType) → same_kind_at o r ≡ true → order_of_level o ≡ order_of_level r
+-- types of one kind have the same orders
+kind_order : (o r : CelType-F CelType) → same_kind_at o r ≡ true → orders_at o ≡ orders_at r
 kind_order CelType-F.Never CelType-F.Never h = refl
 kind_order CelType-F.Null CelType-F.Null h = refl
 kind_order CelType-F.Bool CelType-F.Bool h = refl
@@ -141,48 +142,48 @@ kind_order CelType-F.Opaque CelType-F.Opaque h = refl
 kind_order _ _ h = absurd (true≢false (sym h))
 
 -- a type that has a value in an order is none of Never, Null and Nullable
-bare_level : (o : CelType-F CelType) (p : Value-F Value) → fits_at (opened o) p ≡ true → 1 ≤ order_of_level o → IsBareLevel o
-bare_level CelType-F.Never p h k = absurd (true≢false (sym h))
-bare_level CelType-F.Null p h k = absurd (omega (arith, k))
-bare_level (CelType-F.Nullable t) p h k = absurd (omega (arith, k))
-bare_level _ p h k = tt
+bare_level : (o : CelType-F CelType) (p : Value-F Value) (orders : Orders) → fits_at (opened o) p ≡ true → orders_at o ≡ Some orders
+    → IsBareLevel o
+bare_level CelType-F.Never p orders h k = absurd (true≢false (sym h))
+bare_level CelType-F.Null p orders h k = absurd (none-some _ k)
+bare_level (CelType-F.Nullable t) p orders h k = absurd (none-some _ k)
+bare_level _ p orders h k = tt
 
 bare_ordered : (v : Value) (t : CelType) → Within Ordered t v → IsBare t
 bare_ordered v t p =
     bare_from (out-CelType t) t refl
-    (bare_level (out-CelType t) (out-Value v) (sym (fits-out v t) ∙ p.0) (subst (λ n. 1 ≤ n) p.2 p.1))
-
--- two values stand in one order
-abbrev InOneOrder : Value → Value → Type 0
-InOneOrder v w = (1 ≤ order_of v) × (order_of v ≡ order_of w)
+    (bare_level (out-CelType t) (out-Value v) (Only p.1) (sym (fits-out v t) ∙ p.0) p.3)
 
 -- values of types that have a join stand in one order, if they stand in any
-one_order : (v w : Value) (s t u : CelType) → type_join s t ≡ Some u → Within Ordered s v → Within Ordered t w → InOneOrder v w
+one_order : (v w : Value) (s t u : CelType) → type_join s t ≡ Some u → Within Ordered s v → Within Ordered t w → AreInOneOrder v w
 one_order v w s t u e p q = elim (cases_Bool (are_of_one_kind s t)) [
-  | inl y ↦ (p.1, p.2 ∙ kind_order (out-CelType s) (out-CelType t) y ∙ sym q.2)
+  | inl y ↦
+      let both : Some (Only p.1) ≡ Some (Only q.1) = sym p.3 ∙ kind_order (out-CelType s) (out-CelType t) y ∙ q.3 in
+      let same : p.1 ≡ q.1 = cc in
+      (p.1, p.2, q.2 ∙ ap Some (sym same))
   | inr n ↦
       absurd
       (none-some _ (sym (join-apart s t (bare_ordered v s p) (bare_ordered w t q) (λ y. true≢false (sym y ∙ n))) ∙ e))
 ]
 
-turned : (v w : Value) → InOneOrder v w → InOneOrder w v
-turned v w h = (subst (λ n. 1 ≤ n) h.1 h.0, sym h.1)
+turned : (v w : Value) → AreInOneOrder v w → AreInOneOrder w v
+turned v w h = (h.0, h.2, h.1)
 
 -- levels in one order are compared
-less_there : (p q : Value-F Value) → 1 ≤ order_at p → order_at p ≡ order_at q → (b : Bool) × (less_at p q ≡ Some b)
-less_there (Value-F.Bool a) (Value-F.Bool b) h e = (bool_lt a b, refl)
-less_there (Value-F.Int m) (Value-F.Int n) h e = (int_lt m n, refl)
-less_there (Value-F.Uint m) (Value-F.Uint n) h e = (nat_lt m n, refl)
-less_there (Value-F.Text a) (Value-F.Text b) h e = (is_lt (slice_cmp nat_cmp (chars a) (chars b)), refl)
-less_there _ _ h e = absurd (omega (arith, h, e))
+less_there : (p q : Value-F Value) (order : Order) → order_at p ≡ Some order → order_at q ≡ Some order → (b : Bool) × (less_at p q ≡ Some b)
+less_there (Value-F.Bool a) (Value-F.Bool b) order h k = (bool_lt a b, refl)
+less_there (Value-F.Int m) (Value-F.Int n) order h k = (int_lt m n, refl)
+less_there (Value-F.Uint m) (Value-F.Uint n) order h k = (nat_lt m n, refl)
+less_there (Value-F.Text a) (Value-F.Text b) order h k = (is_lt (slice_cmp nat_cmp (chars a) (chars b)), refl)
+less_there _ _ order h k = let no : ⊥ = cc in absurd no
 
-truth_fits : (v w : Value) → InOneOrder v w → outcome_fits type.Bool (truth_of (less v w)) ≡ true
-truth_fits v w h = let l = less_there (out-Value v) (out-Value w) h.0 h.1 in rw l.1 (bool_fits l.0)
+truth_fits : (v w : Value) → AreInOneOrder v w → outcome_fits type.Bool (truth_of (less v w)) ≡ true
+truth_fits v w h = let l = less_there (out-Value v) (out-Value w) h.0 h.1 h.2 in rw l.1 (bool_fits l.0)
 
-untruth_fits : (v w : Value) → InOneOrder v w → outcome_fits type.Bool (untruth_of (less v w)) ≡ true
-untruth_fits v w h = let l = less_there (out-Value v) (out-Value w) h.0 h.1 in rw l.1 (bool_fits (not l.0))
+untruth_fits : (v w : Value) → AreInOneOrder v w → outcome_fits type.Bool (untruth_of (less v w)) ≡ true
+untruth_fits v w h = let l = less_there (out-Value v) (out-Value w) h.0 h.1 h.2 in rw l.1 (bool_fits (not l.0))
 
-order_right : (f : Value → Value → Option Outcome) → ((v w : Value) → InOneOrder v w → outcome_fits type.Bool (f v w) ≡ true)
+order_right : (f : Value → Value → Option Outcome) → ((v w : Value) → AreInOneOrder v w → outcome_fits type.Bool (f v w) ≡ true)
     → RowRight (Two Ordered Ordered (order_row f))
 order_right f h = λ s t. joined_right s t (type_join s t) refl
   where

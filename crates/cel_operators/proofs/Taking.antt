@@ -1,5 +1,5 @@
 -- An operand of a type, taken as one of the kind that the type is of, is within what the type says.
-use Rattle.std.proofs.Common.{◌≡◌, ℕ, zero, suc, ◌≤◌, cond, Bool, true, false, ◌&&◌, ◌||◌, List, [], ◌∷◌, length, Option, Some, None}
+use Rattle.std.proofs.Common.{◌≡◌, ℕ, suc, ◌≤◌, cond, Bool, true, false, ◌&&◌, ◌||◌, List, [], ◌∷◌, length, Option, Some, None}
 use Rattle.std.proofs.Common.{refl, ap, sym, ◌∙◌, subst, arith, rules, true≢false}
 use Rattle.std.proofs.lemmas.Bool.{and_parts, and_from, leb-true}
 use Rattle.std.proofs.lemmas.Option.{none-some, same_Some}
@@ -23,7 +23,8 @@ use Rattle.cel_operators.specs.Outcomes.{Outcome, outcome_fits}
 use Rattle.cel_operators.specs.Wants.{Want, Any, Truth, Whole, Natural, Ordered, Characters, Items, Entries, Indexed, Sought, Wholes}
 use Rattle.cel_operators.specs.Wants.{Naturals}
 use Rattle.cel_operators.specs.Wants.{Texts, Members, Ranged, Of, keys_of, kind_at, taken_value, taken, Limit, Shelf, limit_at, limit_of}
-use Rattle.cel_operators.specs.Wants.{without_null_at, without_null, Within, order_at, order_of, order_of_level, order_of_type, in_order}
+use Rattle.cel_operators.specs.Wants.{without_null_at, without_null, Within}
+use Rattle.cel_operators.specs.Orders.{Order, OfBools, OfInts, OfUints, OfTexts, order_at, Orders, Only, orders_at, orders_of}
 use Rattle.cel_operators.specs.Wants.{each_of, whole_at, natural_at, wholes_of, naturals_of, wholes_limit, naturals_limit, texts_limit}
 use Rattle.cel_operators.proofs.Opened.{opened, fits-out, fits-levels, text_fits}
 
@@ -33,36 +34,36 @@ Taken w l None = ⊥
 Taken w l (Some (Err e)) = Unit {0}
 Taken w l (Some (Ok a)) = Within w l a
 
+-- a value stands in the one order of its type
+abbrev pub IsInOrder : Value-F Value → CelType-F CelType → Type 0
+IsInOrder p o = (order : Order) × (order_at p ≡ Some order) × (orders_at o ≡ Some (Only order))
+
 -- a value of a type whose values have an order stands in that order
-ordered_level : (o : CelType-F CelType) (p : Value-F Value) → fits_at (opened o) p ≡ true → 1 ≤ order_of_level o
-    → order_at p ≡ order_of_level o
-ordered_level CelType-F.Bool (Value-F.Bool b) h k = refl
-ordered_level CelType-F.Int (Value-F.Int n) h k = refl
-ordered_level CelType-F.Uint (Value-F.Uint n) h k = refl
-ordered_level (CelType-F.Text max) (Value-F.Text bytes) h k = refl
-ordered_level CelType-F.Never p h k = absurd (true≢false (sym h))
-ordered_level CelType-F.Bool _ h k = absurd (true≢false (sym h))
-ordered_level CelType-F.Int _ h k = absurd (true≢false (sym h))
-ordered_level CelType-F.Uint _ h k = absurd (true≢false (sym h))
-ordered_level (CelType-F.Text max) _ h k = absurd (true≢false (sym h))
-ordered_level _ p h k = absurd (omega (arith, k))
+ordered_level : (o : CelType-F CelType) (p : Value-F Value) (orders : Orders) → fits_at (opened o) p ≡ true → orders_at o ≡ Some orders
+    → IsInOrder p o
+ordered_level CelType-F.Bool (Value-F.Bool b) orders h k = (OfBools, refl, refl)
+ordered_level CelType-F.Int (Value-F.Int n) orders h k = (OfInts, refl, refl)
+ordered_level CelType-F.Uint (Value-F.Uint n) orders h k = (OfUints, refl, refl)
+ordered_level (CelType-F.Text max) (Value-F.Text bytes) orders h k = (OfTexts, refl, refl)
+ordered_level CelType-F.Never p orders h k = absurd (true≢false (sym h))
+ordered_level CelType-F.Bool _ orders h k = absurd (true≢false (sym h))
+ordered_level CelType-F.Int _ orders h k = absurd (true≢false (sym h))
+ordered_level CelType-F.Uint _ orders h k = absurd (true≢false (sym h))
+ordered_level (CelType-F.Text max) _ orders h k = absurd (true≢false (sym h))
+ordered_level _ p orders h k = absurd (none-some _ k)
 
-in_order-some : {A : Type 0} (n : ℕ) (x y : A) → in_order n x ≡ Some y → (1 ≤ n) × (x ≡ y)
-in_order-some zero x y e = absurd (none-some _ e)
-in_order-some (suc n) x y e = (omega arith, same_Some _ _ e)
-
-some-in_order : {A : Type 0} (n : ℕ) (x : A) → 1 ≤ n → in_order n x ≡ Some x
-some-in_order zero x h = absurd (omega (arith, h))
-some-in_order (suc n) x h = refl
+-- what something is put in place of is there
+option_map-some : {A B : Type 0} (x : Option A) (y z : B) → option_map (λ a. y) x ≡ Some z → (a : A) × (x ≡ Some a) × (y ≡ z)
+option_map-some None y z e = absurd (none-some _ e)
+option_map-some (Some a) y z e = (a, refl, same_Some _ _ e)
 
 ordered_taken : (v : Value) (t : CelType) (l : Limit Ordered) → limit_at Ordered t (out-CelType t) ≡ Some l → fits v t ≡ true
     → Taken Ordered l (kind_at Ordered v (out-Value v))
 ordered_taken v t l e h =
-    let o = in_order-some (order_of_type t) t l e in
-    let q = ordered_level (out-CelType t) (out-Value v) (sym (fits-out v t) ∙ h) o.0 in
-    let known : 1 ≤ order_of v = subst (λ n. 1 ≤ n) (sym q) o.0 in
-    subst (Taken Ordered l) (sym (some-in_order (order_of v) (Ok v) known))
-    (subst (λ s. fits v s ≡ true) o.1 h, known, q ∙ ap order_of_type o.1)
+    let (orders, known, same) = option_map-some (orders_of t) t l e in
+    let (order, is, only) = ordered_level (out-CelType t) (out-Value v) orders (sym (fits-out v t) ∙ h) known in
+    subst (λ o. Taken Ordered l (option_map (λ order. Ok v) o)) (sym is)
+    (subst (λ s. fits v s ≡ true) same h, order, is, subst (λ s. orders_of s ≡ Some (Only order)) same only)
 
 -- each value of a list as what it is, where what fits is something that passes a test
 each_there : {A : Type 0} (f : Value → Option A) (g : Value → Bool) (q : A → Bool)

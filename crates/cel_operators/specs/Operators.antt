@@ -3,21 +3,18 @@
 use Rattle.std.specs.Prelude.{ℕ, zero, suc, ◌+◌, ◌-◌, ◌*◌, ◌/◌, ◌%◌, ◌^◌, min, max, ℤ, pos, negsuc, ◌+ℤ◌, ◌-ℤ◌, ◌≡◌}
 use Rattle.std.specs.Prelude.{◌*ℤ◌, neg_ℤ, int_div, int_rem, int_lt, Bool, true, false, not, ◌&&◌, nat_lt, nat_le, List, []}
 use Rattle.std.specs.Prelude.{◌∷◌, ◌++◌, map, length, sum, sum_by, if◌then◌else◌, slice_get, is_some, Option, Some, None, Result, Ok, Err}
-use Rattle.std.specs.Prelude.{chars, decimal}
+use Rattle.std.specs.Prelude.{decimal}
 use Rattle.std.specs.Fmt.{signed_decimal}
 use Rattle.std.specs.Char.{to_ascii_lowercase, to_ascii_uppercase}
 use Rattle.std.specs.List.{list_any, join_by}
-use Rattle.std.specs.Ordering.{nat_cmp, is_lt}
-use Rattle.std.specs.Cmp.Lexicographic.{slice_cmp}
 use Rattle.plain.specs.Keys.{value_under}
-use Rattle.cel_value.specs.declared.value.Value.{Value, out-Value}
+use Rattle.cel_value.specs.declared.value.Value.{Value}
 use Rattle.cel_value.specs.declared.value.Value as value
-use Rattle.cel_value.specs.declared.value.Value.TheOpen.{Value-F}
 use Rattle.cel_value.specs.declared.cel_type.CelType.{CelType}
 use Rattle.cel_value.specs.declared.cel_type.CelType as type
 use Rattle.cel_value.specs.declared.cel_error.CelError.{CelError}
 use Rattle.cel_value.specs.declared.cel_error.CelError.TheVariants.{Overflow, DivideByZero, OutOfRange, NoSuchKey, BadConversion, EmptyList}
-use Rattle.cel_value.specs.Value.{weight_of, items_weight_of, text_weight_of, tenths_of, code_points, same, bool_lt}
+use Rattle.cel_value.specs.Value.{weight_of, items_weight_of, text_weight_of, tenths_of, code_points, same}
 use Rattle.cel_value.specs.CelType.{greatest_of, join}
 use Rattle.cel_text.specs.Numbers.{int_of, uint_of}
 use Rattle.cel_text.specs.Parts.{starts_with, ends_with, contains}
@@ -31,6 +28,8 @@ use Rattle.cel_operators.specs.declared.operator.Operator.TheVariants.{StringOfU
 use Rattle.cel_operators.specs.declared.operator.Operator.TheVariants.{UintOfInt, UintOfUint, UintOfText, SumInts, SumUints, MinInts}
 use Rattle.cel_operators.specs.declared.operator.Operator.TheVariants.{MinUints, MaxInts, MaxUints, Join}
 pub use Rattle.cel_operators.specs.declared.operator.Made.{Made}
+pub use Rattle.cel_operators.specs.Orders.{less_at, less}
+pub use Rattle.cel_operators.specs.Codes.{operators, operator_of, code_of}
 use Rattle.cel_operators.specs.declared.operands.Operands.TheVariants as operands
 use Rattle.cel_operators.specs.declared.operands.Operands.{Operands}
 use Rattle.cel_operators.specs.declared.type_rule.TypeRule.{TypeRule}
@@ -92,18 +91,6 @@ uint_difference m n = if nat_le n m then Ok (value.Uint (m - n)) else Err Overfl
 abbrev pub uint_divided : (ℕ → ℕ → ℕ) → ℕ → ℕ → Outcome
 uint_divided f m zero = Err DivideByZero
 uint_divided f m (suc n) = Ok (value.Uint (f m (suc n)))
-
--- the order of two levels of one kind: false before true, the numbers, and texts by their code points
-abbrev pub less_at : Value-F Value → Value-F Value → Option Bool
-less_at (Value-F.Bool a) (Value-F.Bool b) = Some (bool_lt a b)
-less_at (Value-F.Int m) (Value-F.Int n) = Some (int_lt m n)
-less_at (Value-F.Uint m) (Value-F.Uint n) = Some (nat_lt m n)
-less_at (Value-F.Text a) (Value-F.Text b) = Some (is_lt (slice_cmp nat_cmp (chars a) (chars b)))
-less_at _ _ = None
-
--- the order of two values of one kind
-abbrev pub less : Value → Value → Option Bool
-less v w = less_at (out-Value v) (out-Value w)
 
 -- a comparison's truth value, where it has one
 abbrev pub truth_of : Option Bool → Option Outcome
@@ -401,70 +388,6 @@ row MinUints = One Naturals (uints_row (extreme_of min value.Uint))
 row MaxInts = One Wholes (ints_row (extreme_of greater_int value.Int))
 row MaxUints = One Naturals (uints_row (extreme_of max value.Uint))
 row Join = Two Texts Characters join_row
-
--- the operators by their numbers
-abbrev pub operators : List Operator
-operators =
-    Not ∷ Negate ∷ Add ∷ AddUint ∷ AddText ∷ AddList ∷ Subtract ∷ SubtractUint ∷ Multiply ∷ MultiplyUint ∷ Divide
-    ∷ DivideUint ∷ Remainder ∷ RemainderUint ∷ Equal ∷ NotEqual ∷ Less ∷ AtMost ∷ Greater ∷ AtLeast ∷ InList ∷ InMap
-    ∷ IndexList ∷ IndexMap ∷ SizeText ∷ SizeList ∷ SizeMap ∷ StartsWith ∷ EndsWith ∷ Contains ∷ LowerAscii ∷ UpperAscii
-    ∷ StringOfInt ∷ StringOfUint ∷ StringOfText ∷ IntOfInt ∷ IntOfUint ∷ IntOfText ∷ UintOfInt ∷ UintOfUint ∷ UintOfText
-    ∷ SumInts ∷ SumUints ∷ MinInts ∷ MinUints ∷ MaxInts ∷ MaxUints ∷ Join ∷ []
-
--- the operator of a number, if there is one
-abbrev pub operator_of : ℕ → Option Operator
-operator_of n = slice_get operators n
-
--- the number of an operator
-abbrev pub code_of : Operator → ℕ
-code_of Not = 0
-code_of Negate = 1
-code_of Add = 2
-code_of AddUint = 3
-code_of AddText = 4
-code_of AddList = 5
-code_of Subtract = 6
-code_of SubtractUint = 7
-code_of Multiply = 8
-code_of MultiplyUint = 9
-code_of Divide = 10
-code_of DivideUint = 11
-code_of Remainder = 12
-code_of RemainderUint = 13
-code_of Equal = 14
-code_of NotEqual = 15
-code_of Less = 16
-code_of AtMost = 17
-code_of Greater = 18
-code_of AtLeast = 19
-code_of InList = 20
-code_of InMap = 21
-code_of IndexList = 22
-code_of IndexMap = 23
-code_of SizeText = 24
-code_of SizeList = 25
-code_of SizeMap = 26
-code_of StartsWith = 27
-code_of EndsWith = 28
-code_of Contains = 29
-code_of LowerAscii = 30
-code_of UpperAscii = 31
-code_of StringOfInt = 32
-code_of StringOfUint = 33
-code_of StringOfText = 34
-code_of IntOfInt = 35
-code_of IntOfUint = 36
-code_of IntOfText = 37
-code_of UintOfInt = 38
-code_of UintOfUint = 39
-code_of UintOfText = 40
-code_of SumInts = 41
-code_of SumUints = 42
-code_of MinInts = 43
-code_of MinUints = 44
-code_of MaxInts = 45
-code_of MaxUints = 46
-code_of Join = 47
 
 -- an answer with its charge
 abbrev pub makes : Option Outcome → ℕ → Option Made

@@ -1,5 +1,5 @@
 -- The kinds of operands: what each is taken as, and what its type says of it.
-use Rattle.std.specs.Prelude.{◌≡◌, ◌≤◌, ℕ, zero, suc, Bool, true, ◌&&◌, nat_le, List, [], ◌∷◌, length, map, Option, Some, None, false}
+use Rattle.std.specs.Prelude.{◌≡◌, ◌≤◌, ℕ, Bool, true, ◌&&◌, nat_le, List, [], ◌∷◌, length, map, Option, Some, None, false}
 use Rattle.std.specs.Prelude.{Result, Ok, Err, ℤ, if◌then◌else◌}
 use Rattle.std.specs.List.{list_all}
 use Rattle.std.specs.Option.{option_map, option_and_then}
@@ -17,6 +17,7 @@ use Rattle.cel_value.specs.declared.cel_error.CelError.{CelError}
 use Rattle.cel_value.specs.declared.cel_error.CelError.TheVariants.{NullOperand}
 use Rattle.cel_value.specs.CelType.{fits}
 use Rattle.cel_value.specs.Fits.{is_null, admitted_by, object_fits}
+use Rattle.cel_operators.specs.Orders.{Order, order_at, order_of, Only, orders_at, orders_of}
 use Rattle.cel_operators.specs.Outcomes.{Outcome, Side}
 pub use Rattle.cel_operators.specs.declared.operands.Want.{Want}
 pub use Rattle.cel_operators.specs.declared.operands.Want.TheVariants.{Any, Truth, Whole, Natural, Ordered, Characters, Items, Entries}
@@ -40,37 +41,6 @@ Of Naturals = List ℕ
 Of Texts = List (List ℕ)
 Of Members = List (Keyed Value)
 Of Ranged = List Value
-
--- the order that a level stands in, by its number: 2 that of truth values, 3 that of integers, 4 that of unsigned ones, 5
--- that of texts; 0 is none
-abbrev pub order_at : Value-F Value → ℕ
-order_at (Value-F.Bool b) = 2
-order_at (Value-F.Int n) = 3
-order_at (Value-F.Uint n) = 4
-order_at (Value-F.Text bytes) = 5
-order_at _ = 0
-
--- the order that a value stands in
-abbrev pub order_of : Value → ℕ
-order_of v = order_at (out-Value v)
-
--- the order of a type's values; Never, which has none, is given one of its own
-abbrev pub order_of_level : CelType-F CelType → ℕ
-order_of_level CelType-F.Never = 1
-order_of_level CelType-F.Bool = 2
-order_of_level CelType-F.Int = 3
-order_of_level CelType-F.Uint = 4
-order_of_level (CelType-F.Text max) = 5
-order_of_level _ = 0
-
--- the same, of a whole type
-abbrev pub order_of_type : CelType → ℕ
-order_of_type t = order_of_level (out-CelType t)
-
--- something, where the number is that of an order
-abbrev pub in_order : {A : Type 0} → ℕ → A → Option A
-in_order zero x = None
-in_order (suc n) x = Some x
 
 -- the integer that a level is
 abbrev pub whole_at : Value-F Value → Option ℤ
@@ -105,7 +75,7 @@ kind_at Any v _ = Some (Ok v)
 kind_at Truth v (Value-F.Bool b) = Some (Ok b)
 kind_at Whole v (Value-F.Int n) = Some (Ok n)
 kind_at Natural v (Value-F.Uint n) = Some (Ok n)
-kind_at Ordered v p = in_order (order_at p) (Ok v)
+kind_at Ordered v p = option_map (λ order. Ok v) (order_at p)
 kind_at Characters v (Value-F.Text bytes) = Some (Ok bytes)
 kind_at Items v (Value-F.List vs) = Some (Ok vs)
 kind_at Entries v (Value-F.Map es) = Some (Ok es)
@@ -206,7 +176,7 @@ limit_at Whole t CelType-F.Never = Some tt
 limit_at Whole t CelType-F.Int = Some tt
 limit_at Natural t CelType-F.Never = Some tt
 limit_at Natural t CelType-F.Uint = Some tt
-limit_at Ordered t o = in_order (order_of_level o) t
+limit_at Ordered t o = option_map (λ orders. t) (orders_at o)
 limit_at Characters t CelType-F.Never = Some 0
 limit_at Characters t (CelType-F.Text max) = Some max
 limit_at Items t CelType-F.Never = Some (record { max = 0; plain = true; item = type.Never })
@@ -256,7 +226,7 @@ Within Any t v = fits v t ≡ true
 Within Truth l b = Unit {0}
 Within Whole l n = Unit {0}
 Within Natural l n = Unit {0}
-Within Ordered t v = (fits v t ≡ true) × (1 ≤ order_of v) × (order_of v ≡ order_of_type t)
+Within Ordered t v = (fits v t ≡ true) × (order : Order) × (order_of v ≡ Some order) × (orders_of t ≡ Some (Only order))
 Within Characters max bytes = code_points bytes ≤ max
 Within Items room vs = (length vs ≤ room.max) × (list_all (λ v. fits v room.item) vs ≡ true)
 Within Entries store es = (length es ≤ store.max) × (list_all (in_store store) es ≡ true)

@@ -5,7 +5,7 @@ use crate::answer_type::{
     in_list, index_list, index_map, joined, list_sum, order, same_text, text_sum, where_both_taken,
     where_taken,
 };
-use crate::equating::compared;
+use crate::equality::compared;
 use crate::operands::{Operands, Want};
 use crate::type_rule::{TypeRule, Untyped};
 use cel_value::{CelError, CelType, Value};

@@ -145,6 +145,8 @@ fn method_called(
     at(alloc, place, Syntax::Method(operand, name, items))
 }
 
+// This function and the ones like it are cut for the prover: each takes the result of a call and hands a fault on, so that the cycle
+// that calls it has no `?`, at which the proof would go through every form that is dropped there.
 fn signed(
     alloc: Global,
     place: usize,

@@ -4,4 +4,5 @@ pub mod Places
 pub mod Asked
 pub mod Choices
 pub mod Only
+pub mod Copies
 pub mod Sent

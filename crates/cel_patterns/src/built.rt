@@ -6,7 +6,7 @@ ghost use Rattle.cel_patterns.specs.Meaning.{tree_of, is_found};
 ghost use Rattle.cel_patterns.specs.Building.{IsReason, AnswersText, FindsAlike};
 
 use crate::Unbuilt;
-use crate::building::{program_of, regex_of};
+use crate::regexes::{program_of, regex_of};
 use regex::Regex;
 use regex_dfa::{End, Forward};
 use regex_meta::Program;

@@ -5,10 +5,10 @@
 //! of its text, `is_found`, which is what `regex` promises of it; nothing that is kept has a part in it.
 #![tactic(auto)]
 
-mod building;
 mod built;
 mod matchers;
 mod patterns;
+mod regexes;
 mod unbuilt;
 
 pub use matchers::Matchers;

@@ -1,11 +1,11 @@
 //! The answer of `regex` for each text that was asked.
 ghost use Rattle.std.specs.Prelude.{◌≡◌, List, ℕ, [], ◌∷◌, true, false, map, string_bytes};
-ghost use Rattle.std.specs.Prelude.{IfOk, OnOk, OnErr, IsSome, Some, None};
+ghost use Rattle.std.specs.Prelude.{IfOk, OnOk, OnErr, IsSome, is_some, Some, None};
 ghost use Rattle.cel_patterns.specs.Answers.{answer_in, choice_in, AsksOnly, Grows, Honours, IsHonest};
 ghost use Rattle.cel_patterns.specs.Choice.{then_answered, refuses};
 ghost use Rattle.cel_patterns.specs.Meaning.{tree_of};
 
-use crate::building::builds;
+use crate::regexes::builds;
 use std::alloc::{AllocError, Global};
 use std::collections::BTreeMap;
 use std::marker::Model;
@@ -61,6 +61,23 @@ impl Patterns {
         ensures honest { IsHonest self.now }
     {
         self.answers.get(text).copied()
+    }
+
+    /// Whether a text was asked for.
+    pub fn is_answered(&self, text: &str) -> bool
+        ensures { result ≡ is_some (answer_in self.now text.now) }
+    {
+        self.answer(text).is_some()
+    }
+
+    /// Equal answers, in memory of their own.
+    pub fn copy(&self) -> Result<Patterns, AllocError>
+        ensures { IfOk result (λ patterns. patterns ≡ self.now) }
+    {
+        Ok(Patterns {
+            answers: self.answers.clone()?,
+            refused: self.refused.clone()?,
+        })
     }
 
     /// Whether a text was asked for and refused.

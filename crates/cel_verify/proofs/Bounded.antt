@@ -18,12 +18,13 @@ use Rattle.cel_operators.specs.Wants.{is_there, is_truth}
 use Rattle.cel_verify.specs.declared.fault.VerifyRule.TheVariants.{TooDeep, WrongKind, OverBudget}
 use Rattle.cel_verify.specs.Bodies.{same_body}
 use Rattle.cel_verify.specs.StackTypes.{StackTypes, all_assignable}
-use Rattle.cel_verify.specs.Sound.{Falls, Open, some_of, every, jumps_of, is_jumped, is_target, is_placed, enters, loop_rule, shallow}
-use Rattle.cel_verify.specs.Sound.{entered, typed_rule, entry_in, entry_or, fallen, opening, still_open, below_all}
-use Rattle.cel_verify.specs.Sound.{IsSound, max_depth, max_loops}
+use Rattle.cel_verify.specs.Sound.{Falls, Open, some_of, every, jumps_of, is_jumped, is_target, is_placed, enters, loop_rule}
+use Rattle.cel_verify.specs.Sound.{typed_rule, entry_in, entry_or, fallen, opening, still_open, below_all}
+use Rattle.cel_verify.specs.Sound.{IsWalked, max_depth, max_loops}
 use Rattle.cel_verify.specs.Paths.{IsIn}
 use Rattle.cel_verify.specs.Typed.{types_at, opens_at}
 use Rattle.cel_verify.specs.Depths.{operands_of, depth_at, deepest, greatest_depth, most_open, greatest_nesting}
+use Rattle.cel_verify.specs.Walked.{shallow, entered}
 use Rattle.cel_verify.proofs.Falling.{entered_ok, enters_is, two_needs, one_needs, get_some}
 use Rattle.cel_verify.proofs.RuleParts.{needs_is, Parts, parts_at}
 use Rattle.cel_verify.proofs.PathSums.{every_in, is_ahead}
@@ -169,7 +170,7 @@ entry_is : (o : Option StackTypes) (ts : StackTypes) → entry_or o None ≡ Som
 entry_is None ts e = e
 entry_is (Some es) ts e = e
 
-module _ (image : Image) (sound : IsSound image) where
+module _ (image : Image) (sound : IsWalked image) where
   -- an instruction has no more operands and open loops than there may be
   abbrev Within : ℕ → Type 0
   Within at = (depth_at image at ≤ max_depth) × (length (opens_at image at) ≤ max_loops)

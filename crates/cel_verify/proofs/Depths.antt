@@ -6,7 +6,7 @@ use Rattle.cel_code.specs.declared.image.Image.{Image}
 use Rattle.cel_operators.specs.Outcomes.{Outcome, slots_fit}
 use Rattle.cel_code.specs.Machine.{Frame, State, on}
 use Rattle.cel_verify.specs.StackTypes.{StackTypes, AllFit}
-use Rattle.cel_verify.specs.Sound.{Open, below_all, IsSound}
+use Rattle.cel_verify.specs.Sound.{Open, below_all, IsWalked}
 use Rattle.cel_verify.specs.Typed.{types_at, opens_at, waits_at, FramesFit, Typed}
 use Rattle.cel_verify.specs.Depths.{operands_of, depth_at, deepest, greatest_depth, NeverMore}
 use Rattle.cel_verify.specs.Depths.{most_open, greatest_nesting, NeverMoreLoops}
@@ -60,13 +60,13 @@ typed_nested image s t =
     omega arith
 
 -- a state that the machine reaches
-pub never_more : (image : Image) (slots : List Outcome) → IsSound image → slots_fit image.slots slots ≡ true
+pub never_more : (image : Image) (slots : List Outcome) → IsWalked image → slots_fit image.slots slots ≡ true
     → NeverMore image slots (greatest_depth image)
 never_more image slots sound filled = λ s charge steps g.
     let first = begins image slots sound filled in
     typed_deep image s (gets_typed image slots sound filled (on 0 [] []) s charge steps g first).0
 
-pub never_more_loops : (image : Image) (slots : List Outcome) → IsSound image → slots_fit image.slots slots ≡ true
+pub never_more_loops : (image : Image) (slots : List Outcome) → IsWalked image → slots_fit image.slots slots ≡ true
     → NeverMoreLoops image slots (greatest_nesting image)
 never_more_loops image slots sound filled = λ s charge steps g.
     let first = begins image slots sound filled in

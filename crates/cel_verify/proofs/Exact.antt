@@ -1,13 +1,19 @@
 -- The bounds of an accepted image are below the ceiling.
-use Rattle.std.proofs.Common.{◌≡◌, ℕ, ◌<◌, ◌≤◌, min, None, arith}
+use Rattle.std.proofs.Common.{◌≡◌, ℕ, ◌-◌, ◌<◌, ◌≤◌, min, length, Some, None, sym, subst, arith}
 use Rattle.cel_code.specs.declared.image.Image.{Image}
 use Rattle.cel_verify.specs.declared.bounds.Bounds.{Bounds}
 use Rattle.cel_verify.specs.Sound.{IsSound}
-use Rattle.cel_verify.specs.Paths.{path_cost, path_steps}
+use Rattle.cel_verify.specs.Paths.{IsPathCost, IsPathSteps}
 use Rattle.cel_verify.specs.Depths.{greatest_depth}
-use Rattle.cel_verify.specs.Accepted.{IsCounted, IsAccepted, AreBounds, AreCapped, misplaced_entry, budget}
+use Rattle.cel_verify.specs.Accepted.{IsCounted, IsAccepted, IsRefused, Misplaced, TooDear, AreBounds, AreCapped}
+use Rattle.cel_verify.specs.Accepted.{misplaced_entry, fault, budget}
+use Rattle.cel_verify.specs.declared.fault.VerifyFault.{VerifyFault}
+use Rattle.cel_verify.specs.declared.fault.VerifyError.TheVariants.{Fault}
+use Rattle.cel_verify.specs.declared.fault.VerifyRule.TheVariants.{BadTarget, OverBudget}
 use Rattle.cel_verify.specs.Walked.{ceiling}
 use Rattle.cel_verify.proofs.Bounded.{greatest_within}
+use Rattle.cel_verify.proofs.Labels.{walks}
+use Rattle.cel_verify.proofs.Routes.{greatest_path}
 use Rattle.cel_verify.proofs.StepsFit.{steps_fit}
 
 below : (n m cap : ℕ) → m ≡ min n cap → n ≤ cap → m ≡ n
@@ -23,17 +29,37 @@ accepted image b counted sound placed k h =
       counted = counted;
       sound = sound;
       placed = placed;
-      cheap = under (path_cost image) b.cost budget ceiling k.cost h (omega arith);
+      cheap = λ charge r.
+          let le = k.cost.is.bound charge r in
+          let most = under k.cost.most b.cost budget ceiling k.cost.capped h (omega arith) in
+          omega arith;
     }
 
 pub exact : (image : Image) (b : Bounds) → IsAccepted image → AreCapped image b → AreBounds image b
 exact image b a k =
     let fit = steps_fit image a in
-    let deep = greatest_within image a.sound in
-    let cheap = a.cheap in
+    let deep = greatest_within image (walks image a.sound) in
+    let cheap = a.cheap k.cost.most k.cost.is.attained in
+    let few = (greatest_path image (walks image a.sound) (λ _. 1)).bound k.steps.most k.steps.is.attained in
+    let cost = below k.cost.most b.cost ceiling k.cost.capped (omega arith) in
+    let steps = below k.steps.most b.steps ceiling k.steps.capped (omega arith) in
     record {
-      cost = below (path_cost image) b.cost ceiling k.cost (omega arith);
-      steps = below (path_steps image) b.steps ceiling k.steps (omega arith);
+      cost = subst (IsPathCost image) (sym cost) k.cost.is;
+      steps = subst (IsPathSteps image) (sym steps) k.steps.is;
       depth = below (greatest_depth image) b.depth ceiling k.depth (omega arith);
       nesting = k.nesting;
     }
+
+-- an entry that is out of its place
+pub out_of_place : (image : Image) (f : VerifyFault) → IsCounted image → IsSound image → misplaced_entry image ≡ Some f.at
+    → f.rule ≡ BadTarget → IsRefused image (Fault f)
+out_of_place image f counted sound placed is = (Misplaced counted sound placed is, λ a. let none = a.placed in cc)
+
+-- bounds over the budget tell a route that charges too much
+pub too_dear : (image : Image) (b : Bounds) (f : VerifyFault) → IsCounted image → IsSound image → misplaced_entry image ≡ None
+    → AreCapped image b → budget < b.cost → f ≡ fault OverBudget (length image.code - 1) → IsRefused image (Fault f)
+too_dear image b f counted sound placed k h is =
+    let over : budget < k.cost.most = omega (arith, k.cost.capped) in (
+      TooDear counted sound placed k.cost.most k.cost.is.attained over is,
+      λ a. let le = a.cheap k.cost.most k.cost.is.attained in omega arith,
+    )

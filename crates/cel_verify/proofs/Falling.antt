@@ -4,7 +4,8 @@ use Rattle.std.proofs.Common.{Option, Some, None, refl, sym, arith, true≢false
 use Rattle.std.specs.Prelude.{Ok, Err, slice_get}
 use Rattle.cel_verify.specs.declared.fault.VerifyRule.TheVariants.{WrongKind, OverBudget}
 use Rattle.cel_verify.specs.StackTypes.{StackTypes, all_assignable}
-use Rattle.cel_verify.specs.Sound.{Falls, needs, entered, enters}
+use Rattle.cel_verify.specs.Sound.{Falls, needs, enters}
+use Rattle.cel_verify.specs.Walked.{entered}
 
 pub two_needs : (a b : Bool) (r : Falls) (m : Option StackTypes) → needs (a && b) WrongKind r ≡ Ok m
     → (a ≡ true) × (b ≡ true) × (needs (a && b) WrongKind r ≡ r)

@@ -18,10 +18,12 @@ use Rattle.cel_code.specs.Machine.{Frame, on, Goes, gone_on}
 use Rattle.cel_verify.specs.declared.fault.VerifyRule.TheVariants.{WrongKind}
 use Rattle.cel_verify.specs.Bodies.{same_body}
 use Rattle.cel_verify.specs.StackTypes.{StackTypes, all_assignable, Fits, AllFit}
-use Rattle.cel_verify.specs.Sound.{Open, every, jumps_of, is_target, is_placed, is_nested, typed_rule, entered, rule_at, entry_in}
-use Rattle.cel_verify.specs.Sound.{entry_or, fallen, opening, still_open, label_at, below_all, IsSound}
-use Rattle.cel_verify.specs.Paths.{charge_of, charge_in, goes_to, charge_at, path_from, IsIn}
-use Rattle.cel_verify.specs.Typed.{types_at, opens_at, waits, waits_at, FrameFits, FramesFit, to_come, rounds, owed, GoesOn}
+use Rattle.cel_verify.specs.Sound.{Open, every, jumps_of, is_target, is_placed, is_nested, typed_rule, rule_at, entry_in}
+use Rattle.cel_verify.specs.Sound.{entry_or, fallen, opening, still_open, label_at, below_all, IsWalked}
+use Rattle.cel_verify.specs.Paths.{charge_of, charge_in, goes_to, charge_at, IsIn}
+use Rattle.cel_verify.specs.Typed.{types_at, opens_at, waits, waits_at, FrameFits, FramesFit}
+use Rattle.cel_verify.specs.Walked.{entered}
+use Rattle.cel_verify.proofs.ToGo.{path_from, to_come, rounds, owed, GoesOn}
 use Rattle.cel_verify.proofs.RuleParts.{needs_is}
 use Rattle.cel_verify.proofs.PathSums.{every_in, is_ahead, path_is, path_step}
 use Rattle.cel_verify.proofs.Nests.{same_opens, still_all, no_item}
@@ -71,7 +73,7 @@ pub record Here (image : Image) (at : ℕ) (i : Instr) (ts : StackTypes) (stack 
   pub fits : AllFit stack (ts ++ below_all (opens_at image at))
   pub framed : FramesFit image (waits (Some i)) frames (opens_at image at)
 
-module _ (image : Image) (sound : IsSound image) where
+module _ (image : Image) (sound : IsWalked image) where
   module _ (at : ℕ) (i : Instr) (ts : StackTypes) (stack : List Outcome) (frames : List Frame) (h : Here image at i ts stack frames) where
     pub charge_le : (c : ℕ) → c ≤ charge_of image.constants i ts → c ≤ charge_at image at
     charge_le c le =

@@ -1,12 +1,13 @@
--- A labelling exists exactly where the image is sound.
+-- An image is sound exactly where each instruction keeps its rule at its label of the walk.
 use Rattle.std.proofs.Common.{◌≡◌, ℕ, zero, suc, ◌+◌, ◌<◌, [], length, Option}
 use Rattle.std.proofs.Common.{Some, None, refl, sym, ap, ◌∙◌, arith, add-one}
 use Rattle.std.specs.Prelude.{Ok, slice_get}
 use Rattle.cel_code.specs.declared.instr.Instr.{Instr}
 use Rattle.cel_code.specs.declared.image.Image.{Image}
 use Rattle.cel_verify.specs.StackTypes.{StackTypes}
-use Rattle.cel_verify.specs.Sound.{Label, rule_at, entry_in, entry_or, fallen, opens_after, next_label, label_at, EndsOnce, IsSound}
-use Rattle.cel_verify.specs.Labelled.{Reached, reached_label, Leads, IsLabelling, HasLabelling}
+use Rattle.cel_verify.specs.Sound.{Label, rule_at, entry_in, entry_or, fallen, opens_after, next_label, label_at, EndsOnce, IsWalked}
+use Rattle.cel_verify.specs.Sound.{Reached, reached_label, Leads, IsLabelling, IsSound}
+use Rattle.cel_verify.specs.Walked.{AllHold}
 use Rattle.cel_verify.proofs.RuleParts.{parts_of}
 
 module _ (image : Image) (label : ℕ → Reached) (l : IsLabelling image label) where
@@ -23,19 +24,19 @@ module _ (image : Image) (label : ℕ → Reached) (l : IsLabelling image label)
           let here = rule_at image at (slice_get image.code at) (reached_label (label at)) in
           let types : next.types ≡ Some (label (suc at)).types =
           ap (λ k. entry_or (entry_in image.targets k) (fallen here)) (sym sucs)
-          ∙ ap (λ x. entry_or (entry_in image.targets (at + 1)) (fallen x)) e.rule
+          ∙ ap (λ x. entry_or (entry_in image.targets (at + 1)) (fallen x)) e.holds
           ∙ e.types (omega arith)
           ∙ ap (λ k. Some (label k).types) sucs in
           let opens : next.opens ≡ (label (suc at)).opens = e.opens ∙ ap (λ k. (label k).opens) sucs in
           λ j. record { types = types j; opens = opens j }
 
-  pub labelled_sound : EndsOnce image.code → IsSound image
-  labelled_sound ends =
+  pub labelled_walked : EndsOnce image.code → IsWalked image
+  labelled_walked ends =
       record {
         ends = ends;
         each = λ at h.
             let e = l.each at h in
-            record { next = e.next; is = ap (rule_at image at (slice_get image.code at)) (label_is at h) ∙ e.rule };
+            record { next = e.next; is = ap (rule_at image at (slice_get image.code at)) (label_is at h) ∙ e.holds };
       }
 
 abbrev or_empty : Option StackTypes → StackTypes
@@ -55,7 +56,7 @@ whole : (image : Image) (at : ℕ) → (label_at image at).types ≡ Some (or_em
     → label_at image at ≡ reached_label (reached_at image at)
 whole image at e = λ j. record { types = e j; opens = (label_at image at).opens }
 
-module _ (image : Image) (s : IsSound image) where
+module _ (image : Image) (s : IsWalked image) where
   leads : (at : ℕ) → at < length image.code → Leads image at (reached_at image at) (reached_at image (at + 1))
   leads at h =
       let o = slice_get image.code at in
@@ -66,7 +67,7 @@ module _ (image : Image) (s : IsSound image) where
       let sucs : at + 1 ≡ suc at = add-one at in
       record {
         next = e.next;
-        rule = ap (rule_at image at o) (sym is) ∙ e.is;
+        holds = ap (rule_at image at o) (sym is) ∙ e.is;
         types = λ more.
             let f = s.each (at + 1) more in
             let there = rule_some image (at + 1) (slice_get image.code (at + 1)) (label_at image (at + 1)) f.next f.is in
@@ -77,9 +78,14 @@ module _ (image : Image) (s : IsSound image) where
         opens = ap (opens_after image at o) (sym is) ∙ ap (λ k. (label_at image k).opens) (sym sucs);
       }
 
-  pub sound_labelled : HasLabelling image
-  sound_labelled =
+  pub is_sound : IsSound image
+  is_sound =
       record { ends = s.ends; label = reached_at image; is = record { first = refl; each = leads } }
 
-pub has_sound : (image : Image) → HasLabelling image → IsSound image
-has_sound image h = labelled_sound image h.label h.is h.ends
+-- what the walk finds of a sound image
+pub walks : (image : Image) → IsSound image → IsWalked image
+walks image h = labelled_walked image h.label h.is h.ends
+
+-- where the walk finds no fault
+pub sound_by : (image : Image) → EndsOnce image.code → AllHold image → IsSound image
+sound_by image ends each = is_sound image (record { ends = ends; each = each })

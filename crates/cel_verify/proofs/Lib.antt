@@ -17,6 +17,7 @@ pub mod Routes
 pub mod RuleParts
 pub mod Sides
 pub mod Steps
+pub mod ToGo
 pub mod Turns
 pub mod Walking
 mod WorkedRows

@@ -25,9 +25,10 @@ use Rattle.cel_code.specs.declared.image.Image.{Image}
 use Rattle.cel_code.specs.Machine.{Inputs, Frame, on, Goes, slot, item_of, frame, opened, item_taken, turned, tested, tested_in, act}
 use Rattle.cel_verify.specs.StackTypes.{StackTypes, all_assignable, Fits, AllFit}
 use Rattle.cel_verify.specs.Sound.{Open, in_innermost, is_map, no_items, span_of, local_rule, loop_rule, item_rule, when_rule}
-use Rattle.cel_verify.specs.Sound.{closing_rule, next_rule, typed_rule, entry_in, below_all, IsSound}
-use Rattle.cel_verify.specs.Paths.{most_items, items_on_top, times_at, path_from}
-use Rattle.cel_verify.specs.Typed.{types_at, opens_at, waits, waits_at, LoopStands, FrameFits, FramesFit, to_come, rounds, owed, GoesOn}
+use Rattle.cel_verify.specs.Sound.{closing_rule, next_rule, typed_rule, entry_in, below_all, IsWalked}
+use Rattle.cel_verify.specs.Paths.{most_items, items_on_top, times_at}
+use Rattle.cel_verify.specs.Typed.{types_at, opens_at, waits, waits_at, LoopStands, FrameFits, FramesFit}
+use Rattle.cel_verify.proofs.ToGo.{path_from, to_come, rounds, owed, GoesOn}
 use Rattle.cel_verify.proofs.Falling.{one_needs, cons_parts}
 use Rattle.cel_verify.proofs.Sides.{truth_side}
 use Rattle.cel_verify.proofs.Gathering.{same_ok, empty_fits, turn_on, TurnFits}
@@ -74,7 +75,7 @@ map_is : (l : Loop) → is_map l ≡ true → l ≡ loop.Map
 map_is loop.Map h = refl
 map_is _ h = absurd (true≢false (sym h))
 
-module _ (image : Image) (sound : IsSound image) where
+module _ (image : Image) (sound : IsWalked image) where
   local_on : (o : Option Open) (d at : ℕ) (ts : StackTypes) (stack : List Outcome) (frames : List Frame)
       → slice_get (opens_at image at) d ≡ o → Here image at (Local d) ts stack frames
       → typed_rule image (Local d) (opens_at image at) ts ≡ local_rule o ts → (m : Option StackTypes) → local_rule o ts ≡ Ok m

@@ -19,7 +19,7 @@ use Rattle.cel_code.specs.declared.image.Image.{Image}
 use Rattle.cel_verify.specs.StackTypes.{StackTypes, all_assignable}
 use Rattle.cel_verify.specs.Bodies.{leads_behind, last_behind, innermost, same_loop, same_body, is_item, is_next}
 use Rattle.cel_verify.specs.Sound.{Open, every, enters, is_target, is_placed, in_innermost, empty_rule, no_items, range_rule}
-use Rattle.cel_verify.specs.Sound.{loop_rule, entry_in, with_loop, opening, still_open, IsSound}
+use Rattle.cel_verify.specs.Sound.{loop_rule, entry_in, with_loop, opening, still_open, IsWalked}
 use Rattle.cel_verify.specs.Paths.{is_loop}
 use Rattle.cel_verify.specs.Typed.{types_at, opens_at, waits, waits_at}
 use Rattle.cel_verify.proofs.Falling.{one_needs, entered_ok, enters_is, get_some, cons_parts}
@@ -167,7 +167,7 @@ pub record Looped (image : Image) (s : ℕ) (l : Loop) (exit : ℕ) : Type 0 whe
   pub inside : exit < length image.code
   pub same : innermost image.code s ≡ innermost image.code exit
 
-pub looped : (image : Image) (sound : IsSound image) (s : ℕ) (l : Loop) (exit : ℕ)
+pub looped : (image : Image) (sound : IsWalked image) (s : ℕ) (l : Loop) (exit : ℕ)
     → slice_get image.code s ≡ Some (instr.Loop l exit) → Looped image s l exit
 looped image sound s l exit h =
     let lt = slice_get_within image.code s (instr.Loop l exit) h in
@@ -237,7 +237,7 @@ pub record OpenAt (image : Image) (at : ℕ) (o : Open) (os : List Open) : Type 
   pub next : slice_get image.code (o.exit - 1) ≡ Some Next
   pub outer : os ≡ opens_at image o.start
 
-module _ (image : Image) (sound : IsSound image) where
+module _ (image : Image) (sound : IsWalked image) where
   stays : (k s : ℕ) → leads_behind (slice_get image.code s) k ≡ true
       → still_open k (opens_in image (Some s)) ≡ opens_in image (Some s)
   stays k s h =

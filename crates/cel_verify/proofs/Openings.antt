@@ -25,11 +25,12 @@ use Rattle.cel_verify.specs.declared.open_loop.Open.{Open}
 use Rattle.cel_verify.specs.declared.refusal.Refusal.{Refusal}
 use Rattle.cel_verify.specs.declared.refusal.Refusal.TheVariants.{Broken, NoMemory}
 use Rattle.cel_verify.specs.StackTypes.{StackTypes, all_assignable}
-use Rattle.cel_verify.specs.Sound.{Falls, needs, below_all, entered, shallow, typed_rule, entry_in, entry_or, opening, with_loop}
+use Rattle.cel_verify.specs.Sound.{Falls, needs, below_all, typed_rule, entry_in, entry_or, opening, with_loop}
 use Rattle.cel_verify.specs.Sound.{enters, empty_rule, range_rule, loop_rule, next_rule, no_items, still_open, in_innermost}
 use Rattle.cel_verify.specs.Sound.{max_depth, max_loops}
 use Rattle.cel_verify.specs.Paths.{is_loop}
 use Rattle.cel_verify.specs.Walked.{Refuses, arrived, Arrives, typed_here, Passes, TakesNone, IsRange, Awaits, Begins, ceiling}
+use Rattle.cel_verify.specs.Walked.{entered, shallow}
 
 -- an instruction that begins no loop opens none
 pub opening_plain : (image : Image) (at : ℕ) (i : Instr) (types : Option StackTypes) (opens : List Open) → is_loop i ≡ false

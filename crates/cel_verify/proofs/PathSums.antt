@@ -12,7 +12,9 @@ use Rattle.cel_code.specs.declared.instr.Instr.TheVariants as instr
 use Rattle.cel_code.specs.declared.image.Image.{Image}
 use Rattle.cel_operators.specs.Wants.{is_there}
 use Rattle.cel_verify.specs.Sound.{jumps_of, every, is_target, entry_in}
-use Rattle.cel_verify.specs.Paths.{goes_to, greatest, from_one, to_go, times_at, path_from, IsIn}
+use Rattle.cel_verify.specs.Paths.{goes_to, times_at, IsIn}
+use Rattle.cel_verify.specs.Walked.{greatest}
+use Rattle.cel_verify.proofs.ToGo.{from_one, to_go, path_from}
 
 pub greatest_same : (f g : ℕ → ℕ) (ts : List ℕ) → ((t : ℕ) → IsIn t ts → f t ≡ g t) → greatest f ts ≡ greatest g ts
 greatest_same f g [] h = refl

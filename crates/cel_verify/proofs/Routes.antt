@@ -10,8 +10,11 @@ use Rattle.cel_code.specs.declared.instr.Instr.TheVariants.{Const, Op, WithText,
 use Rattle.cel_code.specs.declared.instr.Instr.TheVariants.{Jump, End, Slot, Local, Item, When, Next}
 use Rattle.cel_code.specs.declared.instr.Instr.TheVariants as instr
 use Rattle.cel_code.specs.declared.image.Image.{Image}
-use Rattle.cel_verify.specs.Sound.{every, is_target, jumps_of, IsSound}
-use Rattle.cel_verify.specs.Paths.{goes_to, greatest, rounds_of, times_at, path_from, IsIn, is_loop, Route, Stops, Via, Rounds, IsGreatest}
+use Rattle.cel_verify.specs.Sound.{every, is_target, jumps_of, IsWalked}
+use Rattle.cel_verify.specs.Paths.{goes_to, times_at, IsIn, is_loop, Route, Stops, Via, Rounds}
+use Rattle.cel_verify.specs.Paths.{IsRouteSum, IsGreatest}
+use Rattle.cel_verify.specs.Walked.{greatest, rounds_of}
+use Rattle.cel_verify.proofs.ToGo.{path_from}
 use Rattle.cel_verify.proofs.RuleParts.{parts_at}
 use Rattle.cel_verify.proofs.Falling.{get_some}
 use Rattle.cel_verify.proofs.PathSums.{every_in, is_ahead, ahead, path_is, path_step}
@@ -24,7 +27,7 @@ greatest_one f t (v ∷ ts) =
     let e = r.2 in
     ⊎_elim (λ lt. (r.0, inr r.1, omega arith)) (λ le. (t, inl refl, omega arith)) (cases_lt (f t) (f r.0))
 
-module _ (image : Image) (sound : IsSound image) (w : ℕ → ℕ) where
+module _ (image : Image) (sound : IsWalked image) (w : ℕ → ℕ) where
   abbrev R : ℕ → ℕ → Type 0
   R = Route w (times_at image) image.code
 
@@ -119,7 +122,7 @@ module _ (image : Image) (sound : IsSound image) (w : ℕ → ℕ) where
       let i = get_some image.code at lt in
       route_at at i.0 i.1 (λ t more inside. route_from n t (omega arith) inside)
 
-  pub greatest_path : IsGreatest w (times_at image) image.code 0 (path_from image w 0)
+  pub greatest_path : IsGreatest (IsRouteSum image w) (path_from image w 0)
   greatest_path =
       record {
         bound = λ sum r. bounded 0 sum r;

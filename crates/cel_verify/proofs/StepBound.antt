@@ -8,9 +8,11 @@ use Rattle.cel_code.specs.declared.instr.Instr.TheVariants.{Item}
 use Rattle.cel_code.specs.declared.instr.Instr.TheVariants as instr
 use Rattle.cel_code.specs.declared.image.Image.{Image}
 use Rattle.cel_verify.specs.StackTypes.{StackTypes}
-use Rattle.cel_verify.specs.Sound.{label_at, IsSound}
-use Rattle.cel_verify.specs.Paths.{charge_of, charge_in, goes_to, greatest, rounds_of, times_at}
-use Rattle.cel_verify.specs.Paths.{charge_at, path_from, path_cost, path_steps, IsIn}
+use Rattle.cel_verify.specs.Sound.{label_at, IsWalked}
+use Rattle.cel_verify.specs.Paths.{charge_of, charge_in, goes_to, times_at}
+use Rattle.cel_verify.specs.Paths.{charge_at, IsIn}
+use Rattle.cel_verify.specs.Walked.{greatest, rounds_of}
+use Rattle.cel_verify.proofs.ToGo.{path_from, path_cost, path_steps}
 use Rattle.cel_verify.proofs.Falling.{get_some}
 use Rattle.cel_verify.proofs.RuleParts.{parts_at}
 use Rattle.cel_verify.proofs.PathSums.{ahead, path_is, path_step}
@@ -26,7 +28,7 @@ loop_sum n times a b s e h k =
     let m : times * s ≤ times * (n * a) = mul-le-mul_left times h in
     omega arith
 
-module _ (image : Image) (sound : IsSound image) where
+module _ (image : Image) (sound : IsWalked image) where
   abbrev steps : ℕ → ℕ
   steps at = path_from image (λ _. 1) at
 

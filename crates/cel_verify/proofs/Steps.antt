@@ -31,9 +31,12 @@ use Rattle.cel_code.specs.Machine.{Inputs, Frame, State, on, Next, Goes, Ends, S
 use Rattle.cel_code.specs.Machine.{and_test, or_test, joined, join, branch, act, act_at, inputs_of, step, Gets, Stays, Moves}
 use Rattle.cel_verify.specs.StackTypes.{StackTypes, all_assignable, Fits, AllFit, constant_type}
 use Rattle.cel_verify.specs.Sound.{given, row_rule, op_rule, constant_rule, enters, is_placed, below_all}
-use Rattle.cel_verify.specs.Sound.{join_rule, end_rule, typed_rule, entered, entry_in, IsSound}
+use Rattle.cel_verify.specs.Sound.{join_rule, end_rule, typed_rule, entry_in, IsWalked}
 use Rattle.cel_verify.specs.Paths.{row_charge, op_charge, text_charge, mapped_charge, charge_of, goes_to, charge_at, IsIn}
-use Rattle.cel_verify.specs.Typed.{opens_at, waits, FramesFit, Typed, total, GoesOn, HasRun, RunsWithin}
+use Rattle.cel_verify.specs.Typed.{opens_at, waits, FramesFit, Typed, HasRun, RunsWithin}
+use Rattle.cel_verify.specs.Walked.{entered}
+use Rattle.cel_verify.proofs.ToGo.{path_cost, path_steps, total, GoesOn}
+use Rattle.cel_verify.proofs.Routes.{greatest_path}
 use Rattle.cel_operators.proofs.Rows.{MadeRight, row_right, one_operand, two_operands, wider}
 use Rattle.cel_operators.proofs.RightRows.{RowRight}
 use Rattle.cel_operators.proofs.FieldRows.{row_with_right}
@@ -57,7 +60,7 @@ abbrev joins : (Side → Side → Outcome) → ℕ → List Outcome → List Fra
 joins f at (y ∷ x ∷ stack) frames = joined (join f (side_of (Some x)) (side_of (Some y))) at stack frames
 joins f at _ frames = Stuck
 
-module _ (image : Image) (slots : List Outcome) (sound : IsSound image) (filled : slots_fit image.slots slots ≡ true) where
+module _ (image : Image) (slots : List Outcome) (sound : IsWalked image) (filled : slots_fit image.slots slots ≡ true) where
   abbrev inputs : Inputs
   inputs = inputs_of image slots
 
@@ -391,6 +394,20 @@ module _ (image : Image) (slots : List Outcome) (sound : IsSound image) (filled 
   ends_from (suc n) s charge steps g t le =
       ends_by n s charge steps g t le (λ m c d h u l. ends_from n m c d h u l) (step image slots s) refl
 
+  -- no more than is to go from the first instruction
+  pub most_charge : (s : State) (charge steps : ℕ) → Gets image slots (on 0 [] []) s charge steps → charge ≤ path_cost image
+  most_charge s charge steps g =
+      let r = gets_typed (on 0 [] []) s charge steps g begins in
+      let a = r.1 in
+      omega arith
+
+  pub most_steps : (s : State) (charge steps : ℕ) → Gets image slots (on 0 [] []) s charge steps → steps + 1 ≤ path_steps image
+  most_steps s charge steps g =
+      let r = gets_typed (on 0 [] []) s charge steps g begins in
+      let a = r.2 in
+      let b = one_left s r.0 in
+      omega arith
+
   pub runs_within : RunsWithin image slots
   runs_within =
       record {
@@ -398,14 +415,11 @@ module _ (image : Image) (slots : List Outcome) (sound : IsSound image) (filled 
             let r = gets_typed (on 0 [] []) s charge steps g begins in
             subst (GoesOn image s) e (step_goes s r.0);
         charge = λ s charge steps g.
-            let r = gets_typed (on 0 [] []) s charge steps g begins in
-            let a = r.1 in
-            omega arith;
+            let dearest = greatest_path image sound (charge_at image) in
+            record { most = path_cost image; is = dearest.attained; within = most_charge s charge steps g };
         steps = λ s charge steps g.
-            let r = gets_typed (on 0 [] []) s charge steps g begins in
-            let a = r.2 in
-            let b = one_left s r.0 in
-            omega arith;
+            let longest = greatest_path image sound (λ _. 1) in
+            record { most = path_steps image; is = longest.attained; within = most_steps s charge steps g };
         outcome = λ s charge steps x g e.
             let r = gets_typed (on 0 [] []) s charge steps g begins in
             subst (GoesOn image s) e (step_goes s r.0);

@@ -8,9 +8,10 @@ use Rattle.std.proofs.lemmas.Option.{slice_get_within}
 use Rattle.std.proofs.Math.Nat.{min-eq_left, min-eq_right}
 use Rattle.cel_code.specs.declared.instr.Instr.{Instr}
 use Rattle.cel_code.specs.declared.image.Image.{Image}
-use Rattle.cel_verify.specs.Sound.{IsSound}
-use Rattle.cel_verify.specs.Paths.{rounds_of, goes_to, greatest, times_at, path_from}
-use Rattle.cel_verify.specs.Walked.{AreWeights, AreSums, behind, ceiling}
+use Rattle.cel_verify.specs.Sound.{IsWalked}
+use Rattle.cel_verify.specs.Paths.{goes_to, times_at}
+use Rattle.cel_verify.specs.Walked.{AreWeights, behind, ceiling, rounds_of, greatest}
+use Rattle.cel_verify.proofs.ToGo.{path_from, AreSums}
 use Rattle.cel_verify.proofs.RuleParts.{parts_at}
 use Rattle.cel_verify.proofs.PathSums.{greatest_same, ahead, path_is, path_past}
 
@@ -48,7 +49,7 @@ ones_weigh n = (length-replicate n 1, λ i lt. get_or-replicate n i 1 0 lt ∙ l
     least = omega arith
 
 -- an instruction's sum by those behind it
-sum_is : (image : Image) (sound : IsSound image) (weigh : ℕ → ℕ) (sums : List ℕ) (at : ℕ) (i : Instr)
+sum_is : (image : Image) (sound : IsWalked image) (weigh : ℕ → ℕ) (sums : List ℕ) (at : ℕ) (i : Instr)
     → AreSums image weigh (at + 1) sums → slice_get image.code at ≡ Some i
     → min (slice_index sums at + rounds_of i (times_at image at) * slice_index sums (at + 1)
     + greatest (λ t. slice_index sums t) (goes_to i at)) ceiling
@@ -79,7 +80,7 @@ saturated : (own product rest more sum cap : ℕ) → more ≡ min (product + re
 saturated own product rest more sum cap em es = omega arith
 
 -- one instruction earlier, by saturating arithmetic
-pub sums_next : (image : Image) (sound : IsSound image) (weigh : ℕ → ℕ) (sums : List ℕ) (at rest sum : ℕ) (i : Instr)
+pub sums_next : (image : Image) (sound : IsWalked image) (weigh : ℕ → ℕ) (sums : List ℕ) (at rest sum : ℕ) (i : Instr)
     → AreSums image weigh (at + 1) sums → slice_get image.code at ≡ Some i
     → rest ≡ min (behind sums (times_at image at) i at) ceiling → sum ≡ min (slice_index sums at + rest) ceiling
     → AreSums image weigh at (slice_set sums at sum)

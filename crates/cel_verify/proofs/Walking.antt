@@ -16,7 +16,9 @@ use Rattle.cel_verify.specs.StackTypes.{StackTypes}
 use Rattle.cel_verify.specs.Sound.{Label, every, jumps_of, is_named, is_wanted, is_target, is_nested, rule_at, fallen}
 use Rattle.cel_verify.specs.Sound.{entry_in, entry_or, opening, still_open, opens_after, next_label, label_at, Holds, EndsOnce}
 use Rattle.cel_verify.specs.Walked.{labelled, rule_here, typed_here, Advances, Passes, IsBefore, AllHold, AreMeasures, IsWalkFault}
+use Rattle.cel_verify.proofs.Labels.{walks}
 use Rattle.cel_verify.proofs.Openings.{met}
+use Rattle.cel_verify.proofs.RuleParts.{rule_within}
 
 -- at the first instruction
 pub before_first : (image : Image) (types : StackTypes) (opens : List Open) → types ≡ [] → opens ≡ []
@@ -78,7 +80,7 @@ pub walk_refused : (image : Image) (e : VerifyError) → IsCounted image → End
     → IsRefused image e
 walk_refused image OutOfMemory k n h = tt
 walk_refused image (Fault f) k n h =
-    (Breaks k n h, λ a. let holds = (a.sound.each f.at h.inside).is in let broken = h.is in cc)
+    (Breaks k n h, λ a. let holds = ((walks image a.sound).each f.at h.inside).is in let broken = h.is in cc)
 
 -- an instruction whose constants and jumps are there and which stands where it may
 module _ (image : Image) (at : ℕ) (i : Instr) (ts : StackTypes) (opens : List Open) (is : slice_get image.code at ≡ Some i)
@@ -87,6 +89,7 @@ module _ (image : Image) (at : ℕ) (i : Instr) (ts : StackTypes) (opens : List 
   pub rule_is : rule_here image at (labelled (Some ts) opens) ≡ typed_here image at i ts opens
   rule_is =
       ap (λ o. rule_at image at o (labelled (Some ts) opens)) is
+      ∙ rule_within image at i (labelled (Some ts) opens)
       ∙ met (is_named image i) BadConstant _ named
       ∙ met (is_wanted image at && every (is_target image at) (jumps_of i)) BadTarget _ aims
       ∙ met (is_nested image at i opens) BadNesting _ nested

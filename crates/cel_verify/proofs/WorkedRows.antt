@@ -12,8 +12,8 @@ use Rattle.cel_operators.specs.declared.text_operator.TextOperator.TheVariants.{
 use Rattle.cel_operators.specs.declared.type_rule.TypeRule.TheVariants.{TooLarge}
 use Rattle.cel_verify.specs.declared.fault.VerifyRule.TheVariants.{Underflow, WrongKind, BadTarget, BadConstant, OverBudget}
 use Rattle.cel_verify.specs.Sound.{Open, rule_at, label_at, is_nested, closing_rule}
-use Rattle.cel_verify.specs.Paths.{path_cost, path_steps}
 use Rattle.cel_verify.specs.Accepted.{misplaced_entry}
+use Rattle.cel_verify.proofs.ToGo.{path_cost, path_steps}
 use Rattle.cel_value.proofs.Reflexive.{assignable-refl}
 
 abbrev whole : List Instr → Image

@@ -11,16 +11,16 @@ use Rattle.cel_verify.specs.declared.fault.VerifyFault.{VerifyFault}
 use Rattle.cel_verify.specs.declared.fault.VerifyError.{VerifyError}
 use Rattle.cel_verify.specs.declared.fault.VerifyError.TheVariants.{OutOfMemory, Fault}
 use Rattle.cel_verify.specs.Sound.{EndsOnce, IsSound, IsFirstFault}
-use Rattle.cel_verify.specs.Paths.{path_cost, path_steps}
+use Rattle.cel_verify.specs.Paths.{IsRouteCharge, IsRouteLength, IsPathCost, IsPathSteps}
 use Rattle.cel_verify.specs.Depths.{greatest_depth, greatest_nesting}
-use Rattle.cel_verify.specs.Walked.{ceiling}
+use Rattle.cel_verify.specs.Walked.{ceiling, IsCapped}
 use Rattle.cel_verify.specs.declared.bounds.Bounds.{Bounds}
 
 -- the most instructions, constants, slots and targets
 abbrev pub max_count : ℕ
 max_count = 65536
 
--- the most that the dearest route may charge
+-- the most that a route may charge
 abbrev pub budget : ℕ
 budget = 10000000
 
@@ -56,24 +56,24 @@ misplaced count least (e ∷ es) = if nat_le least e.at && nat_lt e.at count the
 abbrev pub misplaced_entry : Image → Option ℕ
 misplaced_entry image = misplaced (length image.code) 0 image.targets
 
--- an image that is accepted
+-- an image that is accepted: no forward route charges more than the budget
 pub record IsAccepted (image : Image) : Type 0 where
   pub counted : IsCounted image
   pub sound : IsSound image
   pub placed : misplaced_entry image ≡ None
-  pub cheap : path_cost image ≤ budget
+  pub cheap : (charge : ℕ) → IsRouteCharge image charge → charge ≤ budget
 
 -- the bounds of an image
 pub record AreBounds (image : Image) (bounds : Bounds) : Type 0 where
-  pub cost : bounds.cost ≡ path_cost image
-  pub steps : bounds.steps ≡ path_steps image
+  pub cost : IsPathCost image bounds.cost
+  pub steps : IsPathSteps image bounds.steps
   pub depth : bounds.depth ≡ greatest_depth image
   pub nesting : bounds.nesting ≡ greatest_nesting image
 
 -- the bounds of an image, each up to the greatest number of 64 bits
 pub record AreCapped (image : Image) (bounds : Bounds) : Type 0 where
-  pub cost : bounds.cost ≡ min (path_cost image) ceiling
-  pub steps : bounds.steps ≡ min (path_steps image) ceiling
+  pub cost : IsCapped (IsRouteCharge image) bounds.cost
+  pub steps : IsCapped (IsRouteLength image) bounds.steps
   pub depth : bounds.depth ≡ min (greatest_depth image) ceiling
   pub nesting : bounds.nesting ≡ greatest_nesting image
 
@@ -82,14 +82,14 @@ abbrev pub fault : VerifyRule → ℕ → VerifyFault
 fault broken at = record { rule = broken; at = at }
 
 -- why an image is not accepted: in this order, a list is too long, END is not last and alone, an instruction breaks its
--- rule, an entry is out of its place, the dearest route charges too much
+-- rule, an entry is out of its place, a route charges too much
 pub data IsFault (image : Image) (f : VerifyFault) : Type 0 where
   TooMany : ¬ IsCounted image → f ≡ fault TooDeep 0 → IsFault image f
   EndsWrong : IsCounted image → IsWrongEnd image.code f.at → f.rule ≡ BadTarget → IsFault image f
   Breaks : IsCounted image → EndsOnce image.code → IsFirstFault image f.at f.rule → IsFault image f
   Misplaced : IsCounted image → IsSound image → misplaced_entry image ≡ Some f.at → f.rule ≡ BadTarget → IsFault image f
-  TooDear : IsCounted image → IsSound image → misplaced_entry image ≡ None → budget < path_cost image
-      → f ≡ fault OverBudget (length image.code - 1) → IsFault image f
+  TooDear : IsCounted image → IsSound image → misplaced_entry image ≡ None
+      → (charge : ℕ) → IsRouteCharge image charge → budget < charge → f ≡ fault OverBudget (length image.code - 1) → IsFault image f
 
 -- a refusal: for want of memory, or for the image's fault, with which it is not accepted
 abbrev pub IsRefused : Image → VerifyError → Type 0

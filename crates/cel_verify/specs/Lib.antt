@@ -5,6 +5,5 @@ pub mod Sound
 pub mod StackTypes
 pub mod Walked
 pub mod Typed
-pub mod Labelled
 pub mod Depths
 pub mod Bodies

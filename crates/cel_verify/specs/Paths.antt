@@ -1,6 +1,6 @@
--- The greatest sums over the forward routes.
-use Rattle.std.specs.Prelude.{◌≡◌, ℕ, Bool, true, false, ◌+◌, ◌-◌, ◌*◌, ◌<◌, ◌≤◌, max, ◌⊎◌}
-use Rattle.std.specs.Prelude.{List, [], ◌∷◌, slice_get, slice_index, Option, Some, None}
+-- The forward routes through code, and the greatest of their sums.
+use Rattle.std.specs.Prelude.{◌≡◌, ℕ, Bool, true, false, ◌+◌, ◌*◌, ◌<◌, ◌≤◌, ◌⊎◌}
+use Rattle.std.specs.Prelude.{List, [], ◌∷◌, slice_get, Option, Some, None}
 use Rattle.cel_value.specs.declared.value.Value.{Value}
 use Rattle.cel_operators.specs.declared.operator.Operator.{Operator}
 use Rattle.cel_operators.specs.declared.text_operator.TextOperator.{TextOperator}
@@ -71,26 +71,6 @@ goes_to Next at = []
 goes_to End at = []
 goes_to _ at = (at + 1) ∷ []
 
--- the greatest of what f tells of these; nothing where there are none
-abbrev pub greatest : (ℕ → ℕ) → List ℕ → ℕ
-greatest f [] = 0
-greatest f (t ∷ ts) = max (f t) (greatest f ts)
-
--- how often the instructions behind an instruction count, as the body of a loop that begins there
-abbrev pub rounds_of : Instr → ℕ → ℕ
-rounds_of (instr.Loop l exit) times = times
-rounds_of _ times = 0
-
--- from one instruction, where f tells those behind it
-abbrev pub from_one : (ℕ → ℕ) → (ℕ → ℕ) → Instr → ℕ → (ℕ → ℕ) → ℕ
-from_one weigh times i at f = weigh at + (rounds_of i (times at) * f (at + 1) + greatest f (goes_to i at))
-
--- from each of these instructions to the end of its body, where the first has this number
-abbrev pub to_go : (ℕ → ℕ) → (ℕ → ℕ) → List Instr → ℕ → List ℕ
-to_go weigh times [] at = []
-to_go weigh times (i ∷ is) at =
-    from_one weigh times i at (λ t. slice_index (to_go weigh times is (at + 1)) (t - (at + 1))) ∷ to_go weigh times is (at + 1)
-
 -- the most items of a range
 abbrev pub most_items : Option Span → ℕ
 most_items None = 0
@@ -108,18 +88,6 @@ times_at image at = items_on_top (label_at image at).types
 -- the greatest charge of an instruction at its label
 abbrev pub charge_at : Image → ℕ → ℕ
 charge_at image at = charge_in image.constants (slice_get image.code at) (label_at image at).types
-
--- the greatest sum of weights from an instruction on
-abbrev pub path_from : Image → (ℕ → ℕ) → ℕ → ℕ
-path_from image weigh at = slice_index (to_go weigh (times_at image) image.code 0) at
-
--- the charge of the dearest route
-abbrev pub path_cost : Image → ℕ
-path_cost image = path_from image (charge_at image) 0
-
--- the instructions of the longest route
-abbrev pub path_steps : Image → ℕ
-path_steps image = path_from image (λ _. 1) 0
 
 -- a number is one of these
 abbrev pub IsIn : ℕ → List ℕ → Type 0
@@ -141,7 +109,38 @@ pub data Route (weigh times : ℕ → ℕ) (code : List Instr) : ℕ → ℕ →
       → Route weigh times code (at + 1) body → Route weigh times code exit rest → sum ≡ weigh at + (times at * body + rest)
       → Route weigh times code at sum
 
--- the greatest sum of the routes from an instruction
-pub record IsGreatest (weigh times : ℕ → ℕ) (code : List Instr) (at greatest : ℕ) : Type 0 where
-  pub bound : (sum : ℕ) → Route weigh times code at sum → sum ≤ greatest
-  pub attained : Route weigh times code at greatest
+-- a forward route from the first instruction has this sum of weights
+abbrev pub IsRouteSum : Image → (ℕ → ℕ) → ℕ → Type 0
+IsRouteSum image weigh sum = Route weigh (times_at image) image.code 0 sum
+
+-- a forward route charges this, where each instruction charges the most that it may at its label
+abbrev pub IsRouteCharge : Image → ℕ → Type 0
+IsRouteCharge image charge = IsRouteSum image (charge_at image) charge
+
+-- a forward route has so many instructions
+abbrev pub IsRouteLength : Image → ℕ → Type 0
+IsRouteLength image steps = IsRouteSum image (λ _. 1) steps
+
+-- the greatest number of these
+pub record IsGreatest (Is : ℕ → Type 0) (greatest : ℕ) : Type 0 where
+  pub bound : (n : ℕ) → Is n → n ≤ greatest
+  pub attained : Is greatest
+
+-- there is a greatest number of these
+pub record HasGreatest (Is : ℕ → Type 0) : Type 0 where
+  pub most : ℕ
+  pub is : IsGreatest Is most
+
+-- no more than one of these
+pub record IsWithin (Is : ℕ → Type 0) (n : ℕ) : Type 0 where
+  pub most : ℕ
+  pub is : Is most
+  pub within : n ≤ most
+
+-- the charge of the dearest route
+abbrev pub IsPathCost : Image → ℕ → Type 0
+IsPathCost image cost = IsGreatest (IsRouteCharge image) cost
+
+-- the instructions of the longest route
+abbrev pub IsPathSteps : Image → ℕ → Type 0
+IsPathSteps image steps = IsGreatest (IsRouteLength image) steps

@@ -1,4 +1,4 @@
--- Sound images: each instruction keeps its rule at the types of the stack there.
+-- Sound images: each instruction has a label, the types of the stack there and the open loops, and keeps its rule at it.
 use Rattle.std.specs.Prelude.{◌≡◌, ℕ, zero, suc, ◌+◌, ◌-◌, ◌<◌, Bool, true, false, not, ◌++◌}
 use Rattle.std.specs.Prelude.{◌&&◌, ◌||◌, nat_eq, nat_lt, nat_le, List, [], ◌∷◌, reverse, length}
 use Rattle.std.specs.Prelude.{slice_get, if◌then◌else◌, Option, Some, None, Result, Ok, Err}
@@ -259,12 +259,6 @@ typed_rule image When opens ts = when_rule ts
 typed_rule image Next opens ts = next_rule opens ts
 typed_rule image End opens ts = end_rule image.result ts
 
--- what goes on may stand at the next instruction's entry; what has a limit past the greatest is assignable to no entry
-abbrev pub entered : Option StackTypes → Falls → Falls
-entered (Some es) (Ok (Some ts)) = needs (all_assignable ts es) WrongKind (Ok (Some ts))
-entered (Some es) (Err OverBudget) = Err WrongKind
-entered _ r = r
-
 -- the most operands, over all open loops together
 abbrev pub max_depth : ℕ
 max_depth = 16384
@@ -272,12 +266,6 @@ max_depth = 16384
 -- the most open loops
 abbrev pub max_loops : ℕ
 max_loops = 100
-
--- what goes on is no deeper than the stack may be, with no more loops open than may be
-abbrev pub shallow : List Open → Falls → Falls
-shallow opens (Ok (Some ts)) =
-    needs (nat_le (length ts + length (below_all opens)) max_depth && nat_le (length opens) max_loops) TooDeep (Ok (Some ts))
-shallow opens r = r
 
 -- one loop more is open, whose range is of a type and which leads to an entry
 abbrev pub with_loop : ℕ → ℕ → Loop → StackTypes → Option Span → Option StackTypes → List Open → List Open
@@ -296,28 +284,68 @@ abbrev pub still_open : ℕ → List Open → List Open
 still_open at [] = []
 still_open at (o ∷ os) = if nat_lt at o.exit then o ∷ os else still_open at os
 
--- what a rule says of the types at an instruction, where it is reached
-abbrev pub reached : Option StackTypes → (StackTypes → Falls) → Falls
-reached None f = Err BadTarget
-reached (Some ts) f = f ts
+-- what a rule makes of the types, where there are some
+abbrev pub on_types : Option StackTypes → (StackTypes → Falls) → Falls
+on_types None f = Err BadTarget
+on_types (Some ts) f = f ts
 
--- an instruction's rule; its first part that is broken is the fault
+-- what an instruction makes of the types at its label, where it is reached
+abbrev pub made : Image → Instr → Label → Falls
+made image i l = on_types l.types (typed_rule image i l.opens)
+
+-- the fault of a condition that fails
+abbrev pub unless : Bool → VerifyRule → Option VerifyRule
+unless true broken = None
+unless false broken = Some broken
+
+-- the fault of what is made of the types; what has a limit past the greatest is assignable to no entry
+abbrev pub untyped : Option StackTypes → Falls → Option VerifyRule
+untyped (Some es) (Err OverBudget) = Some WrongKind
+untyped entry (Err broken) = Some broken
+untyped entry (Ok next) = None
+
+-- what goes on may stand at the next instruction's entry, if there is one
+abbrev pub may_stand : Option StackTypes → Falls → Bool
+may_stand (Some es) (Ok (Some ts)) = all_assignable ts es
+may_stand _ _ = true
+
+-- what goes on is no deeper than the stack may be, with no more loops open than may be
+abbrev pub is_shallow : List Open → Falls → Bool
+is_shallow opens (Ok (Some ts)) = nat_le (length ts + length (below_all opens)) max_depth && nat_le (length opens) max_loops
+is_shallow opens _ = true
+
+-- what an instruction's rule asks, in order: each condition with its fault, if it fails
+abbrev pub faults : Image → ℕ → Instr → Label → List (Option VerifyRule)
+faults image at i l =
+    unless (is_named image i) BadConstant
+    ∷ unless (is_wanted image at) BadTarget
+    ∷ unless (every (is_target image at) (jumps_of i)) BadTarget
+    ∷ unless (is_there l.types) BadTarget
+    ∷ unless (is_nested image at i l.opens) BadNesting
+    ∷ untyped (entry_in image.targets (at + 1)) (made image i l)
+    ∷ unless (may_stand (entry_in image.targets (at + 1)) (made image i l)) WrongKind
+    ∷ unless (is_shallow (opening image at (Some i) l.types l.opens) (made image i l)) TooDeep
+    ∷ []
+
+-- the first fault of these, or what goes on where there is none
+abbrev pub first_of : List (Option VerifyRule) → Option StackTypes → Falls
+first_of [] next = Ok next
+first_of (None ∷ fs) next = first_of fs next
+first_of (Some broken ∷ fs) next = Err broken
+
+-- what goes on, where there is no fault
+abbrev pub fallen : Falls → Option StackTypes
+fallen (Ok next) = next
+fallen (Err broken) = None
+
+-- an instruction's rule: its first fault, or what goes on
 abbrev pub rule : Image → ℕ → Instr → Label → Falls
-rule image at i l =
-    needs (is_named image i) BadConstant
-    (needs (is_wanted image at && every (is_target image at) (jumps_of i)) BadTarget
-    (reached l.types (λ ts. needs (is_nested image at i l.opens) BadNesting
-    (shallow (opening image at (Some i) l.types l.opens) (entered (entry_in image.targets (at + 1)) (typed_rule image i l.opens ts))))))
+rule image at i l = first_of (faults image at i l) (fallen (made image i l))
 
 -- the rule of the instruction at a place, if there is one
 abbrev pub rule_at : Image → ℕ → Option Instr → Label → Falls
 rule_at image at None l = Err BadTarget
 rule_at image at (Some i) l = rule image at i l
-
--- what goes on, where the rule holds
-abbrev pub fallen : Falls → Option StackTypes
-fallen (Ok o) = o
-fallen (Err broken) = None
 
 -- the types where jumps arrive, or else those that go on
 abbrev pub entry_or : Option StackTypes → Option StackTypes → Option StackTypes
@@ -328,12 +356,46 @@ entry_or None o = o
 abbrev pub opens_after : Image → ℕ → Option Instr → Label → List Open
 opens_after image at o l = still_open (suc at) (opening image at o l.types l.opens)
 
+-- END is the last instruction and stands nowhere else
+pub record EndsOnce (code : List Instr) : Type 0 where
+  pub last : ℕ
+  pub long : length code ≡ last + 1
+  pub ends : slice_get code last ≡ Some End
+  pub alone : (at : ℕ) → slice_get code at ≡ Some End → at ≡ last
+
+-- the label of an instruction that is reached: the types above the innermost frame, and the open loops, the innermost first
+pub record Reached : Type 0 where
+  pub types : StackTypes
+  pub opens : List Open
+
+-- the same, as a label
+abbrev pub reached_label : Reached → Label
+reached_label r = record { types = Some r.types; opens = r.opens }
+
+-- the rule of an instruction holds, and what goes on from it or arrives by jumps is the next one's
+pub record Leads (image : Image) (at : ℕ) (here there : Reached) : Type 0 where
+  pub next : Option StackTypes
+  pub holds : rule_at image at (slice_get image.code at) (reached_label here) ≡ Ok next
+  pub types : at + 1 < length image.code → entry_or (entry_in image.targets (at + 1)) next ≡ Some there.types
+  pub opens : opens_after image at (slice_get image.code at) (reached_label here) ≡ there.opens
+
+-- a label for each instruction, where each leads to the next
+pub record IsLabelling (image : Image) (label : ℕ → Reached) : Type 0 where
+  pub first : label 0 ≡ record { types = []; opens = [] }
+  pub each : (at : ℕ) → at < length image.code → Leads image at (label at) (label (at + 1))
+
+-- a sound image: END is last and alone, and there is a label for each instruction, where each leads to the next
+pub record IsSound (image : Image) : Type 0 where
+  pub ends : EndsOnce image.code
+  pub label : ℕ → Reached
+  pub is : IsLabelling image label
+
 -- the label of the next instruction: the types where jumps arrive there, or else what goes on to it
 abbrev pub next_label : Image → ℕ → Option Instr → Label → Label
 next_label image at o l =
     record { types = entry_or (entry_in image.targets (suc at)) (fallen (rule_at image at o l)); opens = opens_after image at o l }
 
--- the label of each instruction, one after another; at the first the stack is empty
+-- the labels one after another, whether rules hold or not; at the first the stack is empty
 abbrev pub label_at : Image → ℕ → Label
 label_at image zero = record { types = Some []; opens = [] }
 label_at image (suc at) = next_label image at (slice_get image.code at) (label_at image at)
@@ -343,15 +405,8 @@ pub record Holds (image : Image) (at : ℕ) : Type 0 where
   pub next : Option StackTypes
   pub is : rule_at image at (slice_get image.code at) (label_at image at) ≡ Ok next
 
--- END is the last instruction and stands nowhere else
-pub record EndsOnce (code : List Instr) : Type 0 where
-  pub last : ℕ
-  pub long : length code ≡ last + 1
-  pub ends : slice_get code last ≡ Some End
-  pub alone : (at : ℕ) → slice_get code at ≡ Some End → at ≡ last
-
--- each instruction keeps its rule
-pub record IsSound (image : Image) : Type 0 where
+-- each instruction keeps its rule at its label of the walk
+pub record IsWalked (image : Image) : Type 0 where
   pub ends : EndsOnce image.code
   pub each : (at : ℕ) → at < length image.code → Holds image at
 

@@ -1,7 +1,6 @@
--- States that fit their labels, and what is still to pay from them.
-use Rattle.std.specs.Prelude.{◌≡◌, ◌≢◌, ℕ, zero, suc, true, ◌+◌, ◌<◌, ◌≤◌, List, [], ◌∷◌, ◌++◌, length, Option, Some, Ok, slice_get}
+-- States that fit their labels, and what every run keeps to.
+use Rattle.std.specs.Prelude.{◌≡◌, ◌≢◌, ℕ, true, ◌+◌, ◌<◌, ◌≤◌, List, [], ◌∷◌, ◌++◌, length, Option, Some, Ok, slice_get}
 use Rattle.std.specs.List.{list_all}
-use Rattle.cel_value.specs.declared.value.Value.{Value}
 use Rattle.cel_value.specs.declared.cel_type.CelType.{CelType}
 use Rattle.cel_value.specs.declared.cel_type.CelType as type
 use Rattle.cel_value.specs.CelType.{fits, assignable}
@@ -10,11 +9,11 @@ use Rattle.cel_code.specs.declared.instr.Instr.{Instr}
 use Rattle.cel_code.specs.declared.instr.Instr.TheVariants.{Item}
 use Rattle.cel_code.specs.declared.image.Image.{Image}
 use Rattle.cel_operators.specs.Outcomes.{Outcome}
-use Rattle.cel_code.specs.Machine.{Frame, State, on, Next, Goes, Ends, Stuck, step, Gets, Run}
+use Rattle.cel_code.specs.Machine.{Frame, State, on, Ends, Stuck, step, Gets, Run}
 use Rattle.cel_verify.specs.StackTypes.{StackTypes, Fits, AllFit, all_assignable}
 use Rattle.cel_verify.specs.declared.open_loop.Open.{Open}
 use Rattle.cel_verify.specs.Sound.{label_at, below_all, no_items}
-use Rattle.cel_verify.specs.Paths.{path_from, charge_at, path_cost, path_steps}
+use Rattle.cel_verify.specs.Paths.{IsRouteCharge, IsRouteLength, IsWithin}
 
 -- the types of an instruction's label
 abbrev pub types_at : Image → ℕ → Option StackTypes
@@ -77,33 +76,6 @@ pub record Typed (image : Image) (s : State) : Type 0 where
   pub fits : AllFit s.stack (types ++ below_all (opens_at image s.at))
   pub frames : FramesFit image (waits_at image s.at) s.frames (opens_at image s.at)
 
--- the items whose turns are still to begin
-abbrev pub to_come : ℕ → List Value → List Value
-to_come zero [] = []
-to_come zero (v ∷ vs) = vs
-to_come (suc n) vs = vs
-
--- so much for each of these
-abbrev pub rounds : List Value → ℕ → ℕ
-rounds [] n = 0
-rounds (v ∷ vs) n = n + rounds vs n
-
--- what the open loops have still to go, where g tells what there is to go from an instruction to the end of its body
-abbrev pub owed : (ℕ → ℕ) → ℕ → List Frame → ℕ
-owed g waiting [] = 0
-owed g waiting (f ∷ fs) = rounds (to_come waiting f.left) (g (f.start + 1)) + g f.exit + owed g 1 fs
-
--- the greatest sum of weights that a state has still to go
-abbrev pub total : Image → (ℕ → ℕ) → State → ℕ
-total image weigh s = path_from image weigh s.at + owed (path_from image weigh) (waits_at image s.at) s.frames
-
--- a step goes on to such a state, pays for itself at every weighing, or ends with an outcome of the image's type
-abbrev pub GoesOn : Image → State → Next → Type 0
-GoesOn image s (Goes charge to) = Typed image to × (charge ≤ charge_at image s.at)
-    × ((weigh : ℕ → ℕ) → weigh s.at + total image weigh to ≤ total image weigh s)
-GoesOn image s (Ends x) = Fits x image.result
-GoesOn image s Stuck = ⊥
-
 -- a run, with what it ends with, charges and takes
 pub record HasRun (image : Image) (slots : List Outcome) : Type 0 where
   pub outcome : Outcome
@@ -115,8 +87,10 @@ pub record HasRun (image : Image) (slots : List Outcome) : Type 0 where
 -- the longest route has, for no more than the dearest route charges, with an outcome of the image's type
 pub record RunsWithin (image : Image) (slots : List Outcome) : Type 0 where
   pub never : (s : State) (charge steps : ℕ) → Gets image slots (on 0 [] []) s charge steps → step image slots s ≢ Stuck
-  pub charge : (s : State) (charge steps : ℕ) → Gets image slots (on 0 [] []) s charge steps → charge ≤ path_cost image
-  pub steps : (s : State) (charge steps : ℕ) → Gets image slots (on 0 [] []) s charge steps → steps + 1 ≤ path_steps image
+  pub charge : (s : State) (charge steps : ℕ) → Gets image slots (on 0 [] []) s charge steps
+      → IsWithin (IsRouteCharge image) charge
+  pub steps : (s : State) (charge steps : ℕ) → Gets image slots (on 0 [] []) s charge steps
+      → IsWithin (IsRouteLength image) (steps + 1)
   pub outcome : (s : State) (charge steps : ℕ) (x : Outcome) → Gets image slots (on 0 [] []) s charge steps → step image slots s ≡ Ends x
       → Fits x image.result
   pub ends : HasRun image slots

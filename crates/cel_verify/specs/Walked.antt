@@ -1,7 +1,7 @@
 -- What the verifier's parts answer.
 use Rattle.std.specs.Borrow.{Bor}
 use Rattle.std.specs.Prelude.{◌≡◌, ℕ, ◌+◌, ◌*◌, ◌<◌, ◌≤◌, min, max, ◌-◌, ◌^◌, List, [], ◌++◌, length}
-use Rattle.std.specs.Prelude.{slice_get, slice_index, reverse, ◌∷◌, Option, Some, None, Result, Ok, Err, MatchResult}
+use Rattle.std.specs.Prelude.{slice_get, slice_index, reverse, ◌∷◌, Option, Some, None, Result, Ok, Err, MatchResult, nat_le, ◌&&◌}
 use Rattle.cel_value.specs.declared.cel_type.CelType.{CelType}
 use Rattle.cel_value.specs.declared.cel_type.CelType as type
 use Rattle.cel_value.specs.declared.value.Value.{Value}
@@ -15,17 +15,17 @@ use Rattle.cel_code.specs.declared.instr.Instr.TheVariants as instr
 use Rattle.cel_code.specs.declared.instr.Instr.TheVariants.{End}
 use Rattle.cel_code.specs.declared.image.Image.{Image}
 use Rattle.cel_operators.specs.Operators.{Row, type_of_one, type_of_two, greatest_of_one, greatest_of_two}
-use Rattle.cel_verify.specs.declared.fault.VerifyRule.TheVariants.{Underflow}
+use Rattle.cel_verify.specs.declared.fault.VerifyRule.TheVariants.{Underflow, WrongKind, TooDeep, OverBudget}
 use Rattle.cel_verify.specs.declared.fault.VerifyError.{VerifyError}
 use Rattle.cel_verify.specs.declared.fault.VerifyError.TheVariants.{OutOfMemory, Fault}
 use Rattle.cel_verify.specs.declared.refusal.Refusal.{Refusal}
 use Rattle.cel_verify.specs.declared.refusal.Refusal.TheVariants.{Broken, NoMemory}
-use Rattle.cel_verify.specs.StackTypes.{StackTypes}
+use Rattle.cel_verify.specs.StackTypes.{StackTypes, all_assignable}
 use Rattle.cel_verify.specs.declared.open_loop.Open.{Open}
 use Rattle.cel_verify.specs.declared.measures.Measures.{Measures}
-use Rattle.cel_verify.specs.Sound.{Label, Falls, given, entered, shallow, typed_rule, rule_at, entry_in, entry_or, label_at}
+use Rattle.cel_verify.specs.Sound.{Label, Falls, needs, given, typed_rule, rule_at, entry_in, entry_or, label_at, max_depth, max_loops}
 use Rattle.cel_verify.specs.Sound.{below_all, no_items, empty_rule, loop_rule, opening, still_open, Holds, IsFirstFault}
-use Rattle.cel_verify.specs.Paths.{charge_in, charge_at, items_on_top, times_at, rounds_of, goes_to, greatest, path_from}
+use Rattle.cel_verify.specs.Paths.{charge_in, charge_at, items_on_top, times_at, goes_to, IsGreatest}
 use Rattle.cel_verify.specs.Depths.{operands_of, deepest, most_open}
 
 -- a rule's refusal: the rule that is broken, or want of memory
@@ -76,6 +76,18 @@ pub record Advances (image : Image) (at : ℕ) (here there : Label) : Type 0 whe
   pub holds : rule_here image at here ≡ Ok next
   pub entry : entry_or (entry_in image.targets (at + 1)) next ≡ there.types
   pub opens : still_open (at + 1) (opening image at (slice_get image.code at) here.types here.opens) ≡ there.opens
+
+-- what goes on, where it may stand at an entry; what has a limit past the greatest is assignable to no entry
+abbrev pub entered : Option StackTypes → Falls → Falls
+entered (Some es) (Ok (Some ts)) = needs (all_assignable ts es) WrongKind (Ok (Some ts))
+entered (Some es) (Err OverBudget) = Err WrongKind
+entered _ r = r
+
+-- what goes on, where it is no deeper than the stack may be and no more loops are open than may be
+abbrev pub shallow : List Open → Falls → Falls
+shallow opens (Ok (Some ts)) =
+    needs (nat_le (length ts + length (below_all opens)) max_depth && nat_le (length opens) max_loops) TooDeep (Ok (Some ts))
+shallow opens r = r
 
 -- what goes on to an instruction among these open loops, where it may stand there and is no deeper than the stack may be
 abbrev pub arrived : Image → ℕ → List Open → Falls → Falls
@@ -169,13 +181,22 @@ IsWalkFault image (Fault f) = IsFirstFault image f.at f.rule
 abbrev pub NoEndBefore : List Instr → ℕ → Type 0
 NoEndBefore code n = (i : ℕ) → i < n → slice_get code i ≡ Some End → ⊥
 
+-- the greatest of what f tells of these; nothing where there are none
+abbrev pub greatest : (ℕ → ℕ) → List ℕ → ℕ
+greatest f [] = 0
+greatest f (t ∷ ts) = max (f t) (greatest f ts)
+
+-- how often the instructions behind an instruction count, as the body of a loop that begins there
+abbrev pub rounds_of : Instr → ℕ → ℕ
+rounds_of (instr.Loop l exit) times = times
+rounds_of _ times = 0
+
 -- the greatest sum of what comes behind an instruction, by the sums from each: its body so many times, and where it goes
 abbrev pub behind : List ℕ → ℕ → Instr → ℕ → ℕ
 behind sums times i at = rounds_of i times * slice_index sums (at + 1) + greatest (λ t. slice_index sums t) (goes_to i at)
 
--- the weight of each instruction before one, and from there on the greatest sum of its routes, both up to the ceiling
-pub record AreSums (image : Image) (weigh : ℕ → ℕ) (at : ℕ) (sums : List ℕ) : Type 0 where
-  pub inside : at ≤ length image.code
-  pub long : length sums ≡ length image.code
-  pub weights : (i : ℕ) → i < at → slice_index sums i ≡ min (weigh i) ceiling
-  pub paths : (i : ℕ) → at ≤ i → slice_index sums i ≡ min (path_from image weigh i) ceiling
+-- the greatest number of these, up to the ceiling
+pub record IsCapped (Is : ℕ → Type 0) (n : ℕ) : Type 0 where
+  pub most : ℕ
+  pub is : IsGreatest Is most
+  pub capped : n ≡ min most ceiling

@@ -8,7 +8,7 @@ ghost use Rattle.cel_verify.specs.Paths.{text_charge, row_charge, charge_in};
 ghost use Rattle.cel_verify.specs.Walked.{charge_on_one, charge_on_two};
 
 use crate::constants::constant_text;
-use crate::mapped::map_charge;
+use crate::map_rule::map_charge;
 use crate::type_stack::TypeStack;
 use cel_check::{Operands, Operator, TextOperator, greatest_of_one, greatest_of_two};
 use cel_code::{Image, Instr};

@@ -1,8 +1,7 @@
 ghost use Rattle.std.specs.Prelude.{◌≡◌, ◌↔◌, ◌≤◌, true, List, IsTrue, Err, IfOk, IfErr, MatchOption, MatchResult, length};
 ghost use Rattle.cel_operators.specs.Outcomes.{Outcome, slots_fit};
-ghost use Rattle.cel_verify.specs.Sound.{EndsOnce, IsSound, max_depth as most_operands, max_loops as most_loops};
-ghost use Rattle.cel_verify.specs.Labelled.{HasLabelling};
-ghost use Rattle.cel_verify.specs.Paths.{IsGreatest, charge_at, times_at, path_cost as cost_of_path, path_steps as steps_of_path};
+ghost use Rattle.cel_verify.specs.Sound.{EndsOnce, IsSound, IsWalked, max_depth as most_operands, max_loops as most_loops};
+ghost use Rattle.cel_verify.specs.Paths.{HasGreatest, IsRouteCharge, IsRouteLength, IsPathCost, IsPathSteps};
 ghost use Rattle.cel_verify.specs.Typed.{RunsWithin};
 ghost use Rattle.cel_verify.specs.Depths.{greatest_depth, greatest_nesting, NeverMore, NeverMoreLoops};
 ghost use Rattle.cel_verify.specs.Walked.{AreMeasures};
@@ -55,7 +54,7 @@ impl Program {
 
     /// The charge of the dearest route, 10,000,000 at most: no run charges more.
     pub fn cost_bound(&self) -> u64
-        ensures cost { result ≡ cost_of_path self.now }
+        ensures cost { IsPathCost self.now result }
         ensures within { result ≤ budget }
     {
         self.bounds.cost
@@ -63,7 +62,7 @@ impl Program {
 
     /// The instructions of the longest route: no run takes more steps.
     pub fn step_bound(&self) -> u64
-        ensures steps { result ≡ steps_of_path self.now }
+        ensures steps { IsPathSteps self.now result }
     {
         self.bounds.steps
     }
@@ -94,9 +93,9 @@ impl Program {
 pub fn verify(alloc: Global, image: Image) -> Result<Program, (VerifyError, Image)>
     ensures accepted { MatchResult result (λ p. (p ≡ image) × IsAccepted image) (λ e. IsRefused image e.0) }
     ensures back { IfErr result (λ e. e.1 ≡ image) }
-    ensures labelled { IsSound image ↔ HasLabelling image }
-    ensures dearest { IfOk result (λ p. IsGreatest (charge_at image) (times_at image) image.code 0 (cost_of_path image)) }
-    ensures longest { IfOk result (λ p. IsGreatest (λ _. 1) (times_at image) image.code 0 (steps_of_path image)) }
+    ensures walked { IsSound image ↔ IsWalked image }
+    ensures dearest { IfOk result (λ p. HasGreatest (IsRouteCharge image)) }
+    ensures longest { IfOk result (λ p. HasGreatest (IsRouteLength image)) }
     ensures runs { IfOk result (λ p. (slots : List Outcome) → slots_fit image.slots slots ≡ true → RunsWithin image slots) }
 {
     match check(alloc, &image) {

@@ -2,8 +2,8 @@
 
 ghost use Rattle.std.specs.Prelude.{◌≡◌, ℕ, ◌+◌, ◌-◌, ◌<◌, ◌^◌, min, length, slice_index};
 ghost use Rattle.cel_verify.specs.Sound.{IsSound};
-ghost use Rattle.cel_verify.specs.Paths.{rounds_of, goes_to, greatest, path_from};
-ghost use Rattle.cel_verify.specs.Walked.{AreTimes, AreWeights, behind};
+ghost use Rattle.cel_verify.specs.Paths.{goes_to, IsRouteSum};
+ghost use Rattle.cel_verify.specs.Walked.{AreTimes, AreWeights, IsCapped, behind, rounds_of, greatest};
 
 use cel_code::{Image, Instr};
 
@@ -14,7 +14,7 @@ pub fn path_sum(image: &Image, weights: Vec<u64>, times: &[u32]) -> u64
     requires weighed { length weights.items ≡ length image.now.code }
     requires timed { AreTimes image.now (length image.now.code) times.now }
     ensures { (weigh : ℕ → ℕ) → AreWeights weigh (length image.now.code) weights.items
-        → result ≡ min (path_from image.now weigh 0) (2 ^ 64 - 1) }
+        → IsCapped (IsRouteSum image.now weigh) result }
 {
     let mut sums = weights;
     let mut at = image.code.len();

@@ -1,9 +1,10 @@
 ghost use Rattle.std.specs.Prelude.{◌≡◌, ◌+◌, ◌<◌, ◌≤◌, ◌^◌, ◌||◌, ◌∷◌, [], Some, Ok, Err, false, IsTrue, IfOk, MatchResult};
 ghost use Rattle.std.specs.Prelude.{length, nat_lt, slice_get};
 ghost use Rattle.std.specs.List.{AllByRecursion};
-ghost use Rattle.cel_verify.specs.Sound.{entered, entry_in, jumps_of, shallow, max_depth as most_operands, max_loops as most_loops};
+ghost use Rattle.cel_verify.specs.Sound.{entry_in, jumps_of, max_depth as most_operands, max_loops as most_loops};
 ghost use Rattle.cel_verify.specs.Arrivals.{AreArrivals};
 ghost use Rattle.cel_verify.specs.Walked.{Refuses, Advances, AllHold, AreMeasures, IsWalkFault, Arrives, Passes, TakesNone};
+ghost use Rattle.cel_verify.specs.Walked.{entered, shallow};
 ghost use Rattle.cel_verify.specs.Walked.{arrived, labelled, rule_here, typed_here};
 
 use crate::arrivals::Arrivals;
@@ -12,7 +13,7 @@ use crate::loops::opened;
 use crate::measures::Measures;
 use crate::open_loop::Open;
 use crate::opens::{Opens, close_ended};
-use crate::placing::is_nested;
+use crate::placement::is_nested;
 use crate::refusal::Refusal;
 use crate::rules::typed;
 use crate::targets::{entry, entry_is_wanted, has_name, has_targets};

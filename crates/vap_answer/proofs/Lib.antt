@@ -1,3 +1,5 @@
+pub mod ByKey
 pub mod Floors
+pub mod Grouped
 pub mod Once
 pub mod WorkedRows

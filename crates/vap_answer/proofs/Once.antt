@@ -2,10 +2,19 @@
 use Rattle.std.proofs.Common.{◌≡◌, ◌<◌, ◌+◌, ℕ, suc, Bool, true, false, not, cond, ◌||◌, List, [], ◌∷◌, ◌++◌, length, drop, get_or, filter}
 use Rattle.std.proofs.Common.{map, refl, sym, ap, ◌∙◌, subst, append_assoc, append-nil, add-one, drop-cons, bytes_eq}
 use Rattle.std.specs.List.{list_any}
+use Rattle.std.specs.Prelude.{if◌then◌else◌}
 use Rattle.std.proofs.lemmas.List.Folds.{list_any-append}
-use Rattle.std.proofs.lemmas.Slice.Eq.{bytes_eq-Decides}
 use Rattle.plain.specs.declared.text.Keyed.{Keyed}
-use Rattle.vap_answer.specs.Annotations.{each_once, noted, values_at, with_text}
+use Rattle.vap_answer.specs.Annotations.{each_once, values_at}
+use Rattle.vap_answer.proofs.ByKey.{same_text}
+
+-- texts with one more, if it is not among them
+abbrev with_text : List (List ℕ) → List ℕ → List (List ℕ)
+with_text ts t = if list_any (bytes_eq t) ts then ts else ts ++ t ∷ []
+
+-- the values so far, and that of an entry under this key
+abbrev pub noted : List ℕ → List (List ℕ) → Keyed (List ℕ) → List (List ℕ)
+noted key ts n = if bytes_eq n.key key then with_text ts n.value else ts
 
 -- those texts that are not among others
 abbrev pub without : List (List ℕ) → List (List ℕ) → List (List ℕ)
@@ -29,9 +38,6 @@ without_more ts t (u ∷ us) =
     at false true rest same = rest ∙ sym (ap (λ b. cond (not b) (u ∷ without ts (others t us)) (without ts (others t us))) same)
     at false false rest same =
         ap (λ xs. u ∷ xs) rest ∙ sym (ap (λ b. cond (not b) (u ∷ without ts (others t us)) (without ts (others t us))) same)
-
-same_text : (s t : List ℕ) → bytes_eq s t ≡ true → s ≡ t
-same_text s t h = (bytes_eq-Decides s t).0 h
 
 -- those that are not among texts are others than each text
 without_one : (ts : List (List ℕ)) (t : List ℕ) (us : List (List ℕ)) → list_any (bytes_eq t) ts ≡ true
@@ -67,7 +73,6 @@ next_value ts t us = at (list_any (bytes_eq t) ts) refl
 -- the same of an entry, which counts under its own key
 noted_next : (key : List ℕ) (ts : List (List ℕ)) (n : Keyed (List ℕ)) (ns : List (Keyed (List ℕ)))
     → noted key ts n ++ without (noted key ts n) (values_at key ns) ≡ ts ++ without ts (values_at key (n ∷ ns))
-unfolding noted
 noted_next key ts n ns = at (bytes_eq n.key key)
   where
     rest : List (Keyed (List ℕ))
@@ -94,3 +99,21 @@ noted_at key ts new ns i n lt is same before =
 pub nothing_noted : (us : List (List ℕ)) → without [] us ≡ us
 nothing_noted [] = refl
 nothing_noted (u ∷ us) = ap (λ xs. u ∷ xs) (nothing_noted us)
+
+-- a value that is not among those so far is one more
+pub one_noted : (key : List ℕ) (ts : List (List ℕ)) (n : Keyed (List ℕ)) → bytes_eq n.key key ≡ true
+    → list_any (bytes_eq n.value) ts ≡ false → ts ++ n.value ∷ [] ≡ noted key ts n
+one_noted key ts n own new =
+    sym (ap (λ b. cond b ts (ts ++ n.value ∷ [])) new) ∙ sym (ap (λ b. cond b (with_text ts n.value) ts) own)
+
+-- one that is among them changes nothing
+pub same_noted : (key : List ℕ) (ts : List (List ℕ)) (n : Keyed (List ℕ)) → list_any (bytes_eq n.value) ts ≡ true → ts ≡ noted key ts n
+same_noted key ts n there = at (bytes_eq n.key key)
+  where
+    at : (b : Bool) → ts ≡ cond b (with_text ts n.value) ts
+    at true = sym (ap (λ b. cond b ts (ts ++ n.value ∷ [])) there)
+    at false = refl
+
+-- nor does one under another key
+pub other_noted : (key : List ℕ) (ts : List (List ℕ)) (n : Keyed (List ℕ)) → bytes_eq n.key key ≡ false → ts ≡ noted key ts n
+other_noted key ts n other = sym (ap (λ b. cond b (with_text ts n.value) ts) other)

@@ -22,7 +22,7 @@ not_cut : cut_text 3 (97 ∷ 195 ∷ 169 ∷ []) ≡ 97 ∷ 195 ∷ 169 ∷ []
 unfolding cut_text
 not_cut = refl
 
--- a value that comes again does not stand twice, and one of another key does not stand there
+-- a value that comes again is joined once, and one of another key is left out
 each_once :
     joined (values_at (codes "k") (
     record { key = codes "k"; value = codes "b" }

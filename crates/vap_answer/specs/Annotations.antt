@@ -1,8 +1,8 @@
 -- The annotations that are kept with a decision.
-use Rattle.std.specs.Prelude.{ℕ, Bool, not, codes, List, [], ◌∷◌, ◌++◌, map, filter, is_some, if◌then◌else◌}
+use Rattle.std.specs.Prelude.{◌≡◌, ℕ, Bool, not, codes, List, [], ◌∷◌, ◌++◌, map, filter, if◌then◌else◌}
 use Rattle.std.specs.List.{flat_map, list_any}
 use Rattle.std.specs.Str.{bytes_eq}
-use Rattle.plain.specs.Keys.{value_under, with_entry}
+use Rattle.plain.specs.Keys.{IsInKeyOrder, keys_in, value_under, with_entry, without}
 use Rattle.plain.specs.declared.text.Keyed.{Keyed}
 use Rattle.vap_answer.specs.Cut.{cut_text}
 use Rattle.vap_answer.specs.Failures.{failures_text}
@@ -11,7 +11,7 @@ use Rattle.vap_answer.specs.declared.finding.Note.{Note}
 
 -- ---- one value under its key
 
--- the key of a note: the policy's name, and behind a slash the annotation's own key
+-- the key of a note: the policy's name, a slash and the annotation's own key
 abbrev pub key_of : Note → List ℕ
 key_of n = n.policy ++ (codes "/" ++ n.key)
 
@@ -29,14 +29,6 @@ entries_of notes = flat_map entry_in notes
 
 -- ---- each key with all its values
 
--- texts with one more, if it is not among them
-abbrev pub with_text : List (List ℕ) → List ℕ → List (List ℕ)
-with_text ts t = if list_any (bytes_eq t) ts then ts else ts ++ t ∷ []
-
--- the values so far, and that of an entry under this key
-unfoldable pub noted : List ℕ → List (List ℕ) → Keyed (List ℕ) → List (List ℕ)
-noted key ts n = if bytes_eq n.key key then with_text ts n.value else ts
-
 -- texts, each once, where it first appears
 abbrev pub each_once : List (List ℕ) → List (List ℕ)
 each_once [] = []
@@ -46,24 +38,35 @@ each_once (t ∷ ts) = t ∷ filter (λ u. not (bytes_eq u t)) (each_once ts)
 abbrev pub values_at : List ℕ → List (Keyed (List ℕ)) → List (List ℕ)
 values_at key es = each_once (map (λ e. e.value) (filter (λ e. bytes_eq e.key key) es))
 
--- texts, each behind a comma and a space
+-- texts, each after a comma and a space
 abbrev pub after_first : List (List ℕ) → List ℕ
 after_first [] = []
 after_first (t ∷ ts) = codes ", " ++ (t ++ after_first ts)
 
--- texts in a row, each further one behind a comma and a space
+-- texts in a row, each further one after a comma and a space
 abbrev pub joined : List (List ℕ) → List ℕ
 joined [] = []
 joined (t ∷ ts) = t ++ after_first ts
 
--- what is there, and under a new key all its values
-unfoldable pub with_key : List (Keyed (List ℕ)) → List (Keyed (List ℕ)) → List ℕ → List (Keyed (List ℕ))
-with_key all m key = if is_some (value_under key m) then m else with_entry key (joined (values_at key all)) m
+-- a key with its values, joined
+abbrev pub joined_at : List (Keyed (List ℕ)) → List ℕ → Keyed (List ℕ)
+joined_at es key = record { key = key; value = joined (values_at key es) }
 
--- what is there, and each new key of these entries with all its values
-abbrev pub grouped_from : List (Keyed (List ℕ)) → List (Keyed (List ℕ)) → List (Keyed (List ℕ)) → List (Keyed (List ℕ))
-grouped_from all m [] = m
-grouped_from all m (n ∷ ns) = grouped_from all (with_key all m n.key) ns
+-- each key once, with all its values
+abbrev pub grouped : List (Keyed (List ℕ)) → List (Keyed (List ℕ))
+grouped es = map (joined_at es) (each_once (keys_in es))
+
+-- ---- in the order of keys
+
+-- entries by the bytes of their keys; of those of one key only the first is kept
+abbrev pub by_key : {V : Type 0} → List (Keyed V) → List (Keyed V)
+by_key [] = []
+by_key (e ∷ es) = with_entry e.key e.value (without e.key (by_key es))
+
+-- these are the entries in the order of their keys, each key once, with the value that comes first under it
+pub record AreByKey {V : Type 0} (es ordered : List (Keyed V)) : Type 0 where
+  pub order : IsInKeyOrder ordered
+  pub values : (key : List ℕ) → value_under key ordered ≡ value_under key es
 
 -- ---- all annotations
 
@@ -77,8 +80,12 @@ failure_key = codes "validation.policy.admission.k8s.io/validation_failure"
 
 -- the failures whose bindings audit, under their key, if there are any
 unfoldable pub failure_annotation : List Finding → List (Keyed (List ℕ))
-failure_annotation fs = if list_any audits fs then with_entry failure_key (failures_text fs) [] else []
+failure_annotation fs = if list_any audits fs then record { key = failure_key; value = failures_text fs } ∷ [] else []
 
--- the failures, and beside them the values of notes by their keys
+-- the failures, and then the values of notes, each key with all its own
+abbrev pub found_annotations : List Finding → List Note → List (Keyed (List ℕ))
+found_annotations fs notes = failure_annotation fs ++ grouped (entries_of notes)
+
+-- these in the order of their keys; under the key of the failures a note is not kept where a binding audits
 abbrev pub annotations_of : List Finding → List Note → List (Keyed (List ℕ))
-annotations_of fs notes = grouped_from (entries_of notes) (failure_annotation fs) (entries_of notes)
+annotations_of fs notes = by_key (found_annotations fs notes)

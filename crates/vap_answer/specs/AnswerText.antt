@@ -11,7 +11,7 @@ use Rattle.vap_answer.specs.declared.verdict.Verdict.{Verdict}
 unfoldable pub entry_tokens : Keyed (List ℕ) → List Token
 entry_tokens e = text_member e.key e.value
 
--- the object of the annotations, which stand by the bytes of their keys
+-- the object of the annotations, which are in the order of the bytes of their keys
 unfoldable pub annotation_object : List (Keyed (List ℕ)) → List Token
 annotation_object es = begin_object ∷ (flat_map entry_tokens es ++ end_object ∷ [])
 

@@ -25,7 +25,7 @@ abbrev pub where_set : Bool → List ℕ → List Token
 where_set true word = string word ∷ []
 where_set false word = []
 
--- the words of a binding's actions, in the order in which they always stand
+-- the words of a binding's actions, always in this order
 unfoldable pub action_words : ValidationActions → List Token
 action_words a = where_set a.deny (codes "Deny") ++ (where_set a.warn (codes "Warn") ++ where_set a.audit (codes "Audit"))
 

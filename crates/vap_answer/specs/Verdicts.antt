@@ -3,7 +3,7 @@ use Rattle.std.specs.Prelude.{ℕ, Bool, true, false, codes, List, [], ◌∷◌
 use Rattle.std.specs.List.{find, flat_map}
 use Rattle.vap_answer.specs.Annotations.{annotations_of}
 use Rattle.vap_answer.specs.Sentences.{code_of, reason_name, denial, warning}
-use Rattle.vap_answer.specs.declared.deciding.Decision.{Decision}
+use Rattle.vap_answer.specs.declared.decision.Decision.{Decision}
 use Rattle.vap_answer.specs.declared.finding.Finding.{Finding}
 use Rattle.vap_answer.specs.declared.finding.Note.{Note}
 use Rattle.vap_answer.specs.declared.verdict.Verdict.{Verdict}

@@ -24,19 +24,12 @@ fn put_texts(texts: &[Text], out: &mut Writer) -> Result<(), AllocError>
 }
 
 #[tactic(auto, unfolding(crate::specs::AnswerText::entry_tokens))]
-fn put_entry(entry: &Keyed<Text>, out: &mut Writer) -> Result<(), AllocError>
-    ensures ok { OnOk result (out.new.tokens ≡ out.old.tokens ++ entry_tokens entry.now) }
-    ensures before { out.new.before ≡ out.old.before }
-{
-    put_text(entry.key.as_str(), entry.value.as_str(), out)
-}
-
 fn put_entries(entries: &[Keyed<Text>], out: &mut Writer) -> Result<(), AllocError>
     ensures ok { OnOk result (out.new.tokens ≡ out.old.tokens ++ flat_map entry_tokens entries.now) }
     ensures before { out.new.before ≡ out.old.before }
 {
     for entry in entries {
-        put_entry(entry, out)?;
+        put_text(entry.key.as_str(), entry.value.as_str(), out)?;
     }
     Ok(())
 }

@@ -4,20 +4,20 @@
 //! Nothing here evaluates, matches or looks at objects. [`cut`] is how long values are cut.
 #![tactic(auto)]
 
+mod annotation_entries;
+mod annotation_values;
+mod annotations;
 mod answer;
-mod cutting;
-mod deciding;
+mod cuts;
+mod decision;
 mod failures;
 mod finding;
-mod grouping;
-mod keeping;
 mod members;
-mod noting;
 mod sentences;
 mod verdict;
 
 pub use answer::answer_text;
-pub use cutting::cut;
-pub use deciding::{unfit_verdict, verdict_of};
+pub use cuts::cut;
+pub use decision::{unfit_verdict, verdict_of};
 pub use finding::{Finding, Note};
 pub use verdict::Verdict;

@@ -69,7 +69,7 @@ impl History {
     }
 
     /// Puts an entry last, and answers its number. Where it is refused, it comes back and nothing has changed; a full history is
-    /// never told as want of memory.
+    /// never reported as out of memory.
     pub fn append(&mut self, entry: Entry) -> Result<usize, (AuditFault, Entry)>
         requires { IsRight entry }
         ensures exact { MatchResult result

@@ -6,6 +6,6 @@
 
 mod binding;
 mod binding_form;
-mod reading;
+mod document;
 
 pub use binding::{Binding, BindingSpec, NotFoundAction, ParamRef, ValidationActions};

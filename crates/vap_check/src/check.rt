@@ -10,11 +10,11 @@ ghost use Rattle.vap_check.specs.Report.{refused_line, judgement_lines, status_o
 ghost use Rattle.vap_check.specs.declared.failure.CheckFailure.TheVariants as failure;
 ghost use Rattle.vap_cli.specs.declared.status.Status.TheVariants.{Fault};
 
+use crate::document::{bytes_of, document_of};
 use crate::failure::CheckFailure;
 use crate::judgement::Judgement;
 use crate::made::{Made, made_in};
 use crate::object::judged;
-use crate::reading::{bytes_of, document_of};
 use crate::refusal::FileRefusal;
 use serde_json::Value as Json;
 use std::alloc::Global;

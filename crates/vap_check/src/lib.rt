@@ -6,11 +6,11 @@
 #![tactic(auto)]
 
 mod check;
+mod document;
 mod failure;
 mod judgement;
 mod made;
 mod object;
-mod reading;
 mod refusal;
 
 pub use check::{Ended, check_to};

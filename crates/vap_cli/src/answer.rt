@@ -2,13 +2,10 @@
 
 ghost use Rattle.std.specs.Prelude.{◌≡◌, ◌++◌, ◌∷◌, [], IfOk, string_bytes};
 ghost use Rattle.json_text.specs.JsonText.{json_text};
-ghost use Rattle.vap_cli.specs.Answer.{answer_line, lex_fault_name, status_of, type_rule_name};
+ghost use Rattle.vap_cli.specs.Answer.{answer_line, status_of};
 
 use crate::status::Status;
-use cel_check::TypeRule;
 use cel_expression::Refusal as TextRefusal;
-use cel_lex::LexFaultKind;
-use cel_parse::ParseFault;
 use cel_value::{CelError, Value};
 use json_text::to_json;
 use std::alloc::{AllocError, Global};
@@ -73,50 +70,16 @@ impl fmt::Display for Refusal {
 
     fn fmt<W: fmt::Write>(&self, f: &mut fmt::Formatter<W>) -> fmt::Result {
         let (name, place) = match self {
-            Refusal::Pattern => return write!(f, "Pattern"),
-            Refusal::Unverified { at } => ("Unverified", *at),
             Refusal::Text(TextRefusal::OverBudget(estimate)) => {
                 return write!(f, "OverBudget {estimate}");
             }
-            Refusal::Text(TextRefusal::Parse(ParseFault::TooDeep)) => return write!(f, "TooDeep"),
-            Refusal::Text(TextRefusal::Parse(ParseFault::Lex(fault))) => {
-                (lex_fault_name(fault.kind), fault.place)
-            }
-            Refusal::Text(TextRefusal::Parse(ParseFault::Unexpected { place })) => {
-                ("Unexpected", *place)
-            }
-            Refusal::Text(TextRefusal::Parse(ParseFault::BadMacro { place })) => {
-                ("BadMacro", *place)
-            }
-            Refusal::Text(TextRefusal::Type(fault)) => (type_rule_name(fault.rule), fault.place),
+            Refusal::Text(why) => (why.name(), why.place()),
+            Refusal::Unverified { at } => ("Unverified", Some(*at)),
+            Refusal::Pattern => ("Pattern", None),
         };
-        write!(f, "{name} at {place}")
-    }
-}
-
-fn lex_fault_name(kind: LexFaultKind) -> &'static str
-    ensures { result.now ≡ lex_fault_name kind }
-{
-    match kind {
-        LexFaultKind::BadChar => "BadChar",
-        LexFaultKind::Unterminated => "Unterminated",
-        LexFaultKind::BadEscape => "BadEscape",
-        LexFaultKind::IntRange => "IntRange",
-        LexFaultKind::TooLong => "TooLong",
-    }
-}
-
-fn type_rule_name(rule: TypeRule) -> &'static str
-    ensures { result.now ≡ type_rule_name rule }
-{
-    match rule {
-        TypeRule::UnknownName => "UnknownName",
-        TypeRule::NoField => "NoField",
-        TypeRule::NoOverload => "NoOverload",
-        TypeRule::Mixed => "Mixed",
-        TypeRule::OpaqueUse => "OpaqueUse",
-        TypeRule::PatternNotLiteral => "PatternNotLiteral",
-        TypeRule::BadPattern => "BadPattern",
-        TypeRule::TooLarge => "TooLarge",
+        match place {
+            Some(place) => write!(f, "{name} at {place}"),
+            None => write!(f, "{name}"),
+        }
     }
 }

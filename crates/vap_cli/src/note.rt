@@ -34,11 +34,8 @@ pub fn refusal_note(alloc: Global, text: &str, refusal: &Refusal) -> Result<Stri
 // Where the text of the expression is at fault.
 fn place_of(refusal: &Refusal) -> Option<usize> {
     match refusal {
-        Refusal::Text(TextRefusal::Parse(ParseFault::Lex(fault))) => Some(fault.place),
-        Refusal::Text(TextRefusal::Parse(ParseFault::Unexpected { place })) => Some(*place),
-        Refusal::Text(TextRefusal::Parse(ParseFault::BadMacro { place })) => Some(*place),
-        Refusal::Text(TextRefusal::Type(fault)) => Some(fault.place),
-        _ => None,
+        Refusal::Text(why) => why.place(),
+        Refusal::Unverified { .. } | Refusal::Pattern => None,
     }
 }
 

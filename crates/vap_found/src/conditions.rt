@@ -10,7 +10,7 @@ ghost use Rattle.vap_programs.specs.Ready.{AreConditionsAt};
 ghost use Rattle.vap_found.specs.Conditions.{conditions_pass, conditions_charge, gate_of, said};
 ghost use Rattle.vap_found.specs.Patterns.{ConditionMayMatch};
 
-use crate::running::{Tested, test};
+use crate::runs::{Tested, test};
 use crate::words::condition_error;
 use cel_machine::{Matchers, RunFault, Slots};
 use cel_value::CelError;

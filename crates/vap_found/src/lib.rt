@@ -6,15 +6,15 @@
 //! they stand at the types of what they are run with.
 #![tactic(auto)]
 
-mod annotating;
+mod annotations;
 mod conditions;
-mod failing;
+mod evaluation;
+mod failures;
 mod found;
-mod judging;
-mod running;
-mod validating;
+mod runs;
+mod validations;
 mod variables;
 mod words;
 
+pub use evaluation::judge;
 pub use found::{Failure, Note};
-pub use judging::judge;

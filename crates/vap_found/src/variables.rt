@@ -14,7 +14,7 @@ ghost use Rattle.vap_programs.specs.Ready.{Follow};
 ghost use Rattle.vap_found.specs.Runs.{given, charge};
 ghost use Rattle.vap_found.specs.Variables.{values_from, values_charge};
 
-use crate::running::run;
+use crate::runs::run;
 use cel_expression::{Compiled, Ran};
 use cel_machine::{Matchers, RunFault, Slots};
 use cel_value::{CelError, Value};

@@ -10,7 +10,7 @@ use Rattle.cel_value.specs.declared.cel_type.CelType.{CelType}
 use Rattle.vap_programs.specs.declared.programs.Programs.{Programs}
 use Rattle.vap_read.specs.declared.object.Object.{Object}
 use Rattle.vap_set.specs.Seen.{IsSeenAt}
-use Rattle.vap_set.specs.declared.fitting.Param.{Param}
+use Rattle.vap_set.specs.declared.kind_params.Param.{Param}
 use Rattle.vap_judge.specs.Evaluations.{Evaluation, Rule}
 use Rattle.vap_judge.specs.Judging.{Case, at_param, at_seen}
 use Rattle.vap_judge.specs.Patterns.{EvaluationMayMatch, OneMayMatch}

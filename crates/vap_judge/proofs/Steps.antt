@@ -3,7 +3,7 @@ use Rattle.std.proofs.Common.{ℕ, List, Result, Ok, Err, arith, OnOk}
 use Rattle.vap_judge.specs.Adds.{Adds}
 use Rattle.vap_judge.specs.Evaluations.{Evaluation}
 use Rattle.vap_judge.specs.declared.judge_error.JudgeError.{JudgeError}
-use Rattle.vap_judge.specs.declared.judging.Judging.{Judging}
+use Rattle.vap_judge.specs.declared.evaluations.Judging.{Judging}
 
 -- a message charges nothing
 pub said_adds : {A : Type 0} (r : Result A JudgeError) (old new : Judging) (es : List Evaluation) (n : ℕ)

@@ -4,7 +4,7 @@ use Rattle.vap_judge.specs.Evaluations.{Evaluation, found_by, joined}
 use Rattle.vap_judge.specs.Ready.{Grows}
 use Rattle.vap_judge.specs.Judging.{Case}
 use Rattle.vap_judge.specs.Shown.{case_of, findings_of}
-use Rattle.vap_judge.specs.declared.judging.Judging.{Judging}
+use Rattle.vap_judge.specs.declared.evaluations.Judging.{Judging}
 
 -- the case of what is judged
 abbrev pub case_in : Judging → Case

@@ -5,9 +5,9 @@
 #![tactic(auto)]
 
 mod case;
+mod evaluations;
 mod findings;
 mod judge_error;
-mod judging;
 mod params;
 mod places;
 mod verdict;

@@ -17,9 +17,9 @@ ghost use Rattle.vap_judge.specs.Ready.{IsCase};
 ghost use Rattle.vap_judge.specs.Shown.{case_of};
 
 use crate::case::Case;
+use crate::evaluations::Judging;
 use crate::findings::Findings;
 use crate::judge_error::JudgeError;
-use crate::judging::Judging;
 use crate::places::{is_exempt, kind_at};
 use cel_machine::Matchers;
 use cel_value::CelType;

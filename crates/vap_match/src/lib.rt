@@ -6,15 +6,15 @@
 //! who reads documents in which rules stand, [`fault_under`] and [`rules_under`] are the two halves of reading them.
 #![tactic(auto)]
 
-mod choosing;
-mod covering;
+mod coverage;
 mod rule_form;
 mod rules;
+mod selection;
 
-pub use choosing::{matches, selects_namespace, selects_object};
-pub use covering::{covers, is_cluster};
+pub use coverage::{covers, is_cluster};
 pub use rule_form::{fault_under, rules_under};
 pub use rules::{Operation, Rule, Rules, Scope};
+pub use selection::{matches, selects_namespace, selects_object};
 pub use vap_request::{Admission, Kind, Request, Resource, ReviewError, ReviewFault, UserInfo};
 pub use vap_select::{
     Labels, MatchError, MatchFault, Operator, Requirement, Selector, labels_of, selects,

@@ -14,8 +14,8 @@ use Rattle.vap_read.specs.declared.key.Key.{Key}
 use Rattle.vap_read.specs.declared.object.Object.{Object}
 use Rattle.vap_read.proofs.KeyOrder.{key_total}
 use Rattle.vap_objects.specs.Limits.{weight, total, held_weight, limit, is_few, are_few, AreFew}
-use Rattle.vap_objects.specs.declared.counting.Counted.{Counted}
-use Rattle.vap_objects.specs.declared.counting.Counted.TheVariants.{Objects, Policies, Bindings, Versions}
+use Rattle.vap_objects.specs.declared.tallies.Counted.{Counted}
+use Rattle.vap_objects.specs.declared.tallies.Counted.TheVariants.{Objects, Policies, Bindings, Versions}
 
 -- ---- sums
 
@@ -65,7 +65,7 @@ few_limit Policies os few = few.policies
 few_limit Bindings os few = few.bindings
 few_limit Versions os few = few.versions
 
--- objects within each limit are told to be within all
+-- the test passes for objects within each limit
 pub all_few : (os : List (Key × Object)) → ((what : Counted) → total (weight what) os ≤ limit what) → true ≡ are_few os
 unfolding are_few
 all_few os within =
@@ -75,11 +75,11 @@ all_few os within =
     (and_from (is_few os Objects && is_few os Policies) (is_few os Bindings)
     (and_from (is_few os Objects) (is_few os Policies) (few Objects) (few Policies)) (few Bindings)) (few Versions))
 
--- objects within all limits are told to be so
+-- the test passes for objects within all limits
 pub few_told : (os : List (Key × Object)) → AreFew os → true ≡ are_few os
 few_told os few = all_few os (λ what. few_limit what os few)
 
--- what is told to be within all limits is so
+-- objects that pass the test are within all limits
 pub told_few : (os : List (Key × Object)) → are_few os ≡ true → AreFew os
 unfolding are_few
 told_few os told =

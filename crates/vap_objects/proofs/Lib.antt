@@ -1,4 +1,6 @@
+pub mod ByName
 pub mod Counts
+pub mod Gathering
 pub mod Listing
 pub mod Logs
 pub mod Taken

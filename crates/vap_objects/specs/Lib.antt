@@ -1,4 +1,5 @@
 pub mod After
+pub mod ByName
 pub mod Cluster
 pub mod Limits
 pub mod Listed

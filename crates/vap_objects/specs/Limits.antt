@@ -11,8 +11,8 @@ use Rattle.vap_read.specs.declared.object.Content.TheVariants as content
 use Rattle.vap_read.specs.declared.object.Object.{Object}
 use Rattle.vap_objects.specs.After.{objects_after}
 use Rattle.vap_objects.specs.Cluster.{Cluster}
-use Rattle.vap_objects.specs.declared.counting.Counted.{Counted}
-use Rattle.vap_objects.specs.declared.counting.Counted.TheVariants as counted
+use Rattle.vap_objects.specs.declared.tallies.Counted.{Counted}
+use Rattle.vap_objects.specs.declared.tallies.Counted.TheVariants as counted
 
 -- a policy counts as one
 abbrev pub policy_count : Content → ℕ

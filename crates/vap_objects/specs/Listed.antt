@@ -3,7 +3,6 @@ use Rattle.std.specs.Prelude.{ℕ, if◌then◌else◌, List, [], ◌∷◌}
 use Rattle.std.specs.List.{flat_map}
 use Rattle.std.specs.Str.{bytes_eq}
 use Rattle.plain.specs.declared.text.Keyed.{Keyed}
-use Rattle.plain.specs.Keys.{with_entry}
 use Rattle.vap_policies.specs.declared.policy.Policy.{Policy}
 use Rattle.vap_bindings.specs.declared.binding.Binding.{Binding}
 use Rattle.vap_kinds.specs.Definitions.{is_definition}
@@ -13,40 +12,45 @@ use Rattle.vap_read.specs.declared.key.Key.{Key}
 use Rattle.vap_read.specs.declared.object.Content.{Content}
 use Rattle.vap_read.specs.declared.object.Content.TheVariants as content
 use Rattle.vap_read.specs.declared.object.Object.{Object}
+use Rattle.vap_objects.specs.ByName.{by_name}
 
 -- ---- policies
 
--- the policies with what an object of this name was read as, if it is one
-abbrev pub with_policy : List ℕ → Content → List (Keyed Policy) → List (Keyed Policy)
-with_policy name (content.Policy p) ps = with_entry name p ps
-with_policy name (content.Binding b) ps = ps
-with_policy name content.Other ps = ps
+-- a policy under its name, if an object was read as one
+abbrev pub policy_by : List ℕ → Content → List (Keyed Policy)
+policy_by name (content.Policy p) = record { key = name; value = p } ∷ []
+policy_by name (content.Binding b) = []
+policy_by name content.Other = []
 
--- the policies with those among more objects, each behind those of a name that is not above its own
-abbrev pub with_policies : List (Keyed Policy) → List (Key × Object) → List (Keyed Policy)
-with_policies ps [] = ps
-with_policies ps (e ∷ es) = with_policies (with_policy e.1.key.name e.1.content ps) es
+abbrev pub policy_in : Key × Object → List (Keyed Policy)
+policy_in e = policy_by e.1.key.name e.1.content
+
+-- the policies among objects, in the order of these
+abbrev pub policies_among : List (Key × Object) → List (Keyed Policy)
+policies_among os = flat_map policy_in os
 
 -- the policies by name
 abbrev pub policies_in : List (Key × Object) → List (Keyed Policy)
-policies_in os = with_policies [] os
+policies_in os = by_name (policies_among os)
 
 -- ---- bindings
 
--- the bindings with what an object of this name was read as, if it is one
-abbrev pub with_binding : List ℕ → Content → List (Keyed Binding) → List (Keyed Binding)
-with_binding name (content.Policy p) bs = bs
-with_binding name (content.Binding b) bs = with_entry name b bs
-with_binding name content.Other bs = bs
+-- a binding under its name, if an object was read as one
+abbrev pub binding_by : List ℕ → Content → List (Keyed Binding)
+binding_by name (content.Policy p) = []
+binding_by name (content.Binding b) = record { key = name; value = b } ∷ []
+binding_by name content.Other = []
 
--- the bindings with those among more objects
-abbrev pub with_bindings : List (Keyed Binding) → List (Key × Object) → List (Keyed Binding)
-with_bindings bs [] = bs
-with_bindings bs (e ∷ es) = with_bindings (with_binding e.1.key.name e.1.content bs) es
+abbrev pub binding_in : Key × Object → List (Keyed Binding)
+binding_in e = binding_by e.1.key.name e.1.content
+
+-- the bindings among objects, in the order of these
+abbrev pub bindings_among : List (Key × Object) → List (Keyed Binding)
+bindings_among os = flat_map binding_in os
 
 -- the bindings by name
 abbrev pub bindings_in : List (Key × Object) → List (Keyed Binding)
-bindings_in os = with_bindings [] os
+bindings_in os = by_name (bindings_among os)
 
 -- a binding, if it is one of the policy of this name
 unfoldable pub if_bound : List ℕ → Keyed Binding → List (Keyed Binding)
@@ -58,18 +62,16 @@ bindings_of policy bs = flat_map (if_bound policy) bs
 
 -- ---- kinds
 
--- the definitions with an object, if it is one
-unfoldable pub with_definition : Object → List (Keyed Object) → List (Keyed Object)
-with_definition o ds = if is_definition o.key then with_entry o.key.name o ds else ds
+-- an object under its name, if it is a definition
+unfoldable pub definition_by : Object → List (Keyed Object)
+definition_by o = if is_definition o.key then record { key = o.key.name; value = o } ∷ [] else []
 
--- the definitions with those among more objects
-abbrev pub with_definitions : List (Keyed Object) → List (Key × Object) → List (Keyed Object)
-with_definitions ds [] = ds
-with_definitions ds (e ∷ es) = with_definitions (with_definition e.1 ds) es
+abbrev pub definition_in : Key × Object → List (Keyed Object)
+definition_in e = definition_by e.1
 
 -- the definitions by name
 abbrev pub definitions_in : List (Key × Object) → List (Keyed Object)
-definitions_in os = with_definitions [] os
+definitions_in os = by_name (flat_map definition_in os)
 
 -- the kinds that are known or refused, the fixed ones first, the others by their definitions' names
 abbrev pub kinds_in : List (Key × Object) → List Kind

@@ -7,11 +7,11 @@
 #![tactic(auto)]
 
 mod by_name;
-mod counting;
-mod listed;
+mod lists;
 mod objects;
 mod of_kind;
 mod room;
+mod tallies;
 
-pub use listed::bindings_of;
+pub use lists::bindings_of;
 pub use objects::Objects;

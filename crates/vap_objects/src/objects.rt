@@ -5,11 +5,12 @@ ghost use Rattle.std.specs.Option.{option_copied};
 ghost use Rattle.vap_select.specs.Select.{lent_labels};
 ghost use Rattle.vap_objects.specs.After.{nothing, after, objects_after};
 ghost use Rattle.vap_objects.specs.Limits.{takes, IsWithin};
-ghost use Rattle.vap_objects.specs.Listed.{policies_in, bindings_in, kinds_in};
-ghost use Rattle.vap_objects.specs.OfKind.{object_at, objects_of_kind, namespace_labels};
+ghost use Rattle.vap_objects.specs.ByName.{AreByName};
+ghost use Rattle.vap_objects.specs.Listed.{policies_among, policies_in, bindings_among, bindings_in, kinds_in};
+ghost use Rattle.vap_objects.specs.OfKind.{object_at, objects_of_kind, namespace_key, namespace_labels};
 
-use crate::listed::{bindings_in, definitions_in, policies_in};
-use crate::of_kind::{namespace_labels, objects_of_kind};
+use crate::lists::{bindings_in, definitions_in, policies_in};
+use crate::of_kind::{namespace, namespace_labels, objects_of_kind};
 use crate::room::has_room;
 use plain::{Items, Keyed, Shared};
 use std::alloc::{AllocError, Global};
@@ -109,6 +110,7 @@ impl Objects {
     #[tactic(auto, using(crate::proofs::Listing::policies_few))]
     pub fn policies(&self, alloc: Global) -> Result<Items<Keyed<Policy>>, AllocError>
         ensures exact { IfOk result (λ policies. policies ≡ policies_in self.now.objects) }
+        ensures by_name { IfOk result (AreByName (policies_among self.now.objects)) }
         ensures few { IfOk result (λ policies. length policies ≤ 256) }
     {
         policies_in(alloc, &self.objects)
@@ -118,6 +120,7 @@ impl Objects {
     #[tactic(auto, using(crate::proofs::Listing::bindings_few))]
     pub fn bindings(&self, alloc: Global) -> Result<Items<Keyed<Binding>>, AllocError>
         ensures exact { IfOk result (λ bindings. bindings ≡ bindings_in self.now.objects) }
+        ensures by_name { IfOk result (AreByName (bindings_among self.now.objects)) }
         ensures few { IfOk result (λ bindings. length bindings ≤ 256) }
     {
         bindings_in(alloc, &self.objects)
@@ -143,6 +146,17 @@ impl Objects {
         ensures few { IfOk result (λ found. length found ≤ 4096) }
     {
         objects_of_kind(alloc, api_version, kind, &self.objects)
+    }
+
+    /// The Namespace of a name.
+    pub fn namespace(
+        &self,
+        alloc: Global,
+        name: &str,
+    ) -> Result<Option<&Shared<Object>>, AllocError>
+        ensures { IfOk result (λ found. option_copied found ≡ object_at (namespace_key name.now) self.now.objects) }
+    {
+        namespace(alloc, name, &self.objects)
     }
 
     /// The labels that are held of a Namespace.

@@ -5,7 +5,7 @@ ghost use Rattle.vap_read.specs.Keys.{with_object};
 ghost use Rattle.vap_objects.specs.After.{objects_after};
 ghost use Rattle.vap_objects.specs.Limits.{is_few, are_few, AreFew};
 
-use crate::counting::{Counted, is_few, limit, others, weight};
+use crate::tallies::{Counted, is_few, limit, others, weight};
 use vap_read::{Event, Object, ObjectMap};
 
 /// Whether objects are within all limits.

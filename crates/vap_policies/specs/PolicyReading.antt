@@ -18,8 +18,8 @@ use Rattle.vap_policies.specs.declared.policy.FailurePolicy.TheVariants.{Fail}
 use Rattle.vap_policies.specs.declared.policy.PolicySpec.{PolicySpec}
 use Rattle.vap_policies.specs.declared.policy.Policy.{Policy}
 use Rattle.vap_policies.specs.declared.policy_fault.PolicyFault.{PolicyFault}
-use Rattle.vap_policies.specs.declared.reading.Premises.{Premises}
-use Rattle.vap_policies.specs.declared.reading.Decisions.{Decisions}
+use Rattle.vap_policies.specs.declared.document.Premises.{Premises}
+use Rattle.vap_policies.specs.declared.document.Decisions.{Decisions}
 
 -- the kind of params that a document names
 abbrev pub param_kind_of : Data → ParamKind

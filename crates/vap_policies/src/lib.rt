@@ -5,12 +5,12 @@
 #![tactic(auto)]
 
 mod counts;
+mod document;
 mod messages;
 mod names;
 mod policy;
 mod policy_fault;
 mod policy_form;
-mod reading;
 
 pub use policy::{
     AuditAnnotation, FailurePolicy, NamedExpression, ParamKind, Policy, PolicySpec, Reason,

@@ -25,17 +25,11 @@ fn is_message(expression: &str, message: &str) -> bool
     !has_break(message) && (!has_break(expression) || message != "")
 }
 
-fn has_message(json: &Json) -> bool
-    ensures { result ≡ has_message (view json.now) }
-{
-    is_message(text_in(json, "expression"), text_in(json, "message"))
-}
-
 fn each_has_message(items: &[Json]) -> bool
     ensures { result ≡ all_items has_message (items_view items.now) }
 {
     for item in items {
-        if !has_message(item) {
+        if !is_message(text_in(item, "expression"), text_in(item, "message")) {
             return false;
         }
     }

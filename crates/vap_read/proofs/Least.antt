@@ -17,7 +17,7 @@ use Rattle.vap_read.specs.Lines.{line_kind, action_in}
 use Rattle.vap_read.specs.Objects.{is_object, is_policy, is_binding, key_of, member_in}
 use Rattle.vap_read.specs.Reading.{made, before, put_all, read_content, with_content, read_object, read_key, read_items, read_all}
 use Rattle.vap_read.specs.Reading.{read_watched, read_list, read_line, read_event}
-use Rattle.vap_read.specs.Told.{IsFirst, IsOfList, IsOfLine, Tells}
+use Rattle.vap_read.specs.Told.{IsFirst, IsOfList, IsOfLine, Tells, TellsOf}
 use Rattle.vap_read.specs.declared.line.LineKind.{LineKind}
 use Rattle.vap_read.specs.declared.line.LineKind.TheVariants as line
 use Rattle.vap_read.specs.declared.line.Action.{Action}
@@ -196,12 +196,13 @@ line_least line.ObjectList d f e = list_first (member_in (codes "items") d) f e
 line_least line.Review d f e = sym (ap (fault_or f) e)
 line_least line.Unknown d f e = sym (ap (fault_or f) e)
 
--- the fault of a line is the one that is told of it
-pub event_least : (d : Data) (f : EventFault) → read_event d ≡ Err f → IsOfLine (line_kind d) d f
-event_least d f e = line_least (line_kind d) d f e
+-- what answers a line of this kind tells the fault of the line
+pub told_of_kind : (k : LineKind) (d : Data) (r : Result Event EventError) → Answers (read_line k d) r
+    → IfErr r (λ error. TellsOf k d error)
+told_of_kind k d (Ok e) answers = tt
+told_of_kind k d (Err (Fault f)) answers = line_least k d f answers
+told_of_kind k d (Err OutOfMemory) answers = tt
 
 -- what answers a line tells its fault
 pub told_of : (d : Data) (r : Result Event EventError) → Answers (read_event d) r → IfErr r (λ error. Tells d error)
-told_of d (Ok e) answers = tt
-told_of d (Err (Fault f)) answers = event_least d f answers
-told_of d (Err OutOfMemory) answers = tt
+told_of d r answers = told_of_kind (line_kind d) d r answers

@@ -30,7 +30,11 @@ IsOfLine ObjectList d f = IsOfList (member_in (codes "items") d) f
 IsOfLine Review d f = f ≡ BadType
 IsOfLine Unknown d f = f ≡ BadType
 
+-- what is told is the fault of a line of this kind, or that memory ran out
+abbrev pub TellsOf : LineKind → Data → EventError → Type 0
+TellsOf k d (Fault f) = IsOfLine k d f
+TellsOf k d OutOfMemory = Unit {0}
+
 -- what is told is the line's fault, or that memory ran out
 abbrev pub Tells : Data → EventError → Type 0
-Tells d (Fault f) = IsOfLine (line_kind d) d f
-Tells d OutOfMemory = Unit {0}
+Tells d error = TellsOf (line_kind d) d error

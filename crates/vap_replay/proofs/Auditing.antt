@@ -8,7 +8,7 @@ use Rattle.vap_audit.specs.declared.entry.Entry.{Entry}
 use Rattle.vap_replay.specs.Replay.{audit_line, audit_lines}
 use Rattle.vap_replay.proofs.Told.{appends_more, appends_same}
 
--- the lines of entries and of others behind them
+-- the lines of entries and of others after them
 audit_more : (entries others : List Entry) → audit_lines (entries ++ others) ≡ audit_lines entries ++ audit_lines others
 audit_more [] others = refl
 audit_more (e ∷ entries) others =
@@ -26,7 +26,7 @@ next entries n e at =
     ap (λ (es : List Entry). audit_lines es) (one_more entries n e at)
     ∙ (audit_more (take n entries) (e ∷ []) ∙ ap (λ (l : List ℕ). audit_lines (take n entries) ++ l) (append-nil (audit_line e)))
 
--- the line of an entry is written behind those of the entries before it
+-- the line of an entry is written after those of the entries before it
 pub audited_next : (start before after : Option (List ℕ)) (entries : List Entry) (n : ℕ) (line : List ℕ) → n < length entries
     → ((e : Entry) → slice_get entries n ≡ Some e → line ≡ audit_line e) → Appends start before (audit_lines (take n entries))
     → Appends before after line → Appends start after (audit_lines (take (n + 1) entries))

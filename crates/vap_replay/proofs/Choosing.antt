@@ -1,8 +1,7 @@
 -- The choices that a log keeps.
-use Rattle.std.proofs.Common.{◌≡◌, ℕ, ◌+◌, ◌-◌, ◌<◌, List, [], ◌∷◌, ◌++◌, length, refl, ap, ◌∙◌, append-nil, suc, zero, arith}
-use Rattle.std.specs.Prelude.{slice_get, unwrap_or, option_and_then, Option}
+use Rattle.std.proofs.Common.{◌≡◌, ℕ, ◌-◌, ◌<◌, List, [], ◌∷◌, ◌++◌, length, refl, ap, ◌∙◌, suc, zero, arith}
 use Rattle.vap_read.specs.declared.event.Event.{Event}
-use Rattle.vap_watch.specs.Given.{Choice, no_choice}
+use Rattle.vap_watch.specs.Given.{Choice}
 use Rattle.vap_watch.specs.Logs.{StartsWith, publication}
 use Rattle.vap_watch.specs.declared.log.Logged.{Logged}
 use Rattle.vap_replay.specs.Replay.{Choices}

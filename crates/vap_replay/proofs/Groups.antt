@@ -23,14 +23,14 @@ pub group_length : (log : List Logged) (call : ℕ) (group : List Request) → l
 group_length log call [] = refl
 group_length log call (r ∷ group) = ap suc (group_length log (call + 1) group)
 
--- the answers of entries and of others behind them
+-- the answers of entries and of others after them
 pub answers_more : (entries others : List Entry) → answers_text (entries ++ others) ≡ answers_text entries ++ answers_text others
 answers_more [] others = refl
 answers_more (e ∷ entries) others =
     ap (λ (l : List ℕ). answer_line e ++ l) (answers_more entries others)
     ∙ sym (append_assoc (answer_line e) (answers_text entries) (answers_text others))
 
--- an entry that is put last stands there
+-- an entry that is put last is there
 pub last_entry : (es : List Entry) (e : Entry) → slice_get (es ++ e ∷ []) (length es) ≡ Some e
 last_entry [] e = refl
 last_entry (x ∷ es) e = last_entry es e

@@ -1,15 +1,14 @@
 -- What lines that are taken leave as it was.
-use Rattle.std.proofs.Common.{◌≡◌, ℕ, ◌+◌, Bool, true, false, List, [], ◌∷◌, ◌++◌, length, Result, Ok, Err, refl, sym, ap, ◌∙◌}
-use Rattle.std.proofs.Common.{append-nil, append_assoc, suc, arith}
+use Rattle.std.proofs.Common.{◌≡◌, ◌+◌, Bool, true, false, List, [], ◌∷◌, ◌++◌, length, Result, Ok, Err, refl, sym, ap, ◌∙◌}
+use Rattle.std.proofs.Common.{append-nil, append_assoc, arith}
 use Rattle.std.specs.Prelude.{if◌then◌else◌, nat_lt}
-use Rattle.vap_read.specs.declared.event.Event.{Event}
 use Rattle.vap_watch.specs.Given.{takes}
 use Rattle.vap_watch.specs.Logs.{StartsWith, objects_of, publication}
 use Rattle.vap_watch.specs.Places.{most_events}
 use Rattle.vap_watch.specs.declared.log.Logged.{Logged}
 use Rattle.vap_audit.specs.Entries.{most_entries}
 use Rattle.vap_replay.specs.Moves.{after_lines, and_then}
-use Rattle.vap_replay.specs.Replay.{Choices, Sofar, after_event, after_line, after_review}
+use Rattle.vap_replay.specs.Replay.{Choices, Sofar, after_line}
 use Rattle.vap_replay.specs.declared.fault.LineFault.{LineFault}
 use Rattle.vap_replay.specs.declared.line.Line.{Line}
 use Rattle.vap_replay.specs.declared.line.Line.TheVariants.{Skipped, Happens, Asks, Refused}

@@ -1,13 +1,19 @@
 pub mod Arms
 pub mod Auditing
 pub mod Choosing
+pub mod Endings
 pub mod Given
 pub mod Groups
 pub mod Growth
 pub mod Next
+pub mod Reached
 pub mod Reading
 pub mod Steps
+pub mod Stopping
 pub mod Taking
+pub mod Texts
 pub mod Told
+pub mod Unanswered
 pub mod Unjudged
+pub mod Waiting
 mod WorkedRows

@@ -1,6 +1,6 @@
 -- The line that comes next, and the end of a text.
 use Rattle.std.proofs.Common.{◌≡◌, ◌≢◌, ℕ, ◌+◌, ◌<◌, ◌≤◌, Bool, List, [], ◌∷◌, length, Option, None, Some, Result, Ok, Err}
-use Rattle.std.proofs.Common.{false, refl, arith}
+use Rattle.std.proofs.Common.{refl, arith}
 use Rattle.std.specs.Prelude.{IfSome, OnOk}
 use Rattle.std.specs.Io.KnownBytes.{IsAtEnd, prepend_known}
 use Rattle.vap_lines.specs.Lines.{IsFirst, IsLine, lines_of}
@@ -79,7 +79,7 @@ none_pending [] None none = refl
 none_pending [] (Some left) none = refl
 none_pending (x ∷ pending) rest none = cc
 
--- where nothing was read and nothing is written, the replay stops behind no line
+-- if nothing was read and nothing is written, the replay stops before the first line
 pub stops_first : (audit : Bool) (all start : Option (List ℕ)) → IfSome all (λ bytes. Stops audit bytes start start)
 stops_first audit None start = tt
 stops_first audit (Some all) start = record {
@@ -87,11 +87,7 @@ stops_first audit (Some all) start = record {
   count = 0;
   lines = [];
   read = tt;
-  audited = false;
-  whole = λ is. cc;
-  told = [];
-  others = [];
-  first = refl;
+  told = 0;
   written = appends_none start;
 }
 

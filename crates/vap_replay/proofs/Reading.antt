@@ -6,7 +6,7 @@ use Rattle.serde_json.specs.View.{view}
 use Rattle.serde_json.specs.declared.value.Value.{Value as Json}
 use Rattle.vap_lines.specs.Lines.{longest_line}
 use Rattle.vap_read.specs.Lines.{line_kind}
-use Rattle.vap_read.specs.Reading.{read_event}
+use Rattle.vap_read.specs.Reading.{read_line}
 use Rattle.vap_read.specs.declared.event.Event.{Event}
 use Rattle.vap_read.specs.declared.event_fault.EventFault.{EventFault}
 use Rattle.vap_read.specs.declared.line.LineKind.{LineKind}
@@ -30,8 +30,10 @@ of_review bytes (Err f) some short spelled = (some, short, spelled)
 
 of_kind : (bytes : List ℕ) (k : LineKind) (json : Json) → is_blank bytes ≡ false → length bytes ≤ longest_line
     → Spells bytes (line_by k json) → Reads bytes (line_by k json)
-of_kind bytes kind.WatchEvent json some short spelled = of_event bytes (read_event (view json)) some short spelled
-of_kind bytes kind.ObjectList json some short spelled = of_event bytes (read_event (view json)) some short spelled
+of_kind bytes kind.WatchEvent json some short spelled =
+    of_event bytes (read_line kind.WatchEvent (view json)) some short spelled
+of_kind bytes kind.ObjectList json some short spelled =
+    of_event bytes (read_line kind.ObjectList (view json)) some short spelled
 of_kind bytes kind.Review json some short spelled = of_review bytes (read_review json) some short spelled
 of_kind bytes kind.Unknown json some short spelled = (some, short, spelled)
 

@@ -1,8 +1,8 @@
 -- One line more.
-use Rattle.std.proofs.Common.{◌≡◌, ℕ, List, [], ◌∷◌, ◌++◌, Result, Ok, Err, refl, sym, ap, ◌∙◌}
-use Rattle.vap_replay.specs.Lines.{Reads, EachReads}
+use Rattle.std.proofs.Common.{◌≡◌, ℕ, List, [], ◌∷◌, ◌++◌, Result, Ok, Err, ap}
+use Rattle.vap_replay.specs.Lines.{EachReads}
 use Rattle.vap_replay.specs.Moves.{after_lines, and_then}
-use Rattle.vap_replay.specs.Replay.{Choices, Sofar, Replayed, after_line, behind, replay_from, replayed, beginning}
+use Rattle.vap_replay.specs.Replay.{Choices, Sofar, after_line, behind, replay_from}
 use Rattle.vap_replay.specs.declared.fault.LineFault.{LineFault}
 use Rattle.vap_replay.specs.declared.line.Line.{Line}
 

@@ -4,7 +4,7 @@ use Rattle.std.proofs.Common.{true, refl, sym, ap, ◌∙◌, subst, suc, arith}
 use Rattle.std.specs.Prelude.{OnOk, IfSome}
 use Rattle.std.specs.Io.KnownBytes.{Appends}
 use Rattle.std.proofs.lemmas.List.Elements.{Contains-append_left, Contains-push_cases}
-use Rattle.vap_read.specs.Reading.{read_event}
+use Rattle.vap_read.specs.Reading.{read_line}
 use Rattle.vap_read.specs.Lines.{line_kind}
 use Rattle.vap_read.specs.declared.event.Event.{Event}
 use Rattle.vap_read.specs.declared.event_fault.EventFault.{EventFault}
@@ -216,8 +216,8 @@ plain_review (Ok request) = tt
 plain_review (Err f) = refl
 
 plain_kind : (k : LineKind) (json : Json) → IsPlain (line_by k json)
-plain_kind kind.WatchEvent json = plain_event (read_event (view json))
-plain_kind kind.ObjectList json = plain_event (read_event (view json))
+plain_kind kind.WatchEvent json = plain_event (read_line kind.WatchEvent (view json))
+plain_kind kind.ObjectList json = plain_event (read_line kind.ObjectList (view json))
 plain_kind kind.Review json = plain_review (read_review json)
 plain_kind kind.Unknown json = refl
 

@@ -6,7 +6,7 @@ use Rattle.serde_json.specs.Read.{read as read_text}
 use Rattle.serde_json.specs.View.{view}
 use Rattle.serde_json.specs.declared.value.Value.{Value as Json}
 use Rattle.vap_read.specs.Lines.{line_kind}
-use Rattle.vap_read.specs.Reading.{read_event}
+use Rattle.vap_read.specs.Reading.{read_line}
 use Rattle.vap_read.specs.declared.line.LineKind.{LineKind}
 use Rattle.vap_read.specs.declared.line.LineKind.TheVariants as kind
 use Rattle.vap_read.specs.declared.event.Event.{Event}
@@ -15,7 +15,6 @@ use Rattle.vap_request.specs.Reading.{read_review}
 use Rattle.vap_request.specs.declared.request.Request.{Request}
 use Rattle.vap_request.specs.declared.review_fault.ReviewFault.{ReviewFault}
 use Rattle.vap_lines.specs.Lines.{longest_line}
-use Rattle.vap_replay.specs.declared.fault.LineFault.{LineFault}
 use Rattle.vap_replay.specs.declared.fault.LineFault.TheVariants as fault
 use Rattle.vap_replay.specs.declared.line.Line.{Line}
 use Rattle.vap_replay.specs.declared.line.Line.TheVariants.{Skipped, Happens, Asks, Refused}
@@ -36,8 +35,8 @@ review_line (Err f) = Refused (fault.OfReview f)
 
 -- what a document of this kind is
 abbrev pub line_by : LineKind → Json → Line
-line_by kind.WatchEvent json = event_line (read_event (view json))
-line_by kind.ObjectList json = event_line (read_event (view json))
+line_by kind.WatchEvent json = event_line (read_line kind.WatchEvent (view json))
+line_by kind.ObjectList json = event_line (read_line kind.ObjectList (view json))
 line_by kind.Review json = review_line (read_review json)
 line_by kind.Unknown json = Refused fault.UnknownLine
 

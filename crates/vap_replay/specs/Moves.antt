@@ -27,7 +27,7 @@ abbrev pub and_then : (Sofar → Result Sofar LineFault) → Result Sofar LineFa
 and_then next (Ok s) = next s
 and_then next (Err f) = Err f
 
--- how far a stream is replayed behind some lines more, or why one of them is refused
+-- how far a stream is replayed after some lines more, or why one of them is refused
 abbrev pub after_lines : Choices → List Line → Sofar → Result Sofar LineFault
 after_lines choices [] s = Ok s
 after_lines choices (line ∷ lines) s = and_then (λ t. after_lines choices lines t) (after_line choices line s)
@@ -37,7 +37,7 @@ abbrev pub lines_ended : Ending → List ℕ → List (List ℕ)
 lines_ended End [] = []
 lines_ended _ bytes = bytes ∷ []
 
--- some entries stand in the history behind those that stood there, and their answers are written, nothing else
+-- the history has some entries more, and their answers are written, nothing else
 pub record Writes {W : Type 0} (contents : W → Option (List ℕ)) (old new : Session) (before after : Counted W) : Type 0 where
   pub answered : List Entry
   pub grown : new.history ≡ old.history ++ answered
@@ -48,7 +48,7 @@ abbrev pub Takes : Line → Session → Session → Type 0
 Takes line old new =
     (choices : Choices) → Agrees choices new.writer.published → after_line choices line (sofar_of old) ≡ Ok (sofar_of new)
 
--- reviews wait behind a line: nothing was published or answered with it, and each of them, the first too, waited before it or is
+-- reviews wait after a line: nothing was published or answered with it, and each of them, the first too, waited before it or is
 -- the line's
 pub record Waits (Is : Line → Type 0) (old new : Session) : Type 0 where
   pub log : new.writer.published ≡ old.writer.published
@@ -57,7 +57,7 @@ pub record Waits (Is : Line → Type 0) (old new : Session) : Type 0 where
   pub review : old.group.items ≡ [] → (request : Request) × Is (Asks request)
   pub each : (request : Request) → Contains new.group.items request → Contains old.group.items request ⊎ Is (Asks request)
 
--- the reviews that wait with the line are not judged, which is told at the first of them, and nothing is written: at one of them
+-- the reviews that wait with the line are not judged, which is reported at the first of them, and nothing is written: at one of them
 -- the set of the log looks for a pattern
 pub record IsUnjudged {W : Type 0} (Is : Line → Type 0) (old : Session) (before after : Counted W) (number : ℕ) : Type 0 where
   pub unwritten : after ≡ before
@@ -67,7 +67,7 @@ pub record IsUnjudged {W : Type 0} (Is : Line → Type 0) (old : Session) (befor
   pub waits : Contains old.group.items asked ⊎ Is (Asks asked)
   pub matches : MayMatch (set_of old.writer.published) asked
 
--- the line's event is not published: of the objects behind it the verifier refuses an image. The answers to the reviews before it
+-- the line's event is not published: of the objects after it the verifier refuses an image. The answers to the reviews before it
 -- are written
 pub record IsUnpublished {W : Type 0} (contents : W → Option (List ℕ)) (Is : Line → Type 0) (old : Session) (before after : Counted W)
     (number : ℕ) : Type 0 where
@@ -138,7 +138,7 @@ pub record RefusesBytes {W : Type 0} (contents : W → Option (List ℕ)) (endin
   pub read : ReadsEnded ending bytes line
   pub refused : RefusesAt contents line old before after number why
 
--- the next line was taken, where this was unread and that is, and the text goes on behind a line feed alone
+-- the next line was taken, where this was unread and that is, and the text goes on after a line feed alone
 pub record TakesNext (text left : Option (List ℕ)) (ending : Ending) (old new : Session) : Type 0 where
   pub bytes : List ℕ
   pub first : IsFirst text left bytes ending
@@ -163,7 +163,7 @@ pub record StopsAt {W : Type 0} (contents : W → Option (List ℕ)) (old : Sess
   pub first : waiting_entries old ≡ answered ++ others
   pub written : Appends (contents (inner_of before)) (contents (inner_of after)) (answers_text answered)
 
--- a write has failed where that is told, and none where all went well
+-- a write has failed if that is reported, and none if all went well
 pub record CountsWrites {A W : Type 0} (result : Result A ReplayError) (before after : Counted W) : Type 0 where
   pub all : OnOk result (failures_of after ≡ failures_of before)
   pub failed : IsErrOf result Write → failures_of after ≡ one_more (failures_of before)

@@ -1,4 +1,4 @@
--- What a stream of lines comes to: each event is published behind those before it, and each review is answered at the log of the
+-- The replay of a stream of lines: each event is published after those before it, and each review is answered at the log of the
 -- events before it.
 use Rattle.std.specs.Prelude.{ℕ, ◌+◌, nat_lt, Bool, ◌&&◌, if◌then◌else◌, List, [], ◌∷◌, ◌++◌, map, flat_map, length}
 use Rattle.std.specs.Prelude.{is_none, Option, Some, None, Result, Ok, Err}
@@ -63,7 +63,7 @@ after_line choices (Happens event) s = after_event choices event s
 after_line choices (Asks request) s = after_review request s
 after_line choices (Refused f) s = Err f
 
--- what a stream comes to: what was decided, and the first line that is refused, if one is
+-- the replay of a stream: what was decided, and the first line that is refused, if one is
 pub record Replayed : Type 0 where
   pub entries : List Entry
   pub refusal : Option Refusal
@@ -73,12 +73,12 @@ abbrev pub behind : Sofar → (Sofar → Replayed) → Result Sofar LineFault �
 behind s rest (Ok t) = rest t
 behind s rest (Err f) = record { entries = s.entries; refusal = Some (record { line = s.lines + 1; fault = f }) }
 
--- what the lines behind others come to
+-- the replay of lines after others
 abbrev pub replay_from : Choices → Sofar → List Line → Replayed
 replay_from choices s [] = record { entries = s.entries; refusal = None }
 replay_from choices s (line ∷ lines) = behind s (λ t. replay_from choices t lines) (after_line choices line s)
 
--- what lines come to
+-- the replay of lines
 abbrev pub replayed : Choices → List Line → Replayed
 replayed choices lines = replay_from choices beginning lines
 
@@ -102,14 +102,14 @@ audit_lines entries = flat_map audit_line entries
 abbrev pub audit_where : Bool → List Entry → List ℕ
 audit_where audit entries = if audit then audit_lines entries else []
 
--- the lines that are told of a stream: the answers, and behind them, where it is wanted and no line is refused, the audit
+-- the lines of the text of a stream: the answers, and after them the audit, if it is wanted and no line is refused
 abbrev pub told_lines : Bool → Replayed → List (List ℕ)
 told_lines audit r = map answer_line r.entries ++ (if audit && is_none r.refusal then map audit_line r.entries else [])
 
--- the text of a stream: the answers, and behind them, where it is wanted and no line is refused, the audit
+-- the text of a stream: the answers, and after them the audit, if it is wanted and no line is refused
 abbrev pub text_of : Bool → Replayed → List ℕ
 text_of audit r = answers_text r.entries ++ audit_where (audit && is_none r.refusal) r.entries
 
--- what lines come to: the text that is written, and the first line that is refused with its fault
+-- of lines the text that is written, and the first line that is refused, with its fault
 abbrev pub replay_of : Choices → Bool → List Line → List ℕ × Option Refusal
 replay_of choices audit lines = (text_of audit (replayed choices lines), (replayed choices lines).refusal)

@@ -92,7 +92,7 @@ pub record OneMayMatch (log : List Logged) (requests : List Request) : Type 0 wh
   pub waits : Contains requests request
   pub matches : MayMatch (set_of log) request
 
--- a group that waits is not judged, which is told at its first line: at one of its requests a pattern is looked for
+-- a group that waits is not judged, which is reported at its first line: at one of its requests a pattern is looked for
 pub record TellsGroup (s : Session) (number : ℕ) (why : LineFault) : Type 0 where
   pub numbered : number ≡ s.first
   pub pattern : why ≡ Pattern

@@ -1,5 +1,5 @@
 -- What a replay leaves of its input and its output.
-use Rattle.std.specs.Prelude.{◌≡◌, ◌≤◌, ◌⊎◌, ◌+◌, ⊤, ℕ, Bool, true, false, List, [], ◌∷◌, ◌++◌, drop, flat_map, length, take}
+use Rattle.std.specs.Prelude.{◌≡◌, ◌≤◌, ◌⊎◌, ◌+◌, ⊤, ℕ, Bool, true, false, ◌&&◌, nat_le, List, [], ◌∷◌, ◌++◌, drop, flat_map, length, take}
 use Rattle.std.specs.Prelude.{IfSome, Option, None, Some, Ok}
 use Rattle.std.specs.Io.KnownBytes.{Appends}
 use Rattle.vap_lines.specs.Counted.{failures_of, inner_of, one_more}
@@ -17,13 +17,13 @@ use Rattle.vap_replay.specs.declared.fault.LineFault.TheVariants as fault
 use Rattle.vap_replay.specs.declared.line.Line.{Line}
 use Rattle.vap_replay.specs.declared.line.Line.TheVariants.{Happens, Asks, Refused}
 
--- whether a fault is told of the lines alone: a set that is not built and a pattern that is not built again are not
+-- whether the lines alone determine a fault: they do not of a set or a pattern that cannot be built
 abbrev pub is_of_the_lines : LineFault → Bool
 is_of_the_lines fault.Unverified = false
 is_of_the_lines fault.Pattern = false
 is_of_the_lines _ = true
 
--- where a line is refused as it is read, this is told of the lines alone
+-- if a line is refused as it is read, the lines alone determine this
 abbrev pub IsPlain : Line → Type 0
 IsPlain (Refused why) = is_of_the_lines why ≡ true
 IsPlain _ = ⊤
@@ -45,18 +45,20 @@ pub record Refuses (audit : Bool) (input : List ℕ) (old new : Option (List ℕ
   pub refused : (replay_of choices audit lines).1 ≡ Some refusal
   pub written : Appends old new (replay_of choices audit lines).0
 
--- the first lines of the text are written, each whole; lines of the audit are among them only where it is wanted and all was read
+-- whether there are no more than so many lines in a text
+abbrev pub are_all_lines : ℕ → List ℕ → Bool
+are_all_lines count input = nat_le (length (lines_of input)) count
+
+-- the first lines of the input are read, and the first lines of their text are written, each whole, and nothing else; their text has
+-- the audit only if it is wanted and all lines of the input are read
 pub record Stops (audit : Bool) (input : List ℕ) (old new : Option (List ℕ)) : Type 0 where
   pub choices : Choices
   pub count : ℕ
   pub lines : List Line
   pub read : EachReads (take count (lines_of input)) lines
-  pub audited : Bool
-  pub whole : audited ≡ true → (audit ≡ true) × (take count (lines_of input) ≡ lines_of input)
-  pub told : List (List ℕ)
-  pub others : List (List ℕ)
-  pub first : told_lines audited (replayed choices lines) ≡ told ++ others
-  pub written : Appends old new (flat_map (λ line. line) told)
+  pub told : ℕ
+  pub written : Appends old new
+      (flat_map (λ line. line) (take told (told_lines (audit && are_all_lines count input) (replayed choices lines))))
 
 -- a read failed; or none did, and the input has a byte at least for each read that may be made
 abbrev pub StopsReading : {R : Type 0} → (R → Option (List ℕ)) → Counted R → Counted R → Type 0
@@ -74,15 +76,15 @@ pub record Comes (input : List ℕ) (old new : Option (List ℕ)) (number : ℕ)
   pub taken : after_lines choices lines beginning ≡ Ok before
   pub written : Appends old new (answers_text before.entries)
 
--- the line of this number is an event, and some policy of the objects behind it has an expression whose image the verifier refuses
+-- the line of this number is an event, and some policy of the objects after it has an expression whose image the verifier refuses
 pub record IsUnverifiedAt (input : List ℕ) (old new : Option (List ℕ)) (number : ℕ) : Type 0 where
   pub event : Event
   pub before : Sofar
   pub comes : Comes input old new number (Happens event) before
   pub unverified : AreUnverified (objects_after (objects_of before.log) (event ∷ []))
 
--- the line of this number is a review, the first whose answer is not written; and at its request, or at that of a review behind
--- it, the set of the log before it looks for a pattern
+-- the line of this number is a review, the first whose answer is not written; and at its request, or at that of a later
+-- review, the set of the log before it looks for a pattern
 pub record IsUnansweredAt (input : List ℕ) (old new : Option (List ℕ)) (number : ℕ) : Type 0 where
   pub request : Request
   pub before : Sofar

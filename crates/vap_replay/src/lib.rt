@@ -2,19 +2,19 @@
 //!
 //! [`replay`] reads lines. An event is staged and published; reviews between two events are judged in groups of up to
 //! [`LARGEST_GROUP`] at the log of the events before them, recorded, and answered in order, one line each; with the audit, a line
-//! for each entry of the history follows at the end. The first line that is refused ends the run, and is told with its number and
-//! its [`LineFault`]. [`replay_with`] tells how far it is after each line, to a [`Progress`].
+//! for each entry of the history follows at the end. The first line that is refused ends the run, and is reported with its number and
+//! its [`LineFault`]. [`replay_with`] reports how far it is after each line, to a [`Progress`].
 #![tactic(auto)]
 
 mod audit_line;
 mod fault;
 mod line;
 mod progress;
-mod replaying;
 mod session;
+mod stream;
 
 pub use fault::{LineFault, ReplayError};
 pub use line::Line;
 pub use progress::{Progress, Silent};
-pub use replaying::{MOST_WORKERS, replay, replay_with};
 pub use session::LARGEST_GROUP;
+pub use stream::{MOST_WORKERS, replay, replay_with};

@@ -1,16 +1,17 @@
 //! What a line of a stream is.
 
-ghost use Rattle.std.specs.Prelude.{◌≡◌, ◌≤◌, length, IfOk, false};
-ghost use Rattle.serde_json.specs.View.{view};
+ghost use Rattle.std.specs.Prelude.{◌≡◌, ◌≤◌, length, IfOk, Result, false};
 ghost use Rattle.vap_lines.specs.Lines.{longest_line};
-ghost use Rattle.vap_read.specs.Reading.{read_event as event_of};
+ghost use Rattle.vap_read.specs.Faults.{Answers};
+ghost use Rattle.vap_read.specs.declared.event.Event.{Event as EventOf};
+ghost use Rattle.vap_read.specs.declared.event_fault.EventFault.{EventFault as EventFaultOf};
 ghost use Rattle.vap_request.specs.Reading.{read_review as review_of};
 ghost use Rattle.vap_replay.specs.Lines.{Reads, event_line, is_blank, line_of, review_line};
 
 use crate::fault::LineFault;
 use serde_json::Value as Json;
 use std::alloc::{AllocError, Global};
-use vap_read::{Event, EventError, LineKind, line_kind};
+use vap_read::{Event, EventError, EventReader, LineKind, line_kind};
 use vap_request::{Request, ReviewError};
 
 /// What a line of a stream is.
@@ -31,24 +32,28 @@ fn is_blank(bytes: &[u8]) -> bool
 }
 
 /// What the bytes of a line are, which has no more than it may have.
-pub(crate) fn read_line(alloc: Global, bytes: &[u8]) -> Result<Line, AllocError>
+pub(crate) fn read_line(
+    alloc: Global,
+    events: &EventReader,
+    bytes: &[u8],
+) -> Result<Line, AllocError>
     requires { length bytes.now ≤ longest_line }
     ensures { IfOk result (Reads bytes.now) }
 {
     if is_blank(bytes) {
         Ok(Line::Skipped)
     } else {
-        read_text(alloc, bytes)
+        read_text(alloc, events, bytes)
     }
 }
 
-fn read_text(alloc: Global, bytes: &[u8]) -> Result<Line, AllocError>
+fn read_text(alloc: Global, events: &EventReader, bytes: &[u8]) -> Result<Line, AllocError>
     requires short { length bytes.now ≤ longest_line }
     requires some { is_blank bytes.now ≡ false }
     ensures { IfOk result (Reads bytes.now) }
 {
     match Json::from_slice(alloc, bytes) {
-        Ok(json) => read_json(alloc, json),
+        Ok(json) => read_json(alloc, events, json),
         Err(error) => {
             if error.is_memory() {
                 Err(AllocError)
@@ -59,20 +64,22 @@ fn read_text(alloc: Global, bytes: &[u8]) -> Result<Line, AllocError>
     }
 }
 
-fn read_json(alloc: Global, json: Json) -> Result<Line, AllocError>
+fn read_json(alloc: Global, events: &EventReader, json: Json) -> Result<Line, AllocError>
     ensures { IfOk result (λ line. line ≡ line_of json) }
 {
     match line_kind(&json) {
-        LineKind::WatchEvent | LineKind::ObjectList => read_event(alloc, json),
+        LineKind::WatchEvent => event_line(events.read_watch_event(json)),
+        LineKind::ObjectList => event_line(events.read_list(json)),
         LineKind::Review => read_review(alloc, json),
         LineKind::Unknown => Ok(Line::Refused(LineFault::UnknownLine)),
     }
 }
 
-fn read_event(alloc: Global, json: Json) -> Result<Line, AllocError>
-    ensures { IfOk result (λ line. line ≡ event_line (event_of (view json))) }
+/// The line of an event, or of its fault.
+fn event_line(event: Result<Event, EventError>) -> Result<Line, AllocError>
+    ensures { (want : Result EventOf EventFaultOf) → Answers want event → IfOk result (λ line. line ≡ event_line want) }
 {
-    match Event::from_json(alloc, json) {
+    match event {
         Ok(event) => Ok(Line::Happens(event)),
         Err(EventError::Fault(fault)) => Ok(Line::Refused(LineFault::OfEvent(fault))),
         Err(EventError::OutOfMemory) => Err(AllocError),

@@ -1,11 +1,11 @@
 //! How far a replay is.
 
-/// Is told how far a replay is, after each line.
+/// Hears how far a replay is, after each line.
 pub trait Progress {
     fn reached(&mut self, lines: u64, reviews: usize, revision: usize);
 }
 
-/// Tells nobody.
+/// Reports to nobody.
 #[derive(Clone, Copy, Debug)]
 pub struct Silent;
 

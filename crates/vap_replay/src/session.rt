@@ -1,9 +1,10 @@
 //! A replay under way.
 
-ghost use Rattle.std.specs.Prelude.{◌≡◌, ◌≢◌, ◌+◌, ◌<◌, ◌^◌, ◌∷◌, ◌++◌, ℕ, [], false, true};
+ghost use Rattle.std.specs.Prelude.{◌≡◌, ◌≢◌, ◌+◌, ◌<◌, ◌≤◌, ◌^◌, ◌∷◌, ◌++◌, ℕ, [], false, true};
 ghost use Rattle.std.specs.Prelude.{length, take, slice_get, Some, IfErr, IfOk, IsErr, IsErrOf, OnOk, string_bytes};
 ghost use Rattle.std.specs.Io.KnownBytes.{Appends, Keeps};
 ghost use Rattle.vap_lines.specs.Counted.{inner_of};
+ghost use Rattle.vap_lines.specs.Lines.{longest_line};
 ghost use Rattle.vap_audit.specs.Entries.{most_entries};
 ghost use Rattle.vap_audit.specs.declared.entry.Entry.{Entry as EntryOf};
 ghost use Rattle.vap_watch.specs.Given.{AreUnverified, MayMatch};
@@ -11,32 +12,34 @@ ghost use Rattle.vap_watch.specs.Logs.{objects_after, objects_of, set_of};
 ghost use Rattle.vap_replay.specs.Moves.{CountsWrites, IsRefusal, IsUnjudged, IsUnpublished, RefusesAt, StopsAt, Takes, Waits, Writes};
 ghost use Rattle.vap_replay.specs.Streams.{IsPlain, is_of_the_lines};
 ghost use Rattle.vap_replay.specs.declared.fault.LineFault.{LineFault as FaultOf};
+ghost use Rattle.vap_replay.specs.Lines.{Reads};
 ghost use Rattle.vap_replay.specs.Replay.{answer_line, answers_text, audit_line, audit_lines, audit_where, entry_of};
 ghost use Rattle.vap_replay.specs.Sessions.{Answered, Decided, HasRoom, IsInStep, IsOpening, OneMayMatch, RefusesEvent, TakesEvent};
 ghost use Rattle.vap_replay.specs.Sessions.{TakesReview, TellsGroup, first_with, sofar_of, waiting_entries};
 
 use crate::audit_line::audit_text;
 use crate::fault::{LineFault, ReplayError, unpublished, unstaged};
-use crate::line::Line;
-use std::alloc::Global;
+use crate::line::{Line, read_line};
+use std::alloc::{AllocError, Global};
 use std::io::Write;
 use std::mem;
 use vap_answer::answer_text;
 use vap_audit::{AuditFault, Entry, History, MOST_ENTRIES};
 use vap_judge::{JudgeError, Matchers};
 use vap_lines::Counted;
-use vap_read::Event;
+use vap_read::{Event, EventReader};
 use vap_request::Request;
 use vap_watch::{Writer, open};
 
 /// The most reviews that are judged together.
 pub const LARGEST_GROUP: usize = 1_024;
 
-/// A replay under way: what is published, what was decided, and the reviews that are read and not yet answered, with the line of
-/// the first of them.
+/// A replay under way: what reads its events, what is published, what was decided, and the reviews that are read and not yet
+/// answered, with the line of the first of them.
 #[derive(Drop)]
 pub(crate) struct Session {
     alloc: Global,
+    events: EventReader,
     pub(crate) writer: Writer,
     pub(crate) history: History,
     pub(crate) group: Vec<Request>,
@@ -55,6 +58,7 @@ impl Session {
     {
         Ok(Session {
             alloc,
+            events: EventReader::new(alloc)?,
             writer: open(alloc)?,
             history: History::new(alloc),
             group: Vec::new(alloc),
@@ -62,6 +66,14 @@ impl Session {
             lines: 0,
             first: 0,
         })
+    }
+
+    /// What the bytes of a line are, which has no more than it may have.
+    pub(crate) fn read(&self, bytes: &[u8]) -> Result<Line, AllocError>
+        requires { length bytes.now ≤ longest_line }
+        ensures { IfOk result (Reads bytes.now) }
+    {
+        read_line(self.alloc, &self.events, bytes)
     }
 
     /// The refusal of the line that was read last.
@@ -255,7 +267,7 @@ impl Session {
         Ok(text)
     }
 
-    /// Judges one request and records what is decided; then its answer is put behind the text.
+    /// Judges one request, records what is decided, and adds its answer to the end of the text.
     fn decide(&mut self, request: Request, text: &mut String) -> Result<(), ReplayError>
         requires { length self.old.history < most_entries }
         ensures decided { OnOk result
@@ -405,7 +417,7 @@ fn flush<W: Write>(out: &mut Counted<W>) -> Result<(), ReplayError>
     }
 }
 
-/// Why a group of reviews is not judged, which is told at its first line.
+/// Why a group of reviews is not judged, which is reported at its first line.
 fn unjudged(first: u64, error: JudgeError) -> ReplayError
     ensures lines { (number : ℕ) → (why : FaultOf) → result ≡ ReplayError.Line number why → is_of_the_lines why ≡ false }
     ensures unwritten { result ≢ ReplayError.Write }

@@ -7,12 +7,12 @@
 
 mod labels;
 mod match_fault;
-mod selecting;
+mod selection;
 mod selector;
 mod selector_form;
 
 pub use labels::{Labels, labels_of};
 pub use match_fault::{MatchError, MatchFault};
-pub use selecting::{contains, selects};
+pub use selection::{contains, selects};
 pub use selector::{Operator, Requirement, Selector};
 pub use selector_form::{is_selector, selector_of};

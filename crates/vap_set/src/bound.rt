@@ -4,7 +4,7 @@ ghost use Rattle.std.specs.Prelude.{◌≡◌, Some};
 ghost use Rattle.std.specs.Option.{option_copied};
 ghost use Rattle.vap_set.specs.Sets.{is_pair_of, pair_in};
 
-use crate::fitting::KindParams;
+use crate::kind_params::KindParams;
 use plain::{Items, Keyed, Shared, Text};
 use vap_bindings::Binding;
 use vap_kinds::Kind;

@@ -7,18 +7,18 @@
 
 mod bound;
 mod build_error;
-mod building;
 mod choice;
-mod choosing;
-mod fitting;
+mod kind_params;
+mod literal_patterns;
 mod params;
+mod policies;
 mod report;
 mod set;
 
 pub use bound::{BoundPolicy, KindPair};
 pub use build_error::BuildError;
 pub use choice::Choice;
-pub use fitting::{KindParams, Param};
+pub use kind_params::{KindParams, Param};
 pub use params::kind_of_params;
 pub use report::Misconfigured;
 pub use set::PolicySet;

@@ -12,9 +12,9 @@ ghost use Rattle.vap_set.specs.declared.build_error.BuildError.TheVariants.{Unve
 
 use crate::bound::BoundPolicy;
 use crate::build_error::BuildError;
-use crate::building::bound_policies;
 use crate::choice::Choice;
-use crate::choosing::choice_for;
+use crate::literal_patterns::choice_for;
+use crate::policies::bound_policies;
 use crate::report::{Misconfigured, report_of};
 use plain::{Items, Shared};
 use std::alloc::{AllocError, Global};

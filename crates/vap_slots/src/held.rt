@@ -7,20 +7,18 @@ ghost use Rattle.cel_operators.specs.Outcomes.{outcome_fits};
 ghost use Rattle.json_members.specs.Parts.{lent};
 ghost use Rattle.vap_request.specs.Requests.{old_object_of};
 ghost use Rattle.vap_kinds.specs.FixedKinds.{namespace_type};
-ghost use Rattle.vap_match.specs.Namespaces.{is_cluster};
-ghost use Rattle.vap_objects.specs.OfKind.{namespace_key};
 ghost use Rattle.vap_slots.specs.Held.{IsHeldAt, held_at, held_namespace, held_with, namespace_value, old_outcome};
 ghost use Rattle.vap_slots.specs.Held.{value_at};
 
 use crate::values::request_value;
 use cel_value::{CelError, CelType, Value};
-use plain::Text;
 use serde_json::Value as Json;
 use std::alloc::{AllocError, Global};
 use vap_fit::{FitError, FitFault, fit};
 use vap_kinds::namespace_type;
+use vap_match::is_cluster;
 use vap_objects::Objects;
-use vap_read::{Key, Object};
+use vap_read::Object;
 use vap_request::{Admission, Request};
 
 /// What all names but `params` hold at a request.
@@ -84,26 +82,6 @@ fn held_namespace(alloc: Global, object: &Object) -> Result<Value, AllocError>
     }
 }
 
-fn namespace_key(alloc: Global, name: &str) -> Result<Key, AllocError>
-    ensures { IfOk result (λ key. key ≡ namespace_key name.now) }
-{
-    Ok(Key {
-        api_version: Text::from_str(alloc, "v1")?,
-        kind: Text::from_str(alloc, "Namespace")?,
-        namespace: Text::from_str(alloc, "")?,
-        name: Text::from_str(alloc, name)?,
-    })
-}
-
-/// Whether a request is on what stands in no namespace.
-fn is_cluster(request: &Admission) -> bool
-    ensures { result ≡ is_cluster request.now }
-{
-    let resource = &request.resource;
-    request.namespace.as_str().is_empty()
-        || (resource.group.as_str().is_empty() && resource.resource.as_str() == "namespaces")
-}
-
 /// The object of the namespace that a request is in.
 fn namespace_value(
     alloc: Global,
@@ -116,7 +94,7 @@ fn namespace_value(
     if is_cluster(request) {
         return Ok(Value::Null);
     }
-    match objects.get(&namespace_key(alloc, request.namespace.as_str())?) {
+    match objects.namespace(alloc, request.namespace.as_str())? {
         Some(object) => held_namespace(alloc, object.get()),
         None => Ok(Value::Null),
     }

@@ -6,7 +6,7 @@ use std::alloc::AllocError;
 use thiserror::Error;
 use vap_judge::BuildError;
 
-/// The faults of staging by their numbers, from 1 on, and want of memory.
+/// The faults of staging by their numbers, from 1 on, and out of memory.
 #[derive(Clone, Copy, Debug, PartialEq, Eq, Error)]
 pub enum StageFault {
     #[error("the log has as many events as it may have")]

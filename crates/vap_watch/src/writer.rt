@@ -15,7 +15,7 @@ use vap_read::Event;
 /// The most events of a log.
 pub const MOST_EVENTS: usize = 65_536;
 
-/// Stages events and publishes them. Contracts see it as the published log with what is staged behind it.
+/// Stages events and publishes them. Contracts see it as the published log with what is staged after it.
 #[derive(Drop)]
 pub struct Writer {
     published: Snapshot,
@@ -54,8 +54,8 @@ pub fn open(alloc: Global) -> Result<Writer, AllocError>
 }
 
 impl Writer {
-    /// Puts an event behind all that is staged. Where it is refused, it comes back and nothing has changed; the fault is the
-    /// first that applies of a full log and too many objects, and want of memory only where none does.
+    /// Stages an event after all that is staged. If it is refused, it comes back and nothing has changed; the fault is the
+    /// first that applies of a full log and too many objects, and out of memory only if neither does.
     pub fn stage(&mut self, event: Event) -> Result<(), (StageFault, Event)>
         ensures room { OnOk result (HasRoomFor self.old event) }
         ensures last { OnOk result (self.new ≡ at self.old.published (self.old.staged ++ event ∷ [])) }
@@ -80,7 +80,7 @@ impl Writer {
         Ok(())
     }
 
-    /// Whether the limits on objects hold after an event behind all that is staged.
+    /// Whether the limits on objects hold after all that is staged and one event more.
     fn takes(&self, event: &Event) -> bool
         ensures { result ≡ takes (objects_at self.now) event.now }
     {

@@ -1,5 +1,5 @@
-use Rattle.std.proofs.Common.{◌+◌, sym, ap, ◌∙◌, arith}
-use Rattle.cel_verify.specs.Paths.{path_cost, path_steps}
+use Rattle.std.proofs.Common.{◌+◌, sym, ap, ◌∙◌, subst, arith}
+use Rattle.cel_verify.specs.Paths.{IsRouteCharge, IsRouteLength, IsWithin}
 use Rattle.cel_verify.specs.Depths.{greatest_depth, greatest_nesting}
 use Rattle.cel_verify.proofs.Walking.{no_end}
 use Rattle.cel_machine.proofs.Running.{begun, here, deep, nested, goes, next, outcome_fits, has_top, not_stuck}
@@ -105,7 +105,8 @@ returns-in-IsOver-clause-steps c =
     let i = c.image-image in
     let run = here c.args.program.now i.result.now c.args.slots.now i.ensures.accepted i.ensures.image c.requires in
     let h = run l.position.at l.stack.items l.frames.items l.charged l.steps l.invariant.0 in
-    omega (arith, h.within, ap path_steps i.ensures.image)
+    let long = subst (λ p. IsWithin (IsRouteLength p) (l.steps + 1)) i.ensures.image h.long in
+    record { most = long.most; is = long.is; within = omega (arith, long.within) }
 
 pub returns-in-IsOver-clause-charged : goal.returns-in-IsOver-clause-charged
 returns-in-IsOver-clause-charged c =
@@ -113,7 +114,8 @@ returns-in-IsOver-clause-charged c =
     let i = c.image-image in
     let run = here c.args.program.now i.result.now c.args.slots.now i.ensures.accepted i.ensures.image c.requires in
     let h = run l.position.at l.stack.items l.frames.items l.charged l.steps l.invariant.0 in
-    omega (arith, h.cost, ap path_cost i.ensures.image)
+    let cost = subst (λ p. IsWithin (IsRouteCharge p) l.charged) i.ensures.image h.cost in
+    record { most = cost.most; is = cost.is; within = omega (arith, cost.within) }
 
 pub returns-in-IsOver-clause-within_budget : goal.returns-in-IsOver-clause-within_budget
 returns-in-IsOver-clause-within_budget c =

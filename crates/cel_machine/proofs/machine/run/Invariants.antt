@@ -1,7 +1,7 @@
 use Rattle.std.proofs.Common.{◌≡◌, ◌+◌, ◌-◌, []}
 use Rattle.cel_code.specs.Machine.{Gets, on}
-use Rattle.cel_verify.specs.Paths.{path_steps}
 use Rattle.cel_verify.specs.Depths.{greatest_depth, greatest_nesting}
+use Rattle.cel_verify.proofs.ToGo.{path_steps}
 use Rattle.cel_machine.proofs.machine.run.Given as goal
 
 abbrev pub invariant-loop-instr : goal.invariant-loop-instr

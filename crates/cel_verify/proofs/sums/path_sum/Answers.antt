@@ -1,7 +1,10 @@
 use Rattle.std.proofs.Common.{◌≡◌, ◌+◌, ◌-◌, ◌^◌, min, subst, sym, ap, ◌∙◌, arith, length-set}
 use Rattle.std.specs.Prelude.{slice_index}
 use Rattle.std.proofs.lemmas.Grind.{common_steps, get_or_default_zero}
-use Rattle.cel_verify.specs.Walked.{AreSums, behind}
+use Rattle.cel_verify.specs.Walked.{behind}
+use Rattle.cel_verify.proofs.Labels.{walks}
+use Rattle.cel_verify.proofs.Routes.{greatest_path}
+use Rattle.cel_verify.proofs.ToGo.{path_from, AreSums}
 use Rattle.cel_verify.proofs.Walking.{no_end}
 use Rattle.cel_verify.proofs.Summing.{sums_first, sums_next}
 use Rattle.cel_verify.proofs.sums.path_sum.Goals as goal
@@ -35,7 +38,7 @@ loop-at-preserved c =
       inside = omega (arith, l.invariant.inside);
       long = length-set sums at sum ∙ l.invariant.long;
       sums = λ weigh h.
-          sums_next image c.requires.sound weigh sums at c.sum_behind-rest.result sum i
+          sums_next image (walks image c.requires.sound) weigh sums at c.sum_behind-rest.result sum i
           (subst (λ n. AreSums image weigh n sums) (sym e) (l.invariant.sums weigh h))
           (sym c.in-Some.ensures.value)
           (c.sum_behind-rest.ensures
@@ -48,6 +51,12 @@ pub returns : goal.returns
 returns c = λ weigh h.
     let l = c.loop-at in
     let zero : l.at ≡ 0 = omega (arith, c.loop-at-test.false) in
-    c.sum_at.ensures
-    ∙ ap (λ xs. slice_index xs 0) c.as_slice-2.ensures.value
-    ∙ (l.invariant.sums weigh h).paths 0 (omega arith)
+    let image = c.args.image.now in
+    record {
+      most = path_from image weigh 0;
+      is = greatest_path image (walks image c.requires.sound) weigh;
+      capped =
+          c.sum_at.ensures
+          ∙ ap (λ xs. slice_index xs 0) c.as_slice-2.ensures.value
+          ∙ (l.invariant.sums weigh h).paths 0 (omega arith);
+    }

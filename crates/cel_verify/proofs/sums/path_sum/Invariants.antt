@@ -1,5 +1,6 @@
 use Rattle.std.proofs.Common.{◌≡◌, ℕ, ◌≤◌, length}
-use Rattle.cel_verify.specs.Walked.{AreWeights, AreSums}
+use Rattle.cel_verify.specs.Walked.{AreWeights}
+use Rattle.cel_verify.proofs.ToGo.{AreSums}
 use Rattle.cel_verify.proofs.sums.path_sum.Given as goal
 
 abbrev pub invariant-loop-at : goal.invariant-loop-at

@@ -1,6 +1,7 @@
 use Rattle.std.proofs.Common.{◌+◌, ◌-◌, ◌*◌, ◌^◌, min, ap, ◌∙◌}
 use Rattle.std.specs.Prelude.{slice_index}
-use Rattle.cel_verify.specs.Paths.{rounds_of, goes_to, greatest}
+use Rattle.cel_verify.specs.Paths.{goes_to}
+use Rattle.cel_verify.specs.Walked.{rounds_of, greatest}
 use Rattle.cel_verify.proofs.Summing.{both_capped}
 use Rattle.cel_verify.proofs.sums.sum_behind.Goals as goal
 

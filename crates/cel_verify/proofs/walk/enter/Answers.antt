@@ -1,8 +1,8 @@
 use Rattle.std.proofs.Common.{◌≡◌, ◌+◌, ◌∷◌, [], length, min, not, Some, sym, ap, ◌∙◌, arith}
 use Rattle.std.specs.Prelude.{Ok}
 use Rattle.cel_verify.specs.declared.fault.VerifyRule.TheVariants.{TooDeep}
-use Rattle.cel_verify.specs.Sound.{needs, shallow}
-use Rattle.cel_verify.specs.Walked.{ceiling}
+use Rattle.cel_verify.specs.Sound.{needs}
+use Rattle.cel_verify.specs.Walked.{ceiling, shallow}
 use Rattle.cel_verify.proofs.Openings.{entered_shallow, room_left}
 use Rattle.cel_verify.proofs.walk.enter.Goals as goal
 

@@ -1,7 +1,8 @@
 use Rattle.std.proofs.Common.{not, Some, sym, ap, ◌∙◌}
 use Rattle.std.specs.Prelude.{Ok}
 use Rattle.cel_verify.specs.declared.fault.VerifyRule.TheVariants.{TooDeep}
-use Rattle.cel_verify.specs.Sound.{needs, shallow}
+use Rattle.cel_verify.specs.Sound.{needs}
+use Rattle.cel_verify.specs.Walked.{shallow}
 use Rattle.cel_verify.proofs.Openings.{shallow_by}
 use Rattle.cel_verify.proofs.walk.is_too_deep.Goals as goal
 

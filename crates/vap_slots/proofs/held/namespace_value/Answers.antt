@@ -11,8 +11,8 @@ null_fits t = search (rules, tests, type.the_lemmas, value.the_lemmas)
 pub returns-then-is_cluster-clause-fits : goal.returns-then-is_cluster-clause-fits
 returns-then-is_cluster-clause-fits c = null_fits _
 
-pub returns-clause-fits : goal.returns-clause-fits
-returns-clause-fits c = null_fits _
+pub returns-in-None-clause-fits : goal.returns-in-None-clause-fits
+returns-in-None-clause-fits c = null_fits _
 
 pub returns-in-Some-clause-exact : goal.returns-in-Some-clause-exact
 returns-in-Some-clause-exact c = search rules

@@ -1,5 +1,4 @@
-use Rattle.std.proofs.Common.{arith}
 use Rattle.cel_verify.proofs.program.Program.cost_bound.Goals as goal
 
 pub returns-clause-within : goal.returns-clause-within
-returns-clause-within c = omega (arith, c.self.invariant.0.cheap, c.self.invariant.1.cost)
+returns-clause-within c = c.self.invariant.0.cheap c.self.inside.bounds.cost c.self.invariant.1.cost.attained

@@ -1,6 +1,5 @@
 use Rattle.std.proofs.Common.{◌≡◌, List, ap, subst}
 use Rattle.std.specs.Prelude.{Err}
-use Rattle.vap_judge.specs.declared.judge_error.JudgeError.TheVariants as judging
 use Rattle.vap_watch.specs.Given.{MayMatch}
 use Rattle.vap_watch.specs.Logs.{set_of}
 use Rattle.vap_watch.specs.declared.log.Logged.{Logged}

@@ -1,8 +1,0 @@
-use Rattle.cel_estimate.proofs.Bounded.{bounded_outside}
-use Rattle.cel_estimate.proofs.measuring.estimate.Goals as goal
-
-pub returns-clause-bounds : goal.returns-clause-bounds
-returns-clause-bounds c = λ slots h. bounded_outside c.args.typed.now slots h
-
-pub returns-then-estimate-gt-BUDGET-clause-bounds : goal.returns-then-estimate-gt-BUDGET-clause-bounds
-returns-then-estimate-gt-BUDGET-clause-bounds c = λ slots h. bounded_outside c.args.typed.now slots h

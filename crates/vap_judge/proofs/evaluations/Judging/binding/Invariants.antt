@@ -1,0 +1,6 @@
+use Rattle.vap_judge.specs.Ready.{types_of}
+use Rattle.vap_judge.specs.Shown.{case_of}
+use Rattle.vap_judge.proofs.evaluations.Judging.binding.Given as goal
+
+abbrev pub ghost-params : goal.ghost-params
+ghost-params a = types_of (case_of a.self.now.case.now) a.params.now

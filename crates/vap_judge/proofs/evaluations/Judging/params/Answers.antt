@@ -1,0 +1,18 @@
+use Rattle.std.proofs.Common.{arith}
+use Rattle.vap_judge.specs.Shown.{case_of}
+use Rattle.vap_judge.proofs.Fitting.{null_runs}
+use Rattle.vap_judge.proofs.evaluations.Judging.params.Goals as goal
+
+pub run-requires : goal.run-requires
+run-requires g c =
+    let ready = c.requires.0 in (
+      ready.ready,
+      (
+        ready.within,
+        (
+          null_runs (case_of c.args.self.now.case.now) c.args.params.now g.types c.args.programs.now ready,
+          omega
+              (arith, c.requires.1),
+        ),
+      ),
+    )

@@ -1,4 +1,0 @@
-use Rattle.vap_judge.proofs.judging.Judging.run.Given as goal
-
-abbrev pub ghost-judge : goal.ghost-judge
-ghost-judge g a = g.types

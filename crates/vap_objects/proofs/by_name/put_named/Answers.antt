@@ -1,0 +1,11 @@
+use Rattle.std.proofs.Common.{◌≡◌, rules, arith}
+use Rattle.std.proofs.lemmas.Grind.{common_steps}
+use Rattle.plain.specs.Keys.{with_entry}
+use Rattle.vap_objects.proofs.Gathering.{adds_one}
+use Rattle.vap_objects.proofs.by_name.put_named.Goals as goal
+
+pub returns : goal.returns
+returns g c =
+    let same : c.insert.new.self.items ≡ with_entry c.args.name c.args.value c.args.entries.now.items =
+    first_of (search rules, grind (arith, common_steps)) in
+    adds_one c.args.name c.args.value c.args.entries.now.items c.insert.new.self.items same

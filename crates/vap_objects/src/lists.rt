@@ -1,0 +1,116 @@
+//! Policies, bindings and definitions by their names.
+
+ghost use Rattle.std.specs.Prelude.{◌≡◌, ◌++◌, IfOk, OnOk};
+ghost use Rattle.vap_objects.specs.ByName.{Adds};
+ghost use Rattle.vap_objects.specs.Listed.{policy_by, policies_in, binding_by, bindings_in, if_bound, bindings_of};
+ghost use Rattle.vap_objects.specs.Listed.{definition_by, definitions_in};
+
+use crate::by_name::put_named;
+use plain::{Items, Keyed, Shared};
+use std::alloc::{AllocError, Global};
+use vap_bindings::Binding;
+use vap_kinds::is_definition;
+use vap_policies::Policy;
+use vap_read::{Content, Object, ObjectMap};
+
+fn add_policy(object: &Object, policies: &mut Vec<Keyed<Policy>>) -> Result<(), AllocError>
+    ensures { OnOk result (Adds (policy_by object.now.key.name object.now.content) policies.old.items policies.new.items) }
+{
+    match &object.content {
+        Content::Policy(policy) => put_named(policies, object.key.name.copy()?, policy.copy()?),
+        Content::Binding(_) => Ok(()),
+        Content::Other => Ok(()),
+    }
+}
+
+/// The policies by their names.
+pub fn policies_in(alloc: Global, objects: &ObjectMap) -> Result<Items<Keyed<Policy>>, AllocError>
+    ensures { IfOk result (λ policies. policies ≡ policies_in objects.now) }
+{
+    let mut policies = Vec::new(alloc);
+    for (_, object) in objects.iter() {
+        add_policy(object.get(), &mut policies)?;
+    }
+    Ok(Items::from_vec(policies))
+}
+
+fn add_binding(object: &Object, bindings: &mut Vec<Keyed<Binding>>) -> Result<(), AllocError>
+    ensures { OnOk result (Adds (binding_by object.now.key.name object.now.content) bindings.old.items bindings.new.items) }
+{
+    match &object.content {
+        Content::Policy(_) => Ok(()),
+        Content::Binding(binding) => put_named(bindings, object.key.name.copy()?, binding.copy()?),
+        Content::Other => Ok(()),
+    }
+}
+
+/// The bindings by their names.
+pub fn bindings_in(alloc: Global, objects: &ObjectMap) -> Result<Items<Keyed<Binding>>, AllocError>
+    ensures { IfOk result (λ bindings. bindings ≡ bindings_in objects.now) }
+{
+    let mut bindings = Vec::new(alloc);
+    for (_, object) in objects.iter() {
+        add_binding(object.get(), &mut bindings)?;
+    }
+    Ok(Items::from_vec(bindings))
+}
+
+#[tactic(auto, unfolding(crate::specs::Listed::if_bound))]
+fn add_if_bound(
+    policy: &str,
+    binding: &Keyed<Binding>,
+    bound: &mut Vec<Keyed<Binding>>,
+) -> Result<(), AllocError>
+    ensures { OnOk result (bound.new.items ≡ bound.old.items ++ if_bound policy.now binding.now) }
+{
+    if binding.value.spec.get().policy_name.as_str() == policy {
+        bound.push(Keyed {
+            key: binding.key.copy()?,
+            value: binding.value.copy()?,
+        })?;
+    }
+    Ok(())
+}
+
+/// The bindings of the policy of a name, in their order.
+pub fn bindings_of(
+    alloc: Global,
+    policy: &str,
+    bindings: &[Keyed<Binding>],
+) -> Result<Items<Keyed<Binding>>, AllocError>
+    ensures { IfOk result (λ bound. bound ≡ bindings_of policy.now bindings.now) }
+{
+    let mut bound = Vec::new(alloc);
+    for binding in bindings {
+        add_if_bound(policy, binding, &mut bound)?;
+    }
+    Ok(Items::from_vec(bound))
+}
+
+#[tactic(auto, unfolding(crate::specs::Listed::definition_by))]
+fn add_definition(
+    object: &Shared<Object>,
+    definitions: &mut Vec<Keyed<Shared<Object>>>,
+) -> Result<(), AllocError>
+    ensures { OnOk result (Adds (definition_by object.now) definitions.old.items definitions.new.items) }
+{
+    if is_definition(&object.get().key) {
+        put_named(definitions, object.get().key.name.copy()?, object.share()?)
+    } else {
+        Ok(())
+    }
+}
+
+/// The definitions of kinds by their names.
+pub fn definitions_in(
+    alloc: Global,
+    objects: &ObjectMap,
+) -> Result<Items<Keyed<Shared<Object>>>, AllocError>
+    ensures { IfOk result (λ definitions. definitions ≡ definitions_in objects.now) }
+{
+    let mut definitions = Vec::new(alloc);
+    for (_, object) in objects.iter() {
+        add_definition(object, &mut definitions)?;
+    }
+    Ok(Items::from_vec(definitions))
+}
