@@ -11,6 +11,7 @@ import sys
 import tempfile
 from pathlib import Path
 
+from streams import GROUP, added, definition, write
 from timed import measured
 
 TOP = Path(__file__).resolve().parent.parent
@@ -18,26 +19,6 @@ PROGRAM = TOP / "crates/vap/out/vap"
 POLICIES, OBJECTS, REVIEWS, RUNS = 20, 200, 50_000, 7
 # How many reviews `vap replay` judges together, one that is allowed, and one that 13 of the policies deny.
 GROUP_SIZE, ALLOWED, DENIED = 1_024, 5, 103
-GROUP = "admissionregistration.k8s.io/v1"
-SPEC = {
-    "replicas": {"type": "integer"},
-    "owner": {"type": "string", "maxLength": 50},
-    "ports": {"type": "array", "maxItems": 20, "items": {"type": "integer"}},
-}
-SCHEMA = {"type": "object", "properties": {"spec": {"type": "object", "properties": SPEC}}}
-
-
-def added(value):
-    """The event of an object that is new."""
-    return {"type": "ADDED", "object": value}
-
-
-def definition():
-    """The definition of the kind that the reviews are about."""
-    versions = [{"name": "v1", "schema": {"openAPIV3Schema": SCHEMA}}]
-    spec = {"group": "ex.io", "names": {"kind": "App", "plural": "apps"}, "scope": "Namespaced", "versions": versions}
-    metadata = {"name": "apps.ex.io"}
-    return added({"apiVersion": "apiextensions.k8s.io/v1", "kind": "CustomResourceDefinition", "metadata": metadata, "spec": spec})
 
 
 def policy(number):
@@ -46,9 +27,10 @@ def policy(number):
     validations = [{"expression": f"object.spec.replicas <= {90 + number}"}, {"expression": "object.spec.ports.all(p, p < 65536)"}]
     spec = {"matchConstraints": {"resourceRules": [rule]}, "validations": validations}
     bound = {"policyName": f"policy{number:02}", "validationActions": ["Deny"]}
+    name = {"name": f"binding{number:02}"}
     return [
         added({"apiVersion": GROUP, "kind": "ValidatingAdmissionPolicy", "metadata": {"name": f"policy{number:02}"}, "spec": spec}),
-        added({"apiVersion": GROUP, "kind": "ValidatingAdmissionPolicyBinding", "metadata": {"name": f"binding{number:02}"}, "spec": bound}),
+        added({"apiVersion": GROUP, "kind": "ValidatingAdmissionPolicyBinding", "metadata": name, "spec": bound}),
     ]
 
 
@@ -71,18 +53,11 @@ def review(number):
 
 def events():
     """The events of the stream, which come before its reviews."""
-    yield definition()
+    yield added(definition())
     for number in range(POLICIES):
         yield from policy(number)
     for number in range(OBJECTS):
         yield added({"apiVersion": "v1", "kind": "ConfigMap", "metadata": {"name": f"map{number}", "namespace": "shop"}})
-
-
-def write(path, values):
-    """Writes values to a file, one a line."""
-    with open(path, "w") as file:
-        for value in values:
-            file.write(json.dumps(value, separators=(",", ":")) + "\n")
 
 
 def tell(what, runs):

@@ -2,9 +2,11 @@
 """Runs the program on each line of tests/vectors/*.jsonl and names each line that is not met.
 
 The first word of a file's name is the command that its lines are for. Lines of `replay` are run with one worker, with
-two and with 16. Lines of `language_calls`, `cluster_calls` and `stream_calls` are for the programs of these names, which make the
-calls that lines ask for: all lines of a file in one run. So are those of `fit`, for `language_calls`. With names of files, it runs
-those alone. The last line is 'N passed, M failed'.
+two and with 16, and their streams are given to `stream_calls` too: after each event the set that a writer advances must be as
+one that is built anew, in its report and in its answers to all reviews of the stream. Lines of `language_calls`,
+`cluster_calls` and `stream_calls` are for the programs of these names, which make the calls that lines ask for: all lines of a
+file in one run. So are those of `fit`, for `language_calls`. With names of files, it runs those alone. The last line is
+'N passed, M failed'.
 """
 import json
 import os
@@ -85,29 +87,54 @@ def program(name):
     return TOP / "crates" / name / "out" / name
 
 
+def answers_of(name, asked):
+    """What the program of this name answers to calls, all in one run."""
+    given = "".join(call + "\n" for call in asked).encode()
+    ran = subprocess.run([program(name)], input=given, stdout=subprocess.PIPE, timeout=600)
+    answers = [json.loads(answer) for answer in ran.stdout.decode().split("\n")[:-1]]
+    return answers + [f"no answer, status {ran.returncode}"] * (len(asked) - len(answers))
+
+
 def unmet_calls(command, texts):
     """Why each line of a file of calls is not met, or None."""
     try:
         lines = [json.loads(text) for text in texts]
         name, asked_of = ASKED[command]
         asked = [json.dumps(asked_of(line), ensure_ascii=False) for line in lines]
-        given = "".join(line + "\n" for line in asked).encode()
-        ran = subprocess.run([program(name)], input=given, stdout=subprocess.PIPE, timeout=600)
-        answers = [json.loads(answer) for answer in ran.stdout.decode().split("\n")[:-1]]
+        answers = answers_of(name, asked)
     except (KeyError, OSError, ValueError, subprocess.TimeoutExpired) as error:
         return [f"it cannot be run: {error!r}"] * len(texts)
-    answers += [f"no answer, status {ran.returncode}"] * (len(lines) - len(answers))
     return [
         None if answer == line["answer"] else f"{call}: {answer!r}; wanted {line['answer']!r}"
         for line, call, answer in zip(lines, asked, answers)
     ]
 
 
+def steps_of(text):
+    """The call that advances the set of a line's stream by each of its events, and builds it anew. Bytes that are no text become
+    characters that stand for such."""
+    stream = file_of(json.loads(text)).decode(errors="replace")
+    return json.dumps({"call": "sets.steps", "input": stream}, ensure_ascii=False)
+
+
+def unlike(texts):
+    """Why a set that is advanced is not as one that is built anew, for the stream of each line, or None."""
+    try:
+        answers = answers_of("stream_calls", [steps_of(text) for text in texts])
+    except (KeyError, OSError, ValueError, subprocess.TimeoutExpired) as error:
+        return [f"its sets cannot be compared: {error!r}"] * len(texts)
+    return [None if answer.endswith("same") else f"its sets: {answer!r}" for answer in answers]
+
+
 def unmet_of(command, texts, pool):
     """Why each line of a file is not met, or None."""
     if command in ASKED:
         return unmet_calls(command, texts)
-    return list(pool.map(lambda text: unmet(command, text), texts))
+    unlike_sets = pool.submit(unlike, texts) if command == "replay" else None
+    whys = list(pool.map(lambda text: unmet(command, text), texts))
+    if unlike_sets is None:
+        return whys
+    return [why or unlike_set for why, unlike_set in zip(whys, unlike_sets.result())]
 
 
 def is_built():

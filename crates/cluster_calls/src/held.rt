@@ -6,6 +6,7 @@ use cel_value::{CelError, CelType, Value};
 use serde_json::Value as Json;
 use std::alloc::{AllocError, Global};
 use vap_objects::Objects;
+use vap_read::Object;
 use vap_request::{Request, ReviewError};
 use vap_slots::{Held, held_at, request_type, request_value};
 
@@ -127,6 +128,19 @@ fn shown_slot(alloc: Global, held: &Held, slot: Slot<'_>) -> Result<String, Allo
     }
 }
 
+/// The Namespace of the name of a request's.
+fn namespace_of<'a>(
+    alloc: Global,
+    objects: &'a Objects,
+    request: &Request,
+) -> Result<Option<&'a Object>, AllocError> {
+    let name = request.admission().namespace.as_str();
+    match objects.namespace(alloc, name)? {
+        Some(object) => Ok(Some(object.get())),
+        None => Ok(None),
+    }
+}
+
 /// What a name holds at a request, or the fault of its object.
 fn held(
     alloc: Global,
@@ -135,7 +149,8 @@ fn held(
     request: &Request,
     slot: Slot<'_>,
 ) -> Result<String, AllocError> {
-    match held_at(alloc, objects, cel_type, request)? {
+    let namespace = namespace_of(alloc, objects, request)?;
+    match held_at(alloc, namespace, cel_type, request)? {
         Ok(held) => shown_slot(alloc, &held, slot),
         Err(fault) => format!(in alloc; "{}: {}", fault.path.as_str(), fault.kind.name()),
     }

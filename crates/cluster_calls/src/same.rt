@@ -1,6 +1,6 @@
-//! Which selectors, rules, policies, bindings, documents, objects and events are the same.
+//! Which selectors, rules, policies, bindings, documents, objects, events and types are the same.
 
-use calls_notation::{Asked, unknown};
+use calls_notation::{Asked, typed, unknown};
 use json_members::text_in;
 use plain::Text;
 use serde_json::Value as Json;
@@ -33,6 +33,7 @@ enum Read {
     /// An object of two texts: its key with what it was read as, and behind a semicolon its document.
     Object,
     Event,
+    Type,
 }
 
 fn read_as(word: &str) -> Read {
@@ -43,6 +44,7 @@ fn read_as(word: &str) -> Read {
         "binding" => Read::Binding,
         "object" => Read::Object,
         "event" => Read::Event,
+        "type" => Read::Type,
         _ => Read::Document,
     }
 }
@@ -148,6 +150,7 @@ fn word_of(alloc: Global, read: Read, left: &str, right: &str) -> &'static str {
             object(alloc, right).ok_or(AllocError),
         ),
         Read::Event => told(event(alloc, left), event(alloc, right)),
+        Read::Type => told(typed(alloc, left), typed(alloc, right)),
     }
 }
 

@@ -6,6 +6,7 @@ use std::alloc::{AllocError, Global};
 mod answers;
 mod cuts;
 mod found;
+mod lent;
 mod reports;
 
 /// The answer to a call of verdicts.
@@ -17,6 +18,7 @@ pub fn answer(alloc: Global, asked: &Asked) -> Result<String, AllocError> {
         "cut" => cuts::within(alloc, row, first as usize),
         "kept" => cuts::kept(alloc, asked.text(0), row),
         "report" => reports::report(alloc, row),
+        "lent" => lent::lent(alloc, row, asked.text(0), asked.text(1)),
         _ => unknown(alloc),
     }
 }

@@ -1,9 +1,10 @@
 //! Makes the calls on streams that lines ask for, and prints what each answers: lines of a reader, streams of events and reviews,
-//! and histories.
+//! histories, and sets after events.
 #![tactic(auto)]
 
 mod histories;
 mod lines;
+mod sets;
 mod streams;
 
 use calls_notation::{Asked, json, quoted, unknown};
@@ -29,6 +30,7 @@ fn answer_to(alloc: Global, asked: &Asked) -> Result<String, AllocError> {
         "lines" => lines::answer(alloc, asked),
         "streams" => streams::answer(alloc, asked),
         "histories" => histories::answer(alloc, asked),
+        "sets" => sets::answer(alloc, asked),
         _ => unknown(alloc),
     }
 }

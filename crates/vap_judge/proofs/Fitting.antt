@@ -20,7 +20,7 @@ use Rattle.vap_objects.specs.Cluster.{Cluster}
 use Rattle.vap_set.specs.Fitted.{Fitted, fitted_at, fitted_to, params_of}
 use Rattle.vap_set.specs.Kinds.{kind_of_params, params_by, params_type, types_at}
 use Rattle.vap_set.specs.Ready.{IsReadyAt, IsReadyBy, type_at}
-use Rattle.vap_set.specs.Sets.{kinds_of, pair_in}
+use Rattle.vap_set.specs.Sets.{kinds_of, pair_in, params_in}
 use Rattle.vap_set.specs.declared.bound.BoundPolicy.{BoundPolicy}
 use Rattle.vap_slots.specs.Held.{IsHeldAt, slots_of}
 use Rattle.vap_slots.specs.declared.held.Held.{Held}
@@ -66,19 +66,22 @@ names_alike types a b same = rw same refl
 
 -- what runs at the kind of a case can be run there, at the params of its policy
 pub can_run : (c : Case) (p : BoundPolicy) (ps : Programs) → pair_in p c.kind ≡ Some (Runs ps)
-    → IsHeldAt (type_at c.kind) c.held → IsReadyAt c.set c.kind p → CanRun c p.params (types_of c p.params) ps
+    → IsHeldAt (type_at c.kind) c.held → IsReadyAt c.set c.kind p
+    → CanRun c (params_in c.set p.policy.spec.param_kind) (types_of c (params_in c.set p.policy.spec.param_kind)) ps
 can_run c p ps e held ready =
-    let params : ParamsType = params_type (kinds_of c.set) p.policy.spec.param_kind in
+    let kind : Option ParamKind = p.policy.spec.param_kind in
+    let kept : ParamsType = kept_params (params_in c.set kind) in
+    let params : ParamsType = params_type (kinds_of c.set) kind in
     let there : IsReadyBy (types_at (type_at c.kind)) params (Some (Runs ps)) =
     subst (IsReadyBy (types_at (type_at c.kind)) params) e ready.runs in
-    let same : type_of_params (kept_params p.params) ≡ type_of_params params =
-    ap (λ (q : Option Fitted). type_of_params (kept_params q)) ready.params
-    ∙ kept_type (kinds_of c.set) c.set.objects p.policy.spec.param_kind in
-    let names = names_alike (types_at (type_at c.kind)) (kept_params p.params) params same in
+    let same : type_of_params kept ≡ type_of_params params =
+    ap (λ (q : Option Fitted). type_of_params (kept_params q)) ready.params.are
+    ∙ kept_type (kinds_of c.set) ready.params.source.objects kind in
+    let names = names_alike (types_at (type_at c.kind)) kept params same in
     record {
       ready = subst (λ n. IsReady (types_in n) ps) (sym names) there.0;
       within = there.1;
-      fit = λ v fit. slots_right (type_at c.kind) (kept_params p.params) c.held v held fit;
+      fit = λ v fit. slots_right (type_at c.kind) kept c.held v held fit;
     }
 
 -- null is of the type of params, whatever they are

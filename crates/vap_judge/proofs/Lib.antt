@@ -5,5 +5,6 @@ pub mod Looked
 pub mod Named
 pub mod PassedOver
 pub mod Priced
+pub mod Skipped
 pub mod Steps
 pub mod WorkedRows

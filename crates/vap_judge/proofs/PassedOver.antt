@@ -13,14 +13,14 @@ use Rattle.vap_match.specs.Cover.{operation_name, rule_covers}
 use Rattle.vap_match.specs.Namespaces.{is_cluster}
 use Rattle.vap_match.specs.declared.rules.Rule.{Rule}
 use Rattle.vap_match.specs.declared.rules.Rules.{Rules}
-use Rattle.vap_objects.specs.OfKind.{namespace_labels}
+use Rattle.vap_objects.specs.OfKind.{labels_in}
 use Rattle.vap_policies.specs.declared.policy.PolicySpec.{PolicySpec}
 use Rattle.vap_request.specs.declared.request.Admission.{Admission}
 use Rattle.vap_request.specs.declared.request.Resource.{Resource}
 use Rattle.vap_select.specs.Select.{Labels}
 use Rattle.vap_set.proofs.Named.{set_whole}
 use Rattle.vap_set.specs.Kinds.{is_named_by, rule_names}
-use Rattle.vap_set.specs.Sets.{Built, is_looked_at, kinds_of, policies_of}
+use Rattle.vap_set.specs.Sets.{Holdings, IsOfObjects, is_looked_at, kinds_of, namespace_in, policies_of}
 use Rattle.vap_set.specs.Whole.{IsWholeAt, Names}
 use Rattle.vap_judge.proofs.Named.{kind_first, same_text}
 use Rattle.vap_judge.specs.PassedOver.{IsNotPassedOver, NoneIsPassedOver}
@@ -128,11 +128,11 @@ matching_own p r held (Some k) h = at (is_resource_of k r.resource) refl
     at false is = tt
 
 -- so none is passed over
-pub none_passed_over : (b : Built) (r : Admission) → NoneIsPassedOver b r
-none_passed_over b r =
-    All-weaker (IsWholeAt b (kind_at (kinds_of b) r)) (IsNotPassedOver b r)
+pub none_passed_over : (h : Holdings) → IsOfObjects h → (r : Admission) → NoneIsPassedOver h r
+none_passed_over h source r =
+    All-weaker (IsWholeAt h (kind_at (kinds_of h) r)) (IsNotPassedOver h r)
     (λ p whole matched.
     whole
-    (matching_own p.policy.spec r (namespace_labels r.namespace b.objects.objects)
-    (kind_named r.kind.group r.kind.version r.kind.kind (kinds_of b)) matched))
-    (policies_of b) (set_whole b (kind_at (kinds_of b) r) (kind_first (kinds_of b) r))
+    (matching_own p.policy.spec r (labels_in (namespace_in r.namespace h))
+    (kind_named r.kind.group r.kind.version r.kind.kind (kinds_of h)) matched))
+    (policies_of h) (set_whole h source (kind_at (kinds_of h) r) (kind_first (kinds_of h) r))

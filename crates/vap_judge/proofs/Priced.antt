@@ -12,7 +12,7 @@ use Rattle.vap_programs.specs.declared.programs.Pair.TheVariants.{Runs, Misconfi
 use Rattle.vap_set.proofs.Standing.{set_ready}
 use Rattle.vap_set.specs.Kinds.{params_type, types_at}
 use Rattle.vap_set.specs.Ready.{IsOneOf, IsReadyAt, IsReadyBy, type_at}
-use Rattle.vap_set.specs.Sets.{Built, kinds_of, pair_in, policies_of}
+use Rattle.vap_set.specs.Sets.{Holdings, IsOfObjects, kinds_of, pair_in, policies_of}
 use Rattle.vap_slots.specs.Held.{IsHeldAt, slots_of}
 use Rattle.vap_slots.specs.declared.held.Held.{Held}
 use Rattle.vap_judge.proofs.Fitting.{slots_right}
@@ -29,8 +29,8 @@ ready_priced k params held (Some (Runs ps)) is ready = (
 )
 
 -- each policy of a set at one of its kinds
-pub set_priced : (b : Built) (k : Option Kind) → IsOneOf (kinds_of b) k → ArePriced b k
-set_priced b k first held is =
-    All-weaker (IsReadyAt b k) (λ p. IsPriced held (params_type (kinds_of b) p.policy.spec.param_kind) (pair_in p k))
-    (λ p ready. ready_priced k (params_type (kinds_of b) p.policy.spec.param_kind) held (pair_in p k) is ready.runs)
-    (policies_of b) (set_ready pair_ready pair_within b k first)
+pub set_priced : (h : Holdings) → IsOfObjects h → (k : Option Kind) → IsOneOf (kinds_of h) k → ArePriced h k
+set_priced h source k first held is =
+    All-weaker (IsReadyAt h k) (λ p. IsPriced held (params_type (kinds_of h) p.policy.spec.param_kind) (pair_in p k))
+    (λ p ready. ready_priced k (params_type (kinds_of h) p.policy.spec.param_kind) held (pair_in p k) is ready.runs)
+    (policies_of h) (set_ready pair_ready pair_within h source k first)

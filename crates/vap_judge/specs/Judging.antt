@@ -19,7 +19,7 @@ use Rattle.vap_kinds.specs.declared.kind.Kind.{Kind}
 use Rattle.vap_match.specs.Choose.{matches}
 use Rattle.vap_match.specs.declared.rules.Rules.{Rules}
 use Rattle.vap_objects.specs.Cluster.{Cluster}
-use Rattle.vap_objects.specs.OfKind.{namespace_labels}
+use Rattle.vap_objects.specs.OfKind.{labels_in}
 use Rattle.vap_programs.specs.Names.{pair_fault_name}
 use Rattle.vap_programs.specs.declared.programs.Pair.{Pair}
 use Rattle.vap_programs.specs.declared.programs.Pair.TheVariants.{Runs, Misconfigured}
@@ -30,7 +30,7 @@ use Rattle.vap_request.specs.declared.request.Request.{Request}
 use Rattle.vap_set.specs.Fitted.{Fitted}
 use Rattle.vap_set.specs.Ready.{type_at}
 use Rattle.vap_set.specs.Sets as sets
-use Rattle.vap_set.specs.Sets.{kinds_of, pair_in, policies_of}
+use Rattle.vap_set.specs.Sets.{kinds_of, namespace_in, pair_in, params_in, policies_of}
 use Rattle.vap_set.specs.declared.bound.BoundPolicy.{BoundPolicy}
 use Rattle.vap_set.specs.declared.choice.Choice.{Choice as ChoiceOf}
 use Rattle.vap_slots.specs.Held.{held_at, slots_of}
@@ -39,7 +39,7 @@ use Rattle.vap_judge.specs.Evaluations.{Evaluation, Ran, Failed, Rule, Findings,
 use Rattle.vap_judge.specs.Params.{Place, is_param, place_of}
 use Rattle.vap_judge.specs.Places.{is_exempt, kind_at}
 
--- ---- sets, as what they are built of
+-- ---- sets, as what they hold
 
 -- the texts that are taken as no patterns
 abbrev pub Choice : Type 0
@@ -49,26 +49,28 @@ Choice = ChoiceOf
 abbrev pub no_choice : Choice
 no_choice = sets.no_choice
 
--- a set: objects with the count of their events, and a choice
-abbrev pub Built : Type 0
-Built = sets.Built
+-- what a set holds
+abbrev pub Holdings : Type 0
+Holdings = sets.Holdings
 
-abbrev pub built_of : Cluster → Choice → Built
-built_of = sets.built_of
+-- what the set of objects holds by a choice
+abbrev pub holdings_of : Cluster → Choice → Holdings
+holdings_of = sets.holdings_of
 
-abbrev pub choice_in : Built → Choice
+-- the choice of a set
+abbrev pub choice_in : Holdings → Choice
 choice_in = sets.choice_in
 
 -- what is judged: a request at a set, and what its names hold, apart from `params`
 pub record Case : Type 0 where
-  pub set : Built
+  pub set : Holdings
   pub request : Admission
   pub kind : Option Kind
   pub held : Held
 
 -- what is judged at a set, of a kind, where the names hold these
-abbrev pub case_with : Built → Admission → Option Kind → Held → Case
-case_with b r k held = record { set = b; request = r; kind = k; held = held }
+abbrev pub case_with : Holdings → Admission → Option Kind → Held → Case
+case_with h r k held = record { set = h; request = r; kind = k; held = held }
 
 -- ---- the params of a binding
 
@@ -125,11 +127,12 @@ rule_of p b = record {
 
 -- of a policy under a binding
 unfoldable pub of_binding : Case → BoundPolicy → Keyed Binding → List Evaluation
-of_binding c p b = of_pair c (rule_of p b) (pair_in p c.kind) p.params b.value.spec.param_ref
+of_binding c p b =
+    of_pair c (rule_of p b) (pair_in p c.kind) (params_in c.set p.policy.spec.param_kind) b.value.spec.param_ref
 
 -- rules match the request
 abbrev pub is_matched : Case → Rules → Bool
-is_matched c rules = matches rules c.request (namespace_labels c.request.namespace c.set.objects.objects)
+is_matched c rules = matches rules c.request (labels_in (namespace_in c.request.namespace c.set))
 
 -- a binding matches, and so does a policy
 abbrev pub binding_matches : Case → Keyed Binding → Bool
@@ -157,19 +160,18 @@ abbrev pub verdict_by : ℕ → Findings → Verdict
 verdict_by revision found = answers.verdict_of found.failures found.notes revision found.charged
 
 -- the verdict where the names hold these, or the object has a fault
-abbrev pub verdict_with : Built → Admission → Option Kind → Result Held FitFault → Verdict
-verdict_with b r k (Err fault) = answers.unfit_verdict (fit_fault_text fault) b.objects.events
-verdict_with b r k (Ok held) = verdict_by b.objects.events (found_by (evaluations_of (case_with b r k held)))
+abbrev pub verdict_with : Holdings → Admission → Option Kind → Result Held FitFault → Verdict
+verdict_with h r k (Err fault) = answers.unfit_verdict (fit_fault_text fault) h.events
+verdict_with h r k (Ok held) = verdict_by h.events (found_by (evaluations_of (case_with h r k held)))
 
 -- the verdict on a request of a kind, if it is known
-abbrev pub verdict_at : Built → Admission → Option Kind → Verdict
-verdict_at b r k = verdict_with b r k (held_at b.objects (type_at k) r)
+abbrev pub verdict_at : Holdings → Admission → Option Kind → Verdict
+verdict_at h r k = verdict_with h r k (held_at (namespace_in r.namespace h) (type_at k) r)
 
 -- the verdict on what is asked
-abbrev pub verdict_on : Built → Admission → Verdict
-verdict_on b r =
-    if is_exempt r.resource then verdict_by b.objects.events (found_by []) else verdict_at b r (kind_at (kinds_of b) r)
+abbrev pub verdict_on : Holdings → Admission → Verdict
+verdict_on h r = if is_exempt r.resource then verdict_by h.events (found_by []) else verdict_at h r (kind_at (kinds_of h) r)
 
 -- the verdict on a request
-unfoldable pub verdict_of : Built → Request → Verdict
-verdict_of b request = verdict_on b request.admission
+unfoldable pub verdict_of : Holdings → Request → Verdict
+verdict_of h request = verdict_on h request.admission

@@ -4,11 +4,11 @@ use Rattle.vap_found.specs.Patterns.{PolicyMayMatch}
 use Rattle.vap_kinds.specs.declared.kind.Kind.{Kind}
 use Rattle.vap_request.specs.declared.request.Admission.{Admission}
 use Rattle.vap_set.specs.Ready.{type_at}
-use Rattle.vap_set.specs.Sets.{kinds_of}
+use Rattle.vap_set.specs.Sets.{kinds_of, namespace_in}
 use Rattle.vap_slots.specs.Held.{held_at}
 use Rattle.vap_slots.specs.declared.held.Held.{Held}
 use Rattle.vap_judge.specs.Evaluations.{Evaluation, Ran, Failed}
-use Rattle.vap_judge.specs.Judging.{Built, case_with, evaluations_of}
+use Rattle.vap_judge.specs.Judging.{Holdings, case_with, evaluations_of}
 use Rattle.vap_judge.specs.Places.{is_exempt, kind_at}
 
 -- an evaluation looks for a pattern: it runs a policy, and one of the policy's expressions gives `matches` a literal text
@@ -22,12 +22,12 @@ OneMayMatch [] = ⊥
 OneMayMatch (e ∷ es) = EvaluationMayMatch e ⊎ OneMayMatch es
 
 -- the object of a request of a kind, if it is known, is of the kind's type, and an evaluation looks for a pattern
-pub record KindMayMatch (b : Built) (r : Admission) (k : Option Kind) : Type 0 where
+pub record KindMayMatch (h : Holdings) (r : Admission) (k : Option Kind) : Type 0 where
   pub held : Held
-  pub fits : held_at b.objects (type_at k) r ≡ Ok held
-  pub one : OneMayMatch (evaluations_of (case_with b r k held))
+  pub fits : held_at (namespace_in r.namespace h) (type_at k) r ≡ Ok held
+  pub one : OneMayMatch (evaluations_of (case_with h r k held))
 
 -- a set looks for a pattern at a request: the request is judged, and an evaluation looks for one
-pub record MayMatch (b : Built) (r : Admission) : Type 0 where
+pub record MayMatch (h : Holdings) (r : Admission) : Type 0 where
   pub judged : is_exempt r.resource ≡ false
-  pub one : KindMayMatch b r (kind_at (kinds_of b) r)
+  pub one : KindMayMatch h r (kind_at (kinds_of h) r)

@@ -12,7 +12,7 @@ use Rattle.vap_programs.specs.declared.programs.Pair.{Pair}
 use Rattle.vap_programs.specs.declared.programs.Pair.TheVariants.{Runs, Misconfigured}
 use Rattle.vap_set.specs.Kinds.{params_type}
 use Rattle.vap_set.specs.Ready.{type_at}
-use Rattle.vap_set.specs.Sets.{Built, kinds_of, pair_in, policies_of}
+use Rattle.vap_set.specs.Sets.{Holdings, kinds_of, pair_in, policies_of}
 use Rattle.vap_slots.specs.Held.{IsHeldAt, slots_of}
 use Rattle.vap_slots.specs.declared.held.Held.{Held}
 
@@ -25,7 +25,7 @@ IsPriced held params (Some (Runs ps)) =
     ((v : Value) → fits v (type_of_params params) ≡ true → charge_of ps (slots_of held v) ≤ price_of ps) × (price_of ps ≤ most)
 
 -- so does each policy of a set at a kind, whatever the other names hold that is of their types there
-abbrev pub ArePriced : Built → Option Kind → Type 0
-ArePriced b k =
+abbrev pub ArePriced : Holdings → Option Kind → Type 0
+ArePriced h k =
     (held : Held) → IsHeldAt (type_at k) held
-    → All (λ p. IsPriced held (params_type (kinds_of b) p.policy.spec.param_kind) (pair_in p k)) (policies_of b)
+    → All (λ p. IsPriced held (params_type (kinds_of h) p.policy.spec.param_kind) (pair_in p k)) (policies_of h)

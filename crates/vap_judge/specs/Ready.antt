@@ -5,7 +5,7 @@ use Rattle.cel_operators.specs.Outcomes.{slots_fit}
 use Rattle.cel_value.specs.CelType.{fits}
 use Rattle.cel_value.specs.declared.cel_type.CelType.{CelType}
 use Rattle.cel_value.specs.declared.value.Value.{Value}
-use Rattle.vap_objects.specs.OfKind.{namespace_labels}
+use Rattle.vap_objects.specs.OfKind.{labels_in}
 use Rattle.vap_programs.specs.Pairs.{most, price_of}
 use Rattle.vap_programs.specs.Ready.{IsReady}
 use Rattle.vap_programs.specs.Scopes.{first_names, type_of_params}
@@ -16,17 +16,18 @@ use Rattle.vap_select.specs.Select.{lent_labels}
 use Rattle.vap_set.specs.Fitted.{Fitted}
 use Rattle.vap_set.specs.Kinds.{types_at}
 use Rattle.vap_set.specs.Ready.{IsOneOf, type_at}
-use Rattle.vap_set.specs.Sets.{kinds_of}
+use Rattle.vap_set.specs.Sets.{kinds_of, namespace_in}
 use Rattle.vap_slots.specs.Held.{IsHeldAt, slots_of}
 use Rattle.vap_judge.specs.Judging.{Case}
 use Rattle.vap_judge.specs.Shown.{case_of}
 use Rattle.vap_judge.specs.declared.case.Case.{Case as Lent}
 
--- what a case lends: what the names hold is of their types, the kind is one of the set's, and the labels are those that are held
+-- what a case lends: what the names hold is of their types, the kind is one of the set's, and the labels are those
+-- of the Namespace that is held
 pub record IsCase (l : Lent) : Type 0 where
   pub held : IsHeldAt (type_at (case_of l).kind) (case_of l).held
   pub kind : IsOneOf (kinds_of (case_of l).set) (case_of l).kind
-  pub labels : lent_labels l.labels ≡ namespace_labels (case_of l).request.namespace (case_of l).set.objects.objects
+  pub labels : lent_labels l.labels ≡ labels_in (namespace_in (case_of l).request.namespace (case_of l).set)
 
 -- what the params of a policy are, by those that are kept
 abbrev pub kept_params : Option Fitted → ParamsType

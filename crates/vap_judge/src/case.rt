@@ -1,18 +1,19 @@
 //! What is judged.
 
-ghost use Rattle.std.specs.Prelude.{◌≡◌, IfOk};
+ghost use Rattle.std.specs.Prelude.{◌≡◌};
 ghost use Rattle.std.specs.Option.{option_copied};
 ghost use Rattle.vap_set.specs.Ready.{type_at};
-ghost use Rattle.vap_set.specs.Sets.{kinds_of};
+ghost use Rattle.vap_set.specs.Sets.{kinds_of, namespace_in};
 ghost use Rattle.vap_slots.specs.Held.{IsHeldAt};
 ghost use Rattle.vap_judge.specs.Judging.{case_with, is_matched};
 ghost use Rattle.vap_judge.specs.Places.{kind_at};
 ghost use Rattle.vap_judge.specs.Ready.{IsCase};
 ghost use Rattle.vap_judge.specs.Shown.{case_of};
 
-use std::alloc::{AllocError, Global};
 use vap_kinds::Kind;
 use vap_match::{Rules, matches};
+use vap_objects::labels_in;
+use vap_read::Object;
 use vap_request::Request;
 use vap_select::Labels;
 use vap_set::PolicySet;
@@ -29,27 +30,27 @@ pub struct Case<'a> {
 }
 
 impl<'a> Case<'a> {
+    /// A request at a set, with the Namespace that is held under the name of its own.
     pub fn new(
-        alloc: Global,
         set: &'a PolicySet,
         request: &'a Request,
         kind: Option<&'a Kind>,
+        namespace: Option<&'a Object>,
         held: &'a Held,
-    ) -> Result<Case<'a>, AllocError>
+    ) -> Case<'a>
         requires kind { option_copied kind ≡ kind_at (kinds_of set.now) request.now.admission }
+        requires namespace { option_copied namespace ≡ namespace_in request.now.admission.namespace set.now }
         requires held { IsHeldAt (type_at (option_copied kind)) held.now }
-        ensures is { IfOk result (λ case. case_of case ≡ case_with set.now request.now.admission (option_copied kind.entry) held.now) }
-        ensures ready { IfOk result IsCase }
+        ensures is { case_of result ≡ case_with set.now request.now.admission (option_copied kind.entry) held.now }
+        ensures ready { IsCase result }
     {
-        let namespace = request.admission().namespace.as_str();
-        let labels = set.objects().namespace_labels(alloc, namespace)?;
-        Ok(Case {
+        Case {
             set,
             request,
             kind,
             held,
-            labels,
-        })
+            labels: labels_in(namespace),
+        }
     }
 
     /// Whether rules match the request.

@@ -2,6 +2,7 @@
 
 ghost use Rattle.std.specs.Prelude.{◌≡◌, ◌≤◌, Some, true, List, [], ◌∷◌, map, filter, IfOk, IsErrOf, OnOk};
 ghost use Rattle.std.specs.List.{All};
+ghost use Rattle.std.specs.Option.{option_copied};
 ghost use Rattle.cel_apply.specs.Lent.{lent};
 ghost use Rattle.cel_operators.specs.Outcomes.{slots_fit};
 ghost use Rattle.cel_value.specs.declared.cel_type.CelType.{CelType};
@@ -14,7 +15,7 @@ ghost use Rattle.vap_slots.specs.Held.{slots_of};
 ghost use Rattle.vap_judge.specs.Adds.{Adds, case_in};
 ghost use Rattle.vap_judge.specs.Evaluations.{Failed, Ran};
 ghost use Rattle.vap_judge.specs.Judging.{at_each, at_param, at_params, at_seen, in_place, misconfigured};
-ghost use Rattle.vap_judge.specs.Judging.{of_binding, of_policies, of_policy};
+ghost use Rattle.vap_judge.specs.Judging.{evaluations_of, of_binding, of_policies, of_policy};
 ghost use Rattle.vap_judge.specs.Params.{is_param, place_of};
 ghost use Rattle.vap_judge.specs.Patterns.{EvaluationMayMatch, OneMayMatch};
 ghost use Rattle.vap_judge.specs.Ready.{CanRun, HasRoom, IsCase, params_of_binding, params_of_policy, params_of_set};
@@ -23,7 +24,7 @@ ghost use Rattle.vap_judge.specs.Shown.{lent_place, rule_of as lent_rule};
 use crate::case::Case;
 use crate::findings::{Findings, Rule};
 use crate::judge_error::JudgeError;
-use crate::params::{Selection, place_of};
+use crate::params::{Selection, params_of, place_of};
 use cel_machine::Matchers;
 use cel_value::{CelError, Value};
 use plain::{Keyed, Shared, Text};
@@ -227,21 +228,20 @@ impl Judging<'_> {
         &mut self,
         rule: &Rule<'_>,
         programs: &Programs,
-        params: &Option<Shared<KindParams>>,
+        params: Option<&KindParams>,
         reference: &Option<ParamRef>,
     ) -> Result<(), JudgeError>
         ghost types: { List CelType }
-        requires ready { CanRun (case_in self.old) params.now types programs.now }
+        requires ready { CanRun (case_in self.old) (option_copied params) types programs.now }
         requires room { HasRoom self.old.findings.charged params_of_binding }
         ensures adds { OnOk result (Adds self.old self.new
-            (at_params (case_in self.old) (lent_rule rule.now) programs.now params.now reference.now) params_of_binding) }
+            (at_params (case_in self.old) (lent_rule rule.now) programs.now (option_copied params.entry) reference.now)
+            params_of_binding) }
         ensures pattern { IsErrOf result JudgeError.Pattern → OneMayMatch
-            (at_params (case_in self.old) (lent_rule rule.now) programs.now params.now reference.now) }
+            (at_params (case_in self.old) (lent_rule rule.now) programs.now (option_copied params.entry) reference.now) }
     {
         match (params, reference) {
-            (Some(params), Some(reference)) => {
-                self.referred(rule, programs, params.get(), reference)
-            }
+            (Some(params), Some(reference)) => self.referred(rule, programs, params, reference),
             _ => {
                 let null = Value::Null;
                 self.run(rule, programs, &null)
@@ -258,16 +258,19 @@ impl Judging<'_> {
         ensures adds { OnOk result (Adds self.old self.new (of_binding (case_in self.old) policy.now binding.now) params_of_binding) }
         ensures pattern { IsErrOf result JudgeError.Pattern → OneMayMatch (of_binding (case_in self.old) policy.now binding.now) }
     {
+        let case = self.case;
+        let spec = policy.policy.spec.get();
         let bound = binding.value.spec.get();
         let rule = Rule {
             policy: &policy.name,
             binding: &binding.key,
             actions: bound.validation_actions,
-            failure_policy: policy.policy.spec.get().failure_policy,
+            failure_policy: spec.failure_policy,
         };
-        match policy.pair(self.case.kind) {
+        match policy.pair(case.kind) {
             Some(Pair::Runs(programs)) => {
-                self.params(&rule, programs, &policy.params, &bound.param_ref)
+                let params = params_of(case.set, &spec.param_kind);
+                self.params(&rule, programs, params, &bound.param_ref)
             }
             Some(Pair::Misconfigured(fault)) => {
                 let message = misconfigured(self.alloc, fault)?;
@@ -297,7 +300,7 @@ impl Judging<'_> {
     }
 
     /// Evaluates each of these policies that match.
-    pub fn policies(&mut self, policies: &[BoundPolicy]) -> Result<(), JudgeError>
+    fn policies(&mut self, policies: &[Shared<BoundPolicy>]) -> Result<(), JudgeError>
         requires case { IsCase self.old.case.now }
         requires ready { All (IsReadyAt self.old.case.now.set.now (case_in self.old).kind) policies.now }
         requires few { AreFew policies.now }
@@ -306,11 +309,26 @@ impl Judging<'_> {
         ensures pattern { IsErrOf result JudgeError.Pattern → OneMayMatch (of_policies (case_in self.old) policies.now) }
     {
         for policy in policies {
-            let rules = &policy.policy.spec.get().match_constraints;
+            let bound = policy.get();
+            let rules = &bound.policy.spec.get().match_constraints;
             if self.case.is_matched(rules) {
-                self.policy(policy)?;
+                self.policy(bound)?;
             }
         }
         Ok(())
+    }
+
+    /// Evaluates each policy of the set that matches, which is among those that may cover the resource.
+    pub fn all(&mut self) -> Result<(), JudgeError>
+        requires case { IsCase self.old.case.now }
+        requires room { HasRoom self.old.findings.charged params_of_set }
+        ensures adds { OnOk result (Adds self.old self.new (evaluations_of (case_in self.old)) params_of_set) }
+        ensures pattern { IsErrOf result JudgeError.Pattern → OneMayMatch (evaluations_of (case_in self.old)) }
+    {
+        let resource = &self.case.request.admission().resource;
+        let group = resource.group.as_str();
+        let name = resource.resource.as_str();
+        let policies = self.case.set.policies_on(group, name);
+        self.policies(policies)
     }
 }

@@ -2,13 +2,16 @@
 
 ghost use Rattle.std.specs.Prelude.{◌≡◌};
 ghost use Rattle.std.specs.List.{list_any};
+ghost use Rattle.std.specs.Option.{option_copied};
+ghost use Rattle.vap_set.specs.Sets.{params_in};
 ghost use Rattle.vap_judge.specs.Params.{is_chosen, is_in, is_param, place_of};
 ghost use Rattle.vap_judge.specs.Shown.{lent_place, lent_place_of};
 
 use vap_bindings::ParamRef;
+use vap_policies::ParamKind;
 use vap_read::Object;
 use vap_select::{labels_of, selects};
-use vap_set::KindParams;
+use vap_set::{KindParams, PolicySet};
 
 /// Where params are looked for.
 #[derive(Clone, Copy)]
@@ -77,5 +80,15 @@ impl Selection<'_> {
             }
         }
         false
+    }
+}
+
+/// The params of the kind that a policy names, if it names one that is known.
+pub fn params_of<'a>(set: &'a PolicySet, kind: &Option<ParamKind>) -> Option<&'a KindParams>
+    ensures { option_copied result ≡ params_in set.now kind.now }
+{
+    match kind {
+        Some(kind) => set.params_of(kind),
+        None => None,
     }
 }

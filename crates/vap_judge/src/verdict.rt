@@ -39,7 +39,7 @@ fn judge_case(
 ) -> Result<Verdict, JudgeError>
     requires { IsCase case.now }
     ensures verdict { IfOk result (λ verdict. verdict
-        ≡ verdict_by case.now.set.now.objects.events (found_by (evaluations_of (case_of case.now)))) }
+        ≡ verdict_by case.now.set.now.events (found_by (evaluations_of (case_of case.now)))) }
     ensures pattern { IsErrOf result JudgeError.Pattern → OneMayMatch (evaluations_of (case_of case.now)) }
 {
     let findings = Findings::new(alloc);
@@ -49,19 +49,15 @@ fn judge_case(
         matchers,
         findings,
     };
-    judging.policies(case.set.policies())?;
-    Ok(
-        judging
-            .findings
-            .verdict(alloc, case.set.objects().events())?,
-    )
+    judging.all()?;
+    Ok(judging.findings.verdict(alloc, case.set.events())?)
 }
 
 /// The verdict if nothing is evaluated.
 fn exempt_verdict(alloc: Global, set: &PolicySet) -> Result<Verdict, AllocError>
-    ensures { IfOk result (λ verdict. verdict ≡ verdict_by set.now.objects.events (found_by [])) }
+    ensures { IfOk result (λ verdict. verdict ≡ verdict_by set.now.events (found_by [])) }
 {
-    Findings::new(alloc).verdict(alloc, set.objects().events())
+    Findings::new(alloc).verdict(alloc, set.events())
 }
 
 /// The type of a request's objects: Opaque, if the kind is not known.
@@ -80,10 +76,10 @@ fn type_at<'a>(kind: Option<&'a Kind>, opaque: &'a CelType) -> &'a CelType
 
 /// The verdict if the object is no value of its type.
 fn unfit(alloc: Global, set: &PolicySet, fault: FitFault) -> Result<Verdict, AllocError>
-    ensures { IfOk result (λ verdict. verdict ≡ unfit_verdict (fit_fault_text fault) set.now.objects.events) }
+    ensures { IfOk result (λ verdict. verdict ≡ unfit_verdict (fit_fault_text fault) set.now.events) }
 {
     let message = format!(in alloc; "{fault}")?;
-    unfit_verdict(alloc, message.as_str(), set.objects().events())
+    unfit_verdict(alloc, message.as_str(), set.events())
 }
 
 /// The verdict on a request of a kind, if it is known.
@@ -99,11 +95,13 @@ fn judge_at(
     ensures pattern { IsErrOf result JudgeError.Pattern → KindMayMatch set.now request.now.admission (option_copied kind.entry) }
 {
     let opaque = CelType::Opaque;
-    match held_at(alloc, set.objects(), type_at(kind, &opaque), request) {
-        Ok(Ok(held)) => match Case::new(alloc, set, request, kind, &held) {
-            Ok(case) => judge_case(alloc, &case, matchers),
-            Err(error) => Err(JudgeError::from(error)),
-        },
+    let name = request.admission().namespace.as_str();
+    let namespace = set.namespace(alloc, name)?;
+    match held_at(alloc, namespace, type_at(kind, &opaque), request) {
+        Ok(Ok(held)) => {
+            let case = Case::new(set, request, kind, namespace, &held);
+            judge_case(alloc, &case, matchers)
+        }
         Ok(Err(fault)) => Ok(unfit(alloc, set, fault)?),
         Err(error) => Err(JudgeError::from(error)),
     }
@@ -124,10 +122,11 @@ pub fn judge(
     ensures priced { ArePriced set.now (kind_at (kinds_of set.now) request.now.admission) }
     ensures pattern { IsErrOf result JudgeError.Pattern → MayMatch set.now request.now.admission }
 {
+    let kinds = set.kinds();
     let admission = request.admission();
     if is_exempt(&admission.resource) {
         return Ok(exempt_verdict(alloc, set)?);
     }
-    let kind = kind_at(set.kinds(), admission);
+    let kind = kind_at(kinds, admission);
     judge_at(alloc, set, request, kind, matchers)
 }

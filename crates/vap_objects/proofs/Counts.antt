@@ -13,9 +13,10 @@ use Rattle.vap_read.specs.Keys.{key_cmp, with_object}
 use Rattle.vap_read.specs.declared.key.Key.{Key}
 use Rattle.vap_read.specs.declared.object.Object.{Object}
 use Rattle.vap_read.proofs.KeyOrder.{key_total}
-use Rattle.vap_objects.specs.Limits.{weight, total, held_weight, limit, is_few, are_few, AreFew}
+use Rattle.vap_objects.specs.Limits.{weight, total, held_weight, totals_of, counted_in, limit, is_few, are_few, AreFew}
 use Rattle.vap_objects.specs.declared.tallies.Counted.{Counted}
 use Rattle.vap_objects.specs.declared.tallies.Counted.TheVariants.{Objects, Policies, Bindings, Versions}
+use Rattle.vap_objects.specs.declared.tallies.Totals.{Totals}
 
 -- ---- sums
 
@@ -43,6 +44,13 @@ without_total what k os =
 -- what is held under one key is part of the total
 pub held_within : (what : Counted) (k : Key) (os : List (Key × Object)) → held_weight what k os ≤ total (weight what) os
 held_within what k os = omega (arith, without_total what k os)
+
+-- totals say of each what objects count towards it
+pub told_total : (what : Counted) (os : List (Key × Object)) (t : Totals) → t ≡ totals_of os → counted_in what t ≡ total (weight what) os
+told_total Objects os t is = ap (λ (x : Totals). x.objects) is
+told_total Policies os t is = ap (λ (x : Totals). x.policies) is
+told_total Bindings os t is = ap (λ (x : Totals). x.bindings) is
+told_total Versions os t is = ap (λ (x : Totals). x.versions) is
 
 -- ---- limits
 
@@ -140,3 +148,16 @@ few_with what o os rest own most counts may sorted few parts =
 pub few_without : (k : Key) (os : List (Key × Object)) → AreFew os → true ≡ are_few (remove_entry (is_at (key_cmp k)) os)
 few_without k os few =
     all_few (remove_entry (is_at (key_cmp k)) os) (λ what. omega (arith, without_total what k os, few_limit what os few))
+
+-- with one put among them objects count what the others count, and what it counts, which is little
+pub put_small : (what : Counted) (o : Object) (os : List (Key × Object)) (rest own : ℕ) → own ≡ weight what o
+    → IsStrictlySortedBy key_cmp (keys_of os) → AreFew (with_object o os) → rest + held_weight what o.key os ≡ total (weight what) os
+    → (rest + own ≡ total (weight what) (with_object o os)) × (rest + own ≤ 4096)
+put_small what o os rest own counts sorted few parts =
+    let all : rest + own ≡ total (weight what) (with_object o os) = omega (arith, put_total what o os sorted, parts, counts) in
+    (all, omega (arith, all, small_total what (with_object o os) few))
+
+-- without the one under a key objects count what the others count
+pub left_total : (what : Counted) (k : Key) (os : List (Key × Object)) (rest : ℕ)
+    → rest + held_weight what k os ≡ total (weight what) os → rest ≡ total (weight what) (remove_entry (is_at (key_cmp k)) os)
+left_total what k os rest parts = omega (arith, without_total what k os, parts)

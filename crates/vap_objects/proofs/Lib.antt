@@ -1,7 +1,11 @@
 pub mod ByName
+pub mod Classed
+pub mod Contents
 pub mod Counts
+pub mod Entries
 pub mod Gathering
 pub mod Listing
 pub mod Logs
+pub mod Staying
 pub mod Taken
 pub mod WorkedRows

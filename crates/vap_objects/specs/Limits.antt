@@ -13,6 +13,7 @@ use Rattle.vap_objects.specs.After.{objects_after}
 use Rattle.vap_objects.specs.Cluster.{Cluster}
 use Rattle.vap_objects.specs.declared.tallies.Counted.{Counted}
 use Rattle.vap_objects.specs.declared.tallies.Counted.TheVariants as counted
+use Rattle.vap_objects.specs.declared.tallies.Totals.{Totals}
 
 -- a policy counts as one
 abbrev pub policy_count : Content → ℕ
@@ -45,6 +46,22 @@ total f (e ∷ es) = f e.1 + total f es
 -- how much the object under a key counts, nothing where there is none
 abbrev pub held_weight : Counted → Key → List (Key × Object) → ℕ
 held_weight what k os = unwrap_or (option_map (weight what) (lookup (is_at (key_cmp k)) os)) 0
+
+-- how much objects count towards each limit
+abbrev pub totals_of : List (Key × Object) → Totals
+totals_of os = record {
+  objects = total (weight counted.Objects) os;
+  policies = total (weight counted.Policies) os;
+  bindings = total (weight counted.Bindings) os;
+  versions = total (weight counted.Versions) os;
+}
+
+-- how much they count towards one
+abbrev pub counted_in : Counted → Totals → ℕ
+counted_in counted.Objects t = t.objects
+counted_in counted.Policies t = t.policies
+counted_in counted.Bindings t = t.bindings
+counted_in counted.Versions t = t.versions
 
 -- how much all may count
 abbrev pub limit : Counted → ℕ

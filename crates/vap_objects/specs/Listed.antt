@@ -1,4 +1,5 @@
--- Policies, bindings and definitions by their names; of those of one name the one of the lesser namespace comes first.
+-- Policies, bindings and definitions by their names; of those of one name the one of the lesser namespace comes first. An object is
+-- read as a policy or a binding exactly where its key is that of one.
 use Rattle.std.specs.Prelude.{ℕ, if◌then◌else◌, List, [], ◌∷◌}
 use Rattle.std.specs.List.{flat_map}
 use Rattle.std.specs.Str.{bytes_eq}
@@ -13,6 +14,7 @@ use Rattle.vap_read.specs.declared.object.Content.{Content}
 use Rattle.vap_read.specs.declared.object.Content.TheVariants as content
 use Rattle.vap_read.specs.declared.object.Object.{Object}
 use Rattle.vap_objects.specs.ByName.{by_name}
+use Rattle.vap_objects.specs.Classes.{is_binding, is_policy}
 
 -- ---- policies
 
@@ -22,8 +24,12 @@ policy_by name (content.Policy p) = record { key = name; value = p } ∷ []
 policy_by name (content.Binding b) = []
 policy_by name content.Other = []
 
+-- what is under a key, if that is a policy's
+unfoldable pub policy_under : Key → Object → List (Keyed Policy)
+policy_under k o = if is_policy k then policy_by o.key.name o.content else []
+
 abbrev pub policy_in : Key × Object → List (Keyed Policy)
-policy_in e = policy_by e.1.key.name e.1.content
+policy_in e = policy_under e.0 e.1
 
 -- the policies among objects, in the order of these
 abbrev pub policies_among : List (Key × Object) → List (Keyed Policy)
@@ -41,8 +47,12 @@ binding_by name (content.Policy p) = []
 binding_by name (content.Binding b) = record { key = name; value = b } ∷ []
 binding_by name content.Other = []
 
+-- what is under a key, if that is a binding's
+unfoldable pub binding_under : Key → Object → List (Keyed Binding)
+binding_under k o = if is_binding k then binding_by o.key.name o.content else []
+
 abbrev pub binding_in : Key × Object → List (Keyed Binding)
-binding_in e = binding_by e.1.key.name e.1.content
+binding_in e = binding_under e.0 e.1
 
 -- the bindings among objects, in the order of these
 abbrev pub bindings_among : List (Key × Object) → List (Keyed Binding)
@@ -62,16 +72,20 @@ bindings_of policy bs = flat_map (if_bound policy) bs
 
 -- ---- kinds
 
--- an object under its name, if it is a definition
-unfoldable pub definition_by : Object → List (Keyed Object)
-definition_by o = if is_definition o.key then record { key = o.key.name; value = o } ∷ [] else []
+-- what is under a key by its name, if that is a definition's
+unfoldable pub definition_under : Key → Object → List (Keyed Object)
+definition_under k o = if is_definition k then record { key = o.key.name; value = o } ∷ [] else []
 
 abbrev pub definition_in : Key × Object → List (Keyed Object)
-definition_in e = definition_by e.1
+definition_in e = definition_under e.0 e.1
+
+-- the definitions among objects, in the order of these
+abbrev pub definitions_among : List (Key × Object) → List (Keyed Object)
+definitions_among os = flat_map definition_in os
 
 -- the definitions by name
 abbrev pub definitions_in : List (Key × Object) → List (Keyed Object)
-definitions_in os = by_name (flat_map definition_in os)
+definitions_in os = by_name (definitions_among os)
 
 -- the kinds that are known or refused, the fixed ones first, the others by their definitions' names
 abbrev pub kinds_in : List (Key × Object) → List Kind

@@ -2,16 +2,17 @@
 
 ghost use Rattle.std.specs.Prelude.{◌≡◌, ◌++◌, IfOk, OnOk};
 ghost use Rattle.vap_objects.specs.ByName.{Adds};
-ghost use Rattle.vap_objects.specs.Listed.{policy_by, policies_in, binding_by, bindings_in, if_bound, bindings_of};
-ghost use Rattle.vap_objects.specs.Listed.{definition_by, definitions_in};
+ghost use Rattle.vap_objects.specs.Listed.{policy_by, policy_under, policies_in, binding_by, binding_under, bindings_in};
+ghost use Rattle.vap_objects.specs.Listed.{if_bound, bindings_of, definition_under, definitions_in};
 
 use crate::by_name::put_named;
+use crate::classes::{is_binding, is_policy};
 use plain::{Items, Keyed, Shared};
 use std::alloc::{AllocError, Global};
 use vap_bindings::Binding;
 use vap_kinds::is_definition;
 use vap_policies::Policy;
-use vap_read::{Content, Object, ObjectMap};
+use vap_read::{Content, Key, Object, ObjectMap};
 
 fn add_policy(object: &Object, policies: &mut Vec<Keyed<Policy>>) -> Result<(), AllocError>
     ensures { OnOk result (Adds (policy_by object.now.key.name object.now.content) policies.old.items policies.new.items) }
@@ -23,13 +24,29 @@ fn add_policy(object: &Object, policies: &mut Vec<Keyed<Policy>>) -> Result<(), 
     }
 }
 
+/// Adds what is under a key, if that is a policy's.
+#[tactic(auto, unfolding(crate::specs::Listed::policy_under))]
+fn add_if_policy(
+    key: &Key,
+    object: &Object,
+    policies: &mut Vec<Keyed<Policy>>,
+) -> Result<(), AllocError>
+    ensures { OnOk result (Adds (policy_under key.now object.now) policies.old.items policies.new.items) }
+{
+    if is_policy(key) {
+        add_policy(object, policies)
+    } else {
+        Ok(())
+    }
+}
+
 /// The policies by their names.
 pub fn policies_in(alloc: Global, objects: &ObjectMap) -> Result<Items<Keyed<Policy>>, AllocError>
     ensures { IfOk result (λ policies. policies ≡ policies_in objects.now) }
 {
     let mut policies = Vec::new(alloc);
-    for (_, object) in objects.iter() {
-        add_policy(object.get(), &mut policies)?;
+    for (key, object) in objects.iter() {
+        add_if_policy(key, object.get(), &mut policies)?;
     }
     Ok(Items::from_vec(policies))
 }
@@ -44,13 +61,29 @@ fn add_binding(object: &Object, bindings: &mut Vec<Keyed<Binding>>) -> Result<()
     }
 }
 
+/// Adds what is under a key, if that is a binding's.
+#[tactic(auto, unfolding(crate::specs::Listed::binding_under))]
+fn add_if_binding(
+    key: &Key,
+    object: &Object,
+    bindings: &mut Vec<Keyed<Binding>>,
+) -> Result<(), AllocError>
+    ensures { OnOk result (Adds (binding_under key.now object.now) bindings.old.items bindings.new.items) }
+{
+    if is_binding(key) {
+        add_binding(object, bindings)
+    } else {
+        Ok(())
+    }
+}
+
 /// The bindings by their names.
 pub fn bindings_in(alloc: Global, objects: &ObjectMap) -> Result<Items<Keyed<Binding>>, AllocError>
     ensures { IfOk result (λ bindings. bindings ≡ bindings_in objects.now) }
 {
     let mut bindings = Vec::new(alloc);
-    for (_, object) in objects.iter() {
-        add_binding(object.get(), &mut bindings)?;
+    for (key, object) in objects.iter() {
+        add_if_binding(key, object.get(), &mut bindings)?;
     }
     Ok(Items::from_vec(bindings))
 }
@@ -87,14 +120,16 @@ pub fn bindings_of(
     Ok(Items::from_vec(bound))
 }
 
-#[tactic(auto, unfolding(crate::specs::Listed::definition_by))]
+/// Adds what is under a key, if that is a definition's.
+#[tactic(auto, unfolding(crate::specs::Listed::definition_under))]
 fn add_definition(
+    key: &Key,
     object: &Shared<Object>,
     definitions: &mut Vec<Keyed<Shared<Object>>>,
 ) -> Result<(), AllocError>
-    ensures { OnOk result (Adds (definition_by object.now) definitions.old.items definitions.new.items) }
+    ensures { OnOk result (Adds (definition_under key.now object.now) definitions.old.items definitions.new.items) }
 {
-    if is_definition(&object.get().key) {
+    if is_definition(key) {
         put_named(definitions, object.get().key.name.copy()?, object.share()?)
     } else {
         Ok(())
@@ -109,8 +144,8 @@ pub fn definitions_in(
     ensures { IfOk result (λ definitions. definitions ≡ definitions_in objects.now) }
 {
     let mut definitions = Vec::new(alloc);
-    for (_, object) in objects.iter() {
-        add_definition(object, &mut definitions)?;
+    for (key, object) in objects.iter() {
+        add_definition(key, object, &mut definitions)?;
     }
     Ok(Items::from_vec(definitions))
 }

@@ -1,17 +1,21 @@
 //! The objects of a cluster.
 
-ghost use Rattle.std.specs.Prelude.{◌≡◌, ◌≤◌, ◌↔◌, length, IsTrue, IfOk, OnOk, OnErr};
+ghost use Rattle.std.specs.Prelude.{◌≡◌, ◌≤◌, ◌↔◌, ℕ, List, length, IsTrue, IfOk, OnOk, OnErr};
 ghost use Rattle.std.specs.Option.{option_copied};
 ghost use Rattle.vap_select.specs.Select.{lent_labels};
 ghost use Rattle.vap_objects.specs.After.{nothing, after, objects_after};
+ghost use Rattle.vap_objects.specs.Classes.{is_of, of_class};
 ghost use Rattle.vap_objects.specs.Limits.{takes, IsWithin};
 ghost use Rattle.vap_objects.specs.ByName.{AreByName};
 ghost use Rattle.vap_objects.specs.Listed.{policies_among, policies_in, bindings_among, bindings_in, kinds_in};
-ghost use Rattle.vap_objects.specs.OfKind.{object_at, objects_of_kind, namespace_key, namespace_labels};
+ghost use Rattle.vap_objects.specs.OfKind.{object_at, objects_of_kind, namespaces_in, namespace_key, namespace_labels};
 
 use crate::lists::{bindings_in, definitions_in, policies_in};
-use crate::of_kind::{namespace, namespace_labels, objects_of_kind};
+use crate::of_kind::{
+    entries_of_kind, namespace, namespace_labels, namespaces_in, objects_of_kind,
+};
 use crate::room::has_room;
+use crate::tallies::{Totals, totals_after};
 use plain::{Items, Keyed, Shared};
 use std::alloc::{AllocError, Global};
 use std::marker::Model;
@@ -26,14 +30,17 @@ use vap_select::Labels;
 pub struct Objects {
     objects: ObjectMap,
     events: u64,
+    /// What counting the objects afresh gives.
+    totals: Totals,
 }
 
 impl Model for Objects {
+    ghost use Rattle.std.specs.Prelude.{◌≡◌};
     ghost use Rattle.std.specs.Coded.{codes};
     ghost use Rattle.vap_read.specs.contracts.key.Key as object_key;
     ghost use Rattle.vap_read.specs.contracts.object.Object as kept;
     ghost use Rattle.vap_objects.specs.Cluster.{Cluster};
-    ghost use Rattle.vap_objects.specs.Limits.{IsWithin};
+    ghost use Rattle.vap_objects.specs.Limits.{IsWithin, totals_of};
 
     ghost Value = { Cluster };
 
@@ -41,7 +48,7 @@ impl Model for Objects {
 
     ghost view = { λ o. record { objects = o.objects; events = o.events } };
 
-    ghost invariant = { λ o. IsWithin (record { objects = o.objects; events = o.events }) };
+    ghost invariant = { λ o. IsWithin (record { objects = o.objects; events = o.events }) × (o.totals ≡ totals_of o.objects) };
 }
 
 impl Objects {
@@ -52,6 +59,12 @@ impl Objects {
         Objects {
             objects: ObjectMap::new(alloc),
             events: 0,
+            totals: Totals {
+                objects: 0,
+                policies: 0,
+                bindings: 0,
+                versions: 0,
+            },
         }
     }
 
@@ -71,6 +84,7 @@ impl Objects {
         Ok(Objects {
             objects: self.objects.copy(alloc)?,
             events: self.events,
+            totals: self.totals,
         })
     }
 
@@ -85,7 +99,7 @@ impl Objects {
     fn is_taken(&self, event: &Event) -> bool
         ensures { result ≡ takes event.now self.now }
     {
-        self.events < 65_536 && has_room(event, &self.objects)
+        self.events < 65_536 && has_room(event, self.totals, &self.objects)
     }
 
     /// Takes an event in. A refusal leaves all as it was.
@@ -94,7 +108,9 @@ impl Objects {
         ensures ok { OnOk result (self.new ≡ after event.now self.old) }
         ensures err { OnErr result (self.new ≡ self.old) }
     {
+        let totals = totals_after(event, self.totals, &self.objects);
         change(alloc, event, &mut self.objects)?;
+        self.totals = totals;
         self.events += 1;
         Ok(())
     }
@@ -146,6 +162,27 @@ impl Objects {
         ensures few { IfOk result (λ found. length found ≤ 4096) }
     {
         objects_of_kind(alloc, api_version, kind, &self.objects)
+    }
+
+    /// The objects of a version and kind under their keys: one more owner of each.
+    pub fn entries_of_kind(
+        &self,
+        alloc: Global,
+        api_version: &str,
+        kind: &str,
+    ) -> Result<ObjectMap, AllocError>
+        ensures { IfOk result (λ found. found ≡ of_class (is_of api_version.now kind.now) self.now.objects) }
+    {
+        entries_of_kind(alloc, api_version, kind, &self.objects)
+    }
+
+    /// The Namespaces by their keys. Each is found among these as it is among all.
+    pub fn namespaces(&self, alloc: Global) -> Result<ObjectMap, AllocError>
+        ensures exact { IfOk result (λ found. found ≡ namespaces_in self.now.objects) }
+        ensures each { IfOk result (λ found. (name : List ℕ)
+            → object_at (namespace_key name) found ≡ object_at (namespace_key name) self.now.objects) }
+    {
+        namespaces_in(alloc, &self.objects)
     }
 
     /// The Namespace of a name.

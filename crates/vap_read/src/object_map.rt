@@ -4,7 +4,7 @@ ghost use Rattle.std.specs.Prelude.{◌≡◌, [], length, IfOk, OnOk, OnErr};
 ghost use Rattle.std.specs.List.Sorted.{IsStrictlySortedBy};
 ghost use Rattle.std.specs.Option.{option_copied};
 ghost use Rattle.std.specs.Map.{keys_of, lookup, remove_entry};
-ghost use Rattle.std.specs.BTreeMap.{is_at};
+ghost use Rattle.std.specs.BTreeMap.{insert_entry, is_at};
 ghost use Rattle.vap_read.specs.Keys.{key_cmp, with_object};
 
 use crate::key::Key;
@@ -82,6 +82,14 @@ impl ObjectMap {
         ensures err { OnErr result (self.new ≡ self.old) }
     {
         let key = object.get().key.copy()?;
+        self.put_under(key, object)
+    }
+
+    /// Puts an object under this key, in place of what stands there.
+    pub fn put_under(&mut self, key: Key, object: Shared<Object>) -> Result<(), AllocError>
+        ensures ok { OnOk result (self.new ≡ insert_entry key_cmp self.old key object) }
+        ensures err { OnErr result (self.new ≡ self.old) }
+    {
         self.entries.insert(key, object)?;
         Ok(())
     }

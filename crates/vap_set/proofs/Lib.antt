@@ -1,8 +1,17 @@
 pub mod Slashes
 pub mod Firsts
+pub mod Once
+pub mod ParamTable
 pub mod Standing
 pub mod ParamKinds
 pub mod Behind
 pub mod ReportOrder
 pub mod Named
+pub mod MadeSets
+pub mod Reused
 pub mod Asked
+pub mod PlaceOrder
+pub mod Covered
+pub mod Entries
+pub mod Indexed
+pub mod Chosen

@@ -1,5 +1,5 @@
 -- What a policy of a set is at a kind may be run there.
-use Rattle.std.proofs.Common.{◌≡◌, ◌≤◌, ℕ, zero, suc, Bool, true, false, cond, ◌&&◌, List, [], ◌∷◌, ◌++◌, Option, Some, None, refl, sym}
+use Rattle.std.proofs.Common.{◌≡◌, ◌≤◌, ℕ, Bool, true, false, cond, ◌&&◌, List, [], ◌∷◌, Option, Some, None, refl, sym}
 use Rattle.std.proofs.Common.{ap, ◌∙◌, subst}
 use Rattle.std.proofs.Common.{map, filter, length, arith, length-append, option_map}
 use Rattle.std.specs.Prelude.{if◌then◌else◌}
@@ -16,27 +16,31 @@ use Rattle.vap_policies.specs.declared.policy.Policy.{Policy}
 use Rattle.vap_policies.specs.declared.policy.PolicySpec.{PolicySpec}
 use Rattle.vap_programs.specs.Ready.{PairsAreReady, PairsAreWithin}
 use Rattle.vap_set.specs.Kinds.{params_type, type_or_opaque, types_at}
-use Rattle.vap_set.specs.Sets.{Built, bound_of, is_looked_at, is_pair_of, kind_pair, kinds_of, pairs_of, policies_of}
-use Rattle.vap_set.specs.Ready.{IsFirst, IsOneOf, IsReadyBy, IsReadyAt, HasFew, AreFew, AreReady}
+use Rattle.vap_set.specs.Made.{pair_made}
+use Rattle.vap_set.specs.Parts.{part_of}
+use Rattle.vap_set.specs.Sets.{Holdings, IsOfObjects, bound_of, holdings_of, is_looked_at, is_pair_of, kind_pair, kinds_of, pairs_of}
+use Rattle.vap_set.specs.Sets.{policies_by}
+use Rattle.vap_set.specs.Ready.{IsFirst, IsOneOf, IsReadyBy, IsReadyAt, HasFew, HasItsParams, AreFew, AreReady}
 use Rattle.vap_set.specs.declared.bound.KindPair.{KindPair}
 use Rattle.vap_set.specs.declared.choice.Choice.{Choice}
 use Rattle.vap_set.proofs.Firsts.{kinds_first, one_kind, same_text}
+use Rattle.vap_set.proofs.ParamTable.{each_held}
 
 -- what stands of a policy at a kind
-pub record IsOfKind (choice : Choice) (kinds : List Kind) (p : PolicySpec) (e : KindPair) : Type 0 where
+pub record IsOfKind (refused : List (List ℕ)) (kinds : List Kind) (p : PolicySpec) (e : KindPair) : Type 0 where
   pub kind : Kind
   pub first : IsFirst kinds kind
-  pub is : e ≡ kind_pair choice kinds p kind
+  pub is : e ≡ kind_pair refused kinds p kind
 
 -- each pair is of one of these kinds
-pub all_of_kinds : (choice : Choice) (kinds : List Kind) (p : PolicySpec) (ks : List Kind) → AllByRecursion (IsFirst kinds) ks
-    → AllByRecursion (IsOfKind choice kinds p) (map (kind_pair choice kinds p) (filter (is_looked_at p) ks))
-all_of_kinds choice kinds p [] firsts = tt
-all_of_kinds choice kinds p (k ∷ ks) firsts = at (is_looked_at p k) (all_of_kinds choice kinds p ks firsts.1)
+pub all_of_kinds : (refused : List (List ℕ)) (kinds : List Kind) (p : PolicySpec) (ks : List Kind) → AllByRecursion (IsFirst kinds) ks
+    → AllByRecursion (IsOfKind refused kinds p) (map (kind_pair refused kinds p) (filter (is_looked_at p) ks))
+all_of_kinds refused kinds p [] firsts = tt
+all_of_kinds refused kinds p (k ∷ ks) firsts = at (is_looked_at p k) (all_of_kinds refused kinds p ks firsts.1)
   where
-    at : (b : Bool) → AllByRecursion (IsOfKind choice kinds p) (map (kind_pair choice kinds p) (filter (is_looked_at p) ks))
-        → AllByRecursion (IsOfKind choice kinds p)
-        (map (kind_pair choice kinds p) (cond b (k ∷ filter (is_looked_at p) ks) (filter (is_looked_at p) ks)))
+    at : (b : Bool) → AllByRecursion (IsOfKind refused kinds p) (map (kind_pair refused kinds p) (filter (is_looked_at p) ks))
+        → AllByRecursion (IsOfKind refused kinds p)
+        (map (kind_pair refused kinds p) (cond b (k ∷ filter (is_looked_at p) ks) (filter (is_looked_at p) ks)))
     at true rest = (record { kind = k; first = firsts.0; is = refl }, rest)
     at false rest = rest
 
@@ -48,64 +52,71 @@ all_three true false c h = absurd cc
 all_three false b c h = absurd cc
 
 -- what stands under the name of a kind is what the policy is there
-own_pair : (choice : Choice) (kinds : List Kind) (p : PolicySpec) (k : Kind) (e : KindPair) → IsFirst kinds k
-    → IsOfKind choice kinds p e → is_pair_of k e ≡ true → e ≡ kind_pair choice kinds p k
-own_pair choice kinds p k e first of h =
+own_pair : (refused : List (List ℕ)) (kinds : List Kind) (p : PolicySpec) (k : Kind) (e : KindPair) → IsFirst kinds k
+    → IsOfKind refused kinds p e → is_pair_of k e ≡ true → e ≡ kind_pair refused kinds p k
+own_pair refused kinds p k e first of h =
     let same = all_three (bytes_eq k.group e.group) (bytes_eq k.version e.version) (bytes_eq k.kind e.kind) h in
     let group = same_text k.group e.group same.0 ∙ ap (λ (x : KindPair). x.group) of.is in
     let version = same_text k.version e.version same.1 ∙ ap (λ (x : KindPair). x.version) of.is in
     let name = same_text k.kind e.kind same.2 ∙ ap (λ (x : KindPair). x.kind) of.is in
-    of.is ∙ ap (kind_pair choice kinds p) (sym (one_kind kinds k of.kind first of.first group version name))
+    of.is ∙ ap (kind_pair refused kinds p) (sym (one_kind kinds k of.kind first of.first group version name))
 
-found_ready : PairsAreReady → PairsAreWithin → (choice : Choice) (kinds : List Kind) (p : PolicySpec) (k : Kind) (es : List KindPair)
-    → IsFirst kinds k → AllByRecursion (IsOfKind choice kinds p) es
+found_ready : PairsAreReady → PairsAreWithin → (refused : List (List ℕ)) (kinds : List Kind) (p : PolicySpec) (k : Kind)
+    (es : List KindPair) → IsFirst kinds k → AllByRecursion (IsOfKind refused kinds p) es
     → IsReadyBy (types_at (type_or_opaque k.object_type)) (params_type kinds p.param_kind)
-    (option_map (λ e. e.pair) (find (is_pair_of k) es))
-found_ready ready within choice kinds p k [] first all = tt
-found_ready ready within choice kinds p k (e ∷ es) first all =
-    at (is_pair_of k e) refl (found_ready ready within choice kinds p k es first all.1)
+    (option_map (λ e. pair_made e.made) (find (is_pair_of k) es))
+found_ready ready within refused kinds p k [] first all = tt
+found_ready ready within refused kinds p k (e ∷ es) first all =
+    at (is_pair_of k e) refl (found_ready ready within refused kinds p k es first all.1)
   where
     Ready : Option KindPair → Type 0
-    Ready found = IsReadyBy (types_at (type_or_opaque k.object_type)) (params_type kinds p.param_kind) (option_map (λ x. x.pair) found)
+    Ready found =
+        IsReadyBy (types_at (type_or_opaque k.object_type)) (params_type kinds p.param_kind) (option_map (λ x. pair_made x.made) found)
 
     at : (b : Bool) → is_pair_of k e ≡ b → Ready (find (is_pair_of k) es) → Ready (cond b (Some e) (find (is_pair_of k) es))
-    at true h rest = subst (λ (x : KindPair). Ready (Some x)) (sym (own_pair choice kinds p k e first all.0 h)) (
-      ready choice.refused (types_at (type_or_opaque k.object_type)) (params_type kinds p.param_kind) p,
-      within choice.refused (types_at (type_or_opaque k.object_type)) (params_type kinds p.param_kind) p,
+    at true h rest = subst (λ (x : KindPair). Ready (Some x)) (sym (own_pair refused kinds p k e first all.0 h)) (
+      ready refused (types_at (type_or_opaque k.object_type)) (params_type kinds p.param_kind) p,
+      within refused (types_at (type_or_opaque k.object_type)) (params_type kinds p.param_kind) p,
     )
     at false h rest = rest
 
-one_ready : PairsAreReady → PairsAreWithin → (b : Built) (bindings : List (Keyed Binding)) (p : Keyed Policy) (k : Option Kind)
-    → AllByRecursion (IsFirst (kinds_of b)) (kinds_of b) → IsOneOf (kinds_of b) k
-    → IsReadyAt b k (bound_of b.choice (kinds_of b) b.objects bindings p)
-one_ready ready within b bindings p None firsts first = record {
-  params = refl;
-  runs = (
-    ready b.choice.refused (types_at (type_or_opaque None)) (params_type (kinds_of b) p.value.spec.param_kind) p.value.spec,
-    within b.choice.refused (types_at (type_or_opaque None)) (params_type (kinds_of b) p.value.spec.param_kind) p.value.spec,
+one_ready : PairsAreReady → PairsAreWithin → (h : Holdings) (bindings : List (Keyed Binding)) (p : Keyed Policy) (k : Option Kind)
+    → HasItsParams h p.value.spec.param_kind → AllByRecursion (IsFirst (kinds_of h)) (kinds_of h) → IsOneOf (kinds_of h) k
+    → IsReadyAt h k (bound_of h.choice (kinds_of h) bindings p)
+one_ready ready within h bindings p None params firsts first = record {
+  params = params;
+  runs = let refused = part_of h.choice p.value.spec in (
+    ready refused (types_at (type_or_opaque None)) (params_type (kinds_of h) p.value.spec.param_kind) p.value.spec,
+    within refused (types_at (type_or_opaque None)) (params_type (kinds_of h) p.value.spec.param_kind) p.value.spec,
   );
 }
-one_ready ready within b bindings p (Some k) firsts first = record {
-  params = refl;
-  runs = found_ready ready within b.choice (kinds_of b) p.value.spec k (pairs_of b.choice (kinds_of b) p.value.spec) first
-      (all_of_kinds b.choice (kinds_of b) p.value.spec (kinds_of b) firsts);
+one_ready ready within h bindings p (Some k) params firsts first = record {
+  params = params;
+  runs = let refused = part_of h.choice p.value.spec in
+      found_ready ready within refused (kinds_of h) p.value.spec k (pairs_of refused (kinds_of h) p.value.spec) first
+      (all_of_kinds refused (kinds_of h) p.value.spec (kinds_of h) firsts);
 }
 
-each_ready : PairsAreReady → PairsAreWithin → (b : Built) (bindings : List (Keyed Binding)) (ps : List (Keyed Policy)) (k : Option Kind)
-    → AllByRecursion (IsFirst (kinds_of b)) (kinds_of b) → IsOneOf (kinds_of b) k
-    → AllByRecursion (IsReadyAt b k) (map (bound_of b.choice (kinds_of b) b.objects bindings) ps)
-each_ready ready within b bindings [] k firsts first = tt
-each_ready ready within b bindings (p ∷ ps) k firsts first =
-    (one_ready ready within b bindings p k firsts first, each_ready ready within b bindings ps k firsts first)
+each_ready : PairsAreReady → PairsAreWithin → (h : Holdings) (bindings : List (Keyed Binding)) (ps : List (Keyed Policy))
+    (k : Option Kind) → AllByRecursion (λ (p : Keyed Policy). HasItsParams h p.value.spec.param_kind) ps
+    → AllByRecursion (IsFirst (kinds_of h)) (kinds_of h) → IsOneOf (kinds_of h) k
+    → AllByRecursion (IsReadyAt h k) (map (bound_of h.choice (kinds_of h) bindings) ps)
+each_ready ready within h bindings [] k params firsts first = tt
+each_ready ready within h bindings (p ∷ ps) k params firsts first =
+    (one_ready ready within h bindings p k params.0 firsts first, each_ready ready within h bindings ps k params.1 firsts first)
+
+built_ready : PairsAreReady → PairsAreWithin → (c : Cluster) (choice : Choice) → AreReady (holdings_of c choice)
+unfolding holdings_of
+built_ready ready within c choice k first =
+    All-from_recursion (IsReadyAt (holdings_of c choice) k) (policies_by choice c)
+    (
+    each_ready ready within (holdings_of c choice) (bindings_in c.objects) (policies_in c.objects) k (each_held c choice)
+    (kinds_first (definitions_in c.objects)) first
+    )
 
 -- each policy of a set is ready at each kind
-pub set_ready : PairsAreReady → PairsAreWithin → (b : Built) → AreReady b
-set_ready ready within b k first =
-    All-from_recursion (IsReadyAt b k) (policies_of b)
-    (
-    each_ready ready within b (bindings_in b.objects.objects) (policies_in b.objects.objects) k
-    (kinds_first (definitions_in b.objects.objects)) first
-    )
+pub set_ready : PairsAreReady → PairsAreWithin → (h : Holdings) → IsOfObjects h → AreReady h
+set_ready ready within h source = subst AreReady (sym source.is) (built_ready ready within source.objects h.choice)
 
 -- ---- how many there are
 
@@ -122,27 +133,25 @@ no_more name [] = omega arith
 no_more name (b ∷ bs) =
     omega (arith, length-append (if_bound name b) (bindings_of name bs), at_most_one name b, no_more name bs)
 
-few_each : (choice : Choice) (kinds : List Kind) (objects : Cluster) (bindings : List (Keyed Binding)) (ps : List (Keyed Policy))
-    → length bindings ≤ 256 → AllByRecursion HasFew (map (bound_of choice kinds objects bindings) ps)
-few_each choice kinds objects bindings [] few = tt
-few_each choice kinds objects bindings (p ∷ ps) few =
-    (omega (arith, no_more p.key bindings, few), few_each choice kinds objects bindings ps few)
+few_each : (choice : Choice) (kinds : List Kind) (bindings : List (Keyed Binding)) (ps : List (Keyed Policy))
+    → length bindings ≤ 256 → AllByRecursion HasFew (map (bound_of choice kinds bindings) ps)
+few_each choice kinds bindings [] few = tt
+few_each choice kinds bindings (p ∷ ps) few = (omega (arith, no_more p.key bindings, few), few_each choice kinds bindings ps few)
 
 -- few policies and few bindings make a set of few
-pub few_bound : (choice : Choice) (kinds : List Kind) (objects : Cluster) (bindings : List (Keyed Binding)) (ps : List (Keyed Policy))
-    → length bindings ≤ 256 → length ps ≤ 256 → AreFew (map (bound_of choice kinds objects bindings) ps)
-few_bound choice kinds objects bindings ps few_bindings few = (
-  omega (arith, length-map ps (bound_of choice kinds objects bindings), few),
-  All-from_recursion HasFew (map (bound_of choice kinds objects bindings) ps) (few_each choice kinds objects bindings ps few_bindings),
+pub few_bound : (choice : Choice) (kinds : List Kind) (bindings : List (Keyed Binding)) (ps : List (Keyed Policy))
+    → length bindings ≤ 256 → length ps ≤ 256 → AreFew (map (bound_of choice kinds bindings) ps)
+few_bound choice kinds bindings ps few_bindings few = (
+  omega (arith, length-map ps (bound_of choice kinds bindings), few),
+  All-from_recursion HasFew (map (bound_of choice kinds bindings) ps) (few_each choice kinds bindings ps few_bindings),
 )
 
 -- policies are bound by what is the same
-pub bound_same : {a choice : Choice} {k kinds : List Kind} {o objects : Cluster} {b bindings : List (Keyed Binding)}
-    {p policies : List (Keyed Policy)} → a ≡ choice → k ≡ kinds → o ≡ objects → b ≡ bindings → p ≡ policies
-    → map (bound_of a k o b) p ≡ map (bound_of choice kinds objects bindings) policies
-bound_same {a} {choice} {k} {kinds} {o} {objects} {b} {bindings} {p} {policies} one two three four five =
-    ap (λ (x : Choice). map (bound_of x k o b) p) one
-    ∙ ap (λ (x : List Kind). map (bound_of choice x o b) p) two
-    ∙ ap (λ (x : Cluster). map (bound_of choice kinds x b) p) three
-    ∙ ap (λ (x : List (Keyed Binding)). map (bound_of choice kinds objects x) p) four
-    ∙ ap (λ (x : List (Keyed Policy)). map (bound_of choice kinds objects bindings) x) five
+pub bound_same : {a choice : Choice} {k kinds : List Kind} {b bindings : List (Keyed Binding)} {p policies : List (Keyed Policy)}
+    → a ≡ choice → k ≡ kinds → b ≡ bindings → p ≡ policies
+    → map (bound_of a k b) p ≡ map (bound_of choice kinds bindings) policies
+bound_same {a} {choice} {k} {kinds} {b} {bindings} {p} {policies} one two three four =
+    ap (λ (x : Choice). map (bound_of x k b) p) one
+    ∙ ap (λ (x : List Kind). map (bound_of choice x b) p) two
+    ∙ ap (λ (x : List (Keyed Binding)). map (bound_of choice kinds x) p) three
+    ∙ ap (λ (x : List (Keyed Policy)). map (bound_of choice kinds bindings) x) four

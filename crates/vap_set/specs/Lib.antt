@@ -1,8 +1,15 @@
 pub mod Kinds
 pub mod Fitted
 pub mod Seen
+pub mod Made
+pub mod Parts
 pub mod Sets
+pub mod Reuse
 pub mod Ready
 pub mod Whole
 pub mod Patterns
 pub mod Unverified
+pub mod Covering
+pub mod PlaceOrder
+pub mod Places
+pub mod Index

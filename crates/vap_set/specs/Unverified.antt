@@ -14,6 +14,7 @@ use Rattle.vap_policies.specs.declared.policy.PolicySpec.{PolicySpec}
 use Rattle.vap_programs.specs.Expressions.{expressions_of, IsOneUnverified}
 use Rattle.vap_programs.specs.Scopes.{first_names}
 use Rattle.vap_set.specs.Kinds.{params_type, types_at}
+use Rattle.vap_set.specs.Parts.{part_of}
 use Rattle.vap_set.specs.Ready.{type_at}
 use Rattle.vap_set.specs.Sets.{is_looked_at}
 use Rattle.vap_set.specs.declared.build_error.BuildError.{BuildError}
@@ -25,9 +26,10 @@ abbrev pub error_of : List ℕ → CompileError → BuildError
 error_of name (compile_error.Unverified at) = build_error.Unverified name
 error_of name compile_error.OutOfMemory = build_error.OutOfMemory
 
--- the expressions of a policy, where the objects are of this type
-abbrev pub expressions_at : Choice → List Kind → PolicySpec → CelType → List Source
-expressions_at choice kinds p t = expressions_of choice.refused (first_names (types_at t) (params_type kinds p.param_kind)) p
+-- the expressions of a policy, where these of its own texts are refused and the objects are of this type
+abbrev pub expressions_at : List (List ℕ) → List Kind → PolicySpec → CelType → List Source
+expressions_at refused kinds p t =
+    expressions_of refused (first_names (types_at t) (params_type kinds p.param_kind)) p
 
 -- a policy is looked at where the kind is not known, and at each known one of these that it names
 abbrev pub IsLookedAt : List Kind → PolicySpec → Option Kind → Type 0
@@ -35,15 +37,15 @@ IsLookedAt kinds p None = Unit {0}
 IsLookedAt kinds p (Some k) = Contains kinds k × (is_looked_at p k ≡ true)
 
 -- where it is looked at, one of its expressions may be run, and the verifier refuses its image
-pub record HasUnverified (choice : Choice) (kinds : List Kind) (p : PolicySpec) : Type 0 where
+pub record HasUnverified (refused : List (List ℕ)) (kinds : List Kind) (p : PolicySpec) : Type 0 where
   pub kind : Option Kind
   pub looked_at : IsLookedAt kinds p kind
   pub at : ℕ
-  pub is : IsOneUnverified at (expressions_at choice kinds p (type_at kind))
+  pub is : IsOneUnverified at (expressions_at refused kinds p (type_at kind))
 
 -- a policy has this name, and such an expression
 abbrev pub IsNamedUnverified : Choice → List Kind → List ℕ → Keyed Policy → Type 0
-IsNamedUnverified choice kinds name p = (p.key ≡ name) × HasUnverified choice kinds p.value.spec
+IsNamedUnverified choice kinds name p = (p.key ≡ name) × HasUnverified (part_of choice p.value.spec) kinds p.value.spec
 
 -- so has one of these
 abbrev pub AreUnverified : Choice → List Kind → List ℕ → List (Keyed Policy) → Type 0

@@ -8,7 +8,7 @@ use Rattle.vap_programs.specs.declared.programs.Pair.{Pair}
 use Rattle.vap_programs.specs.declared.programs.Pair.TheVariants.{Runs, Misconfigured}
 use Rattle.vap_set.specs.Kinds.{kind_of_params}
 use Rattle.vap_set.specs.Ready.{IsOneOf}
-use Rattle.vap_set.specs.Sets.{Built, is_looked_at, kinds_of, pair_in, policies_of}
+use Rattle.vap_set.specs.Sets.{Holdings, is_looked_at, kinds_of, pair_in, policies_of}
 use Rattle.vap_set.specs.declared.bound.BoundPolicy.{BoundPolicy}
 
 -- the kind of params that is named, if one is, is found and has a type
@@ -28,9 +28,9 @@ Names p None = Unit {0}
 Names p (Some k) = is_looked_at p k ≡ true
 
 -- a policy is something at a kind that it names
-abbrev pub IsWholeAt : Built → Option Kind → BoundPolicy → Type 0
-IsWholeAt b k p = Names p.policy.spec k → IsSomething (kinds_of b) p.policy.spec.param_kind (pair_in p k)
+abbrev pub IsWholeAt : Holdings → Option Kind → BoundPolicy → Type 0
+IsWholeAt h k p = Names p.policy.spec k → IsSomething (kinds_of h) p.policy.spec.param_kind (pair_in p k)
 
 -- so is each policy of a set, at each of its kinds
-abbrev pub AreWhole : Built → Type 0
-AreWhole b = (k : Option Kind) → IsOneOf (kinds_of b) k → All (IsWholeAt b k) (policies_of b)
+abbrev pub AreWhole : Holdings → Type 0
+AreWhole h = (k : Option Kind) → IsOneOf (kinds_of h) k → All (IsWholeAt h k) (policies_of h)

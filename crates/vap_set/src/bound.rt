@@ -4,7 +4,8 @@ ghost use Rattle.std.specs.Prelude.{◌≡◌, Some};
 ghost use Rattle.std.specs.Option.{option_copied};
 ghost use Rattle.vap_set.specs.Sets.{is_pair_of, pair_in};
 
-use crate::kind_params::KindParams;
+use crate::made::MadePair;
+use crate::texts::PolicyTexts;
 use plain::{Items, Keyed, Shared, Text};
 use vap_bindings::Binding;
 use vap_kinds::Kind;
@@ -17,21 +18,21 @@ pub struct KindPair {
     pub group: Text,
     pub version: Text,
     pub kind: Text,
-    pub pair: Pair,
+    pub made: Shared<MadePair>,
 }
 
-/// A policy with its bindings by name, its params, and what it is at each kind.
+/// A policy with its bindings by name, and what it is at each kind.
 #[derive(Drop)]
 pub struct BoundPolicy {
     pub name: Text,
     pub policy: Policy,
+    /// The same with its own texts.
+    pub own: Shared<PolicyTexts>,
     pub bindings: Items<Keyed<Binding>>,
-    /// The objects of the kind that it names, if that is known.
-    pub params: Option<Shared<KindParams>>,
     /// At the known kinds that it names.
     pub pairs: Items<KindPair>,
     /// At the kinds that are not known.
-    pub other: Pair,
+    pub other: Shared<MadePair>,
 }
 
 fn is_pair_of(kind: &Kind, pair: &KindPair) -> bool
@@ -50,8 +51,18 @@ impl BoundPolicy {
     {
         match kind {
             Some(kind) => self.pair_at(kind),
-            None => Some(&self.other),
+            None => Some(self.other.get().pair()),
         }
+    }
+
+    /// What the policy was compiled to at a kind.
+    pub fn made_at(&self, kind: &Kind) -> Option<&Shared<MadePair>> {
+        for pair in self.pairs.as_slice() {
+            if is_pair_of(kind, pair) {
+                return Some(&pair.made);
+            }
+        }
+        None
     }
 
     fn pair_at(&self, kind: &Kind) -> Option<&Pair>
@@ -59,7 +70,7 @@ impl BoundPolicy {
     {
         for pair in self.pairs.as_slice() {
             if is_pair_of(kind, pair) {
-                return Some(&pair.pair);
+                return Some(pair.made.get().pair());
             }
         }
         None

@@ -1,24 +1,42 @@
 //! Sets of policies.
 //!
 //! [`PolicySet::build`] compiles what the policies among objects say at each kind that is known and that they name, and at those
-//! that are not known. It is seen as the objects and the choice of texts that are taken as no patterns: what it holds is a
-//! function of these, [`PolicySet::policies`]. [`PolicySet::report`] tells where policies are misconfigured.
+//! that are not known. A set is seen as what it holds, which is a function of the objects and of the choice of texts that are
+//! taken as no patterns: the kinds, the policies by name, the params of each kind that a policy names, and the Namespaces. Of the
+//! other objects it keeps none. [`PolicySet::advance`] makes the set after events by the same contract, and takes over what they
+//! do not change: a policy at a kind is seen as what it was compiled of, so that a kept one stands for any that is compiled of the
+//! same. [`PolicySet::policies_on`] lends those that may cover requests on a resource of a group. [`PolicySet::report`] tells
+//! where policies are misconfigured.
 #![tactic(auto)]
 
 mod bound;
 mod build_error;
+mod changes;
 mod choice;
+mod counting;
+mod covering;
+mod definitions;
+mod index;
 mod kind_params;
 mod literal_patterns;
+mod made;
 mod params;
+mod parts;
+mod places;
 mod policies;
 mod report;
+mod reuse;
+mod rules;
 mod set;
+mod table;
+mod texts;
 
 pub use bound::{BoundPolicy, KindPair};
 pub use build_error::BuildError;
 pub use choice::Choice;
 pub use kind_params::{KindParams, Param};
+pub use made::{Inputs, MadePair};
 pub use params::kind_of_params;
 pub use report::Misconfigured;
 pub use set::PolicySet;
+pub use texts::PolicyTexts;

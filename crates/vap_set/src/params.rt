@@ -1,15 +1,16 @@
 //! Kinds of params, and the types of names.
 
-ghost use Rattle.std.specs.Prelude.{◌≡◌, if◌then◌else◌, IfOk};
+ghost use Rattle.std.specs.Prelude.{◌≡◌, ◌↔◌, if◌then◌else◌, IfOk, IsTrue};
 ghost use Rattle.std.specs.Option.{option_copied};
 ghost use Rattle.vap_match.specs.Cover.{is_word_or_any, before_slash};
 ghost use Rattle.std.specs.List.{list_any};
 ghost use Rattle.vap_kinds.specs.Kinds.{kind_named};
 ghost use Rattle.vap_set.specs.Fitted.{spelled};
 ghost use Rattle.vap_set.specs.Kinds.{has_slash, is_named_by, kind_of_params, params_by, params_type, rule_names, type_or_opaque};
+ghost use Rattle.vap_programs.specs.declared.names.ParamsType.TheVariants.{Absent, Unknown};
 ghost use Rattle.vap_set.specs.Kinds.{types_at};
 
-use cel_value::CelType;
+use cel_value::{CelType, same_type};
 use plain::{Shared, Text};
 use std::alloc::{AllocError, Global};
 use vap_kinds::{Kind, find_kind, namespace_type};
@@ -76,7 +77,8 @@ pub fn params_type(
     }
 }
 
-fn object_type(cel_type: &Option<CelType>) -> Result<CelType, AllocError>
+/// The type of objects of a kind, of which none is known where the kind is not.
+pub fn object_type(cel_type: &Option<CelType>) -> Result<CelType, AllocError>
     ensures { IfOk result (λ t. t ≡ type_or_opaque cel_type.now) }
 {
     match cel_type {
@@ -85,11 +87,62 @@ fn object_type(cel_type: &Option<CelType>) -> Result<CelType, AllocError>
     }
 }
 
-/// The types of all names but `params`, where the objects are of this type.
-pub fn types_at(alloc: Global, cel_type: &Option<CelType>) -> Result<KindTypes, AllocError>
-    ensures { IfOk result (λ types. types ≡ types_at (type_or_opaque cel_type.now)) }
+/// Whether a type is that of the objects of a kind.
+pub fn is_object_type(known: &CelType, cel_type: &Option<CelType>) -> bool
+    ensures { IsTrue result ↔ (known.now ≡ type_or_opaque cel_type.now) }
 {
-    let object = Shared::new(alloc, object_type(cel_type)?)?;
+    match cel_type {
+        Some(cel_type) => same_type(known, cel_type),
+        None => same_type(known, &CelType::Opaque),
+    }
+}
+
+fn is_params_by(known: &ParamsType, cel_type: &Option<CelType>) -> bool
+    ensures { IsTrue result ↔ (known.now ≡ params_by cel_type.now) }
+{
+    match (known, cel_type) {
+        (ParamsType::Known(known), Some(cel_type)) => same_type(known.get(), cel_type),
+        (ParamsType::Unknown, None) => true,
+        _ => false,
+    }
+}
+
+fn is_unknown(known: &ParamsType) -> bool
+    ensures { IsTrue result ↔ (known.now ≡ Unknown) }
+{
+    match known {
+        ParamsType::Unknown => true,
+        ParamsType::Absent | ParamsType::Known(_) => false,
+    }
+}
+
+fn is_absent(known: &ParamsType) -> bool
+    ensures { IsTrue result ↔ (known.now ≡ Absent) }
+{
+    match known {
+        ParamsType::Absent => true,
+        ParamsType::Unknown | ParamsType::Known(_) => false,
+    }
+}
+
+/// Whether this is what the params of a policy are.
+pub fn is_params_type(known: &ParamsType, kinds: &[Kind], params: &Option<ParamKind>) -> bool
+    ensures { IsTrue result ↔ (known.now ≡ params_type kinds.now params.now) }
+{
+    match params {
+        None => is_absent(known),
+        Some(params) => match kind_of_params(kinds, params) {
+            Some(kind) => is_params_by(known, &kind.object_type),
+            None => is_unknown(known),
+        },
+    }
+}
+
+/// The types of all names but `params`, where the objects are of this type.
+pub fn types_at(alloc: Global, cel_type: &CelType) -> Result<KindTypes, AllocError>
+    ensures { IfOk result (λ types. types ≡ types_at cel_type.now) }
+{
+    let object = Shared::new(alloc, cel_type.copy()?)?;
     let namespace = Shared::new(alloc, namespace_type(alloc)?)?;
     Ok(KindTypes {
         object,
@@ -98,7 +151,8 @@ pub fn types_at(alloc: Global, cel_type: &Option<CelType>) -> Result<KindTypes, 
     })
 }
 
-fn names_word(words: &[Text], wanted: &str) -> bool
+/// Whether one of these words is the wanted one, or the one for all.
+pub fn names_word(words: &[Text], wanted: &str) -> bool
     ensures { result ≡ list_any (is_word_or_any wanted.now) words.now }
 {
     for word in words {
@@ -109,7 +163,8 @@ fn names_word(words: &[Text], wanted: &str) -> bool
     false
 }
 
-fn names_resource(patterns: &[Text], resource: &str) -> bool
+/// Whether one of these patterns has the wanted resource before a slash, or the word for all.
+pub fn names_resource(patterns: &[Text], resource: &str) -> bool
     ensures { result ≡ list_any (λ pattern. is_word_or_any resource.now (before_slash pattern)) patterns.now }
 {
     for pattern in patterns {
@@ -122,7 +177,7 @@ fn names_resource(patterns: &[Text], resource: &str) -> bool
 }
 
 /// What stands before the first slash of a pattern.
-fn resource_in(pattern: &str) -> &str
+pub fn resource_in(pattern: &str) -> &str
     ensures { result.now ≡ before_slash pattern.now }
 {
     match pattern.split_once('/') {

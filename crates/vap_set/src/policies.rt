@@ -1,65 +1,49 @@
 //! What policies are at each kind.
 
 ghost use Rattle.std.specs.Prelude.{◌≡◌, ◌≤◌, ℕ, true, List, length, IfOk, IsErrOf, OnOk, map, Some};
-ghost use Rattle.std.specs.List.{All};
-ghost use Rattle.vap_set.specs.Fitted.{params_of};
-ghost use Rattle.vap_set.specs.Kinds.{params_type, type_or_opaque, types_at};
-ghost use Rattle.vap_set.specs.Ready.{HasItsParams};
-ghost use Rattle.vap_set.specs.Sets.{bound_of, is_looked_at, kind_pair, pairs_of};
+ghost use Rattle.vap_set.specs.Kinds.{type_or_opaque};
+ghost use Rattle.vap_set.specs.Parts.{part_of};
+ghost use Rattle.vap_set.specs.Sets.{bound_of, is_looked_at, kind_pair, other_of, pairs_of};
 ghost use Rattle.vap_set.specs.Unverified.{AreUnverified, error_of, expressions_at, HasUnverified};
 ghost use Rattle.vap_set.specs.declared.build_error.BuildError.TheVariants as build_error;
 ghost use Rattle.cel_expression.specs.declared.refusal.CompileError.TheVariants.{Unverified};
 ghost use Rattle.vap_programs.specs.Expressions.{IsOneUnverified};
-ghost use Rattle.vap_programs.specs.Pairs.{pair_of};
 
 use crate::bound::{BoundPolicy, KindPair};
 use crate::build_error::BuildError;
+use crate::changes::{Kept, not_below};
 use crate::choice::Choice;
-use crate::kind_params::{KindParams, fitted_params};
-use crate::params::{is_named_by, params_type, types_at};
-use cel_value::CelType;
-use plain::{Items, Keyed, Shared};
+use crate::made::{MadePair, made_of};
+use crate::params::is_named_by;
+use crate::parts::part_of;
+use crate::texts::{PolicyTexts, own_texts};
+use plain::{Items, Keyed, Shared, Text};
 use std::alloc::{AllocError, Global};
 use vap_bindings::Binding;
 use vap_kinds::Kind;
-use vap_objects::{Objects, bindings_of};
-use vap_policies::{ParamKind, Policy, PolicySpec};
-use vap_programs::{CompileError, Pair, pair};
-
-/// A policy where the objects are of this type, or of none that is known.
-fn pair_at(
-    alloc: Global,
-    choice: &Choice,
-    kinds: &[Kind],
-    policy: &PolicySpec,
-    cel_type: &Option<CelType>,
-) -> Result<Pair, CompileError>
-    ensures pair { IfOk result (λ p. p ≡ pair_of choice.now.refused (types_at (type_or_opaque cel_type.now))
-        (params_type kinds.now policy.now.param_kind) policy.now) }
-    ensures unverified { (at : ℕ) → IsErrOf result (Unverified at)
-        → IsOneUnverified at (expressions_at choice.now kinds.now policy.now (type_or_opaque cel_type.now)) }
-{
-    let types = types_at(alloc, cel_type)?;
-    let params = params_type(alloc, kinds, &policy.param_kind)?;
-    pair(alloc, &choice.refused, &types, &params, policy)
-}
+use vap_objects::bindings_of;
+use vap_policies::{Policy, PolicySpec};
+use vap_programs::CompileError;
 
 fn kind_pair(
     alloc: Global,
-    choice: &Choice,
+    refused: &Shared<Items<Text>>,
     kinds: &[Kind],
-    policy: &PolicySpec,
+    policy: &Shared<PolicySpec>,
     kind: &Kind,
+    old: Option<&Shared<MadePair>>,
+    round: u64,
 ) -> Result<KindPair, CompileError>
-    ensures pair { IfOk result (λ p. p ≡ kind_pair choice.now kinds.now policy.now kind.now) }
+    ensures pair { IfOk result (λ p. p ≡ kind_pair refused.now kinds.now policy.now kind.now) }
     ensures unverified { (at : ℕ) → IsErrOf result (Unverified at)
-        → IsOneUnverified at (expressions_at choice.now kinds.now policy.now (type_or_opaque kind.now.object_type)) }
+        → IsOneUnverified at (expressions_at refused.now kinds.now policy.now (type_or_opaque kind.now.object_type)) }
 {
+    let made = made_of(alloc, refused, kinds, policy, &kind.object_type, old, round)?;
     Ok(KindPair {
         group: kind.group.copy()?,
         version: kind.version.copy()?,
         kind: kind.kind.copy()?,
-        pair: pair_at(alloc, choice, kinds, policy, &kind.object_type)?,
+        made,
     })
 }
 
@@ -72,86 +56,98 @@ fn is_looked_at(policy: &PolicySpec, kind: &Kind) -> bool
 
 fn pairs_of(
     alloc: Global,
-    choice: &Choice,
+    refused: &Shared<Items<Text>>,
     kinds: &[Kind],
-    policy: &PolicySpec,
+    policy: &Shared<PolicySpec>,
+    old: Option<&BoundPolicy>,
+    kept: &Kept<'_>,
 ) -> Result<Items<KindPair>, CompileError>
-    ensures pairs { IfOk result (λ pairs. pairs ≡ pairs_of choice.now kinds.now policy.now) }
-    ensures unverified { (at : ℕ) → IsErrOf result (Unverified at) → HasUnverified choice.now kinds.now policy.now }
+    ensures pairs { IfOk result (λ pairs. pairs ≡ pairs_of refused.now kinds.now policy.now) }
+    ensures unverified { (at : ℕ) → IsErrOf result (Unverified at) → HasUnverified refused.now kinds.now policy.now }
 {
     let mut pairs = Vec::new(alloc);
     for kind in kinds {
-        if is_looked_at(policy, kind) {
-            pairs.push(kind_pair(alloc, choice, kinds, policy, kind)?)?;
+        if is_looked_at(policy.get(), kind) {
+            let old = kept.pair(old, kind);
+            pairs.push(kind_pair(alloc, refused, kinds, policy, kind, old, kept.round)?)?;
         }
     }
     Ok(Items::from_vec(pairs))
 }
 
-/// The params of a kind: those of a policy before that names it too, so that each object is fitted once.
-fn params_of(
+fn other_of(
     alloc: Global,
+    refused: &Shared<Items<Text>>,
     kinds: &[Kind],
-    objects: &Objects,
-    before: &[BoundPolicy],
-    kind: &ParamKind,
-) -> Result<Option<Shared<KindParams>>, AllocError>
-    requires { All (HasItsParams kinds.now objects.now) before.now }
-    ensures { IfOk result (λ params. params ≡ params_of kinds.now objects.now (Some kind.now)) }
+    policy: &Shared<PolicySpec>,
+    old: Option<&Shared<MadePair>>,
+    round: u64,
+) -> Result<Shared<MadePair>, CompileError>
+    ensures other { IfOk result (λ m. m ≡ other_of refused.now kinds.now policy.now) }
+    ensures unverified { (at : ℕ) → IsErrOf result (Unverified at) → HasUnverified refused.now kinds.now policy.now }
 {
-    for policy in before {
-        if let Some(params) = &policy.params {
-            if params.get().is_of(kind) {
-                return Ok(Some(params.share()?));
-            }
-        }
-    }
-    fitted_params(alloc, kinds, objects, kind)
-}
-
-/// The params of a policy, behind those that are bound before it.
-fn policy_params(
-    alloc: Global,
-    kinds: &[Kind],
-    objects: &Objects,
-    before: &[BoundPolicy],
-    kind: &Option<ParamKind>,
-) -> Result<Option<Shared<KindParams>>, AllocError>
-    requires { All (HasItsParams kinds.now objects.now) before.now }
-    ensures { IfOk result (λ params. params ≡ params_of kinds.now objects.now kind.now) }
-{
-    match kind {
-        Some(kind) => params_of(alloc, kinds, objects, before, kind),
-        None => Ok(None),
-    }
+    made_of(alloc, refused, kinds, policy, &None, old, round)
 }
 
 fn bound_of(
     alloc: Global,
     choice: &Choice,
     kinds: &[Kind],
-    objects: &Objects,
     bindings: &[Keyed<Binding>],
-    before: &[BoundPolicy],
-    policy: &Keyed<Policy>,
+    old: Option<&BoundPolicy>,
+    kept: &Kept<'_>,
+    policy: &Keyed<Shared<PolicyTexts>>,
 ) -> Result<BoundPolicy, CompileError>
-    requires { All (HasItsParams kinds.now objects.now) before.now }
-    ensures bound { IfOk result (λ p. p ≡ bound_of choice.now kinds.now objects.now bindings.now policy.now) }
-    ensures unverified { (at : ℕ) → IsErrOf result (Unverified at) → HasUnverified choice.now kinds.now policy.now.value.spec }
+    ensures bound { IfOk result (λ p. p ≡ bound_of choice.now kinds.now bindings.now policy.now) }
+    ensures unverified { (at : ℕ) → IsErrOf result (Unverified at)
+        → HasUnverified (part_of choice.now policy.now.value.spec) kinds.now policy.now.value.spec }
 {
-    let spec = policy.value.spec.get();
+    let own = policy.value.get();
+    let spec = &own.policy().spec;
+    let refused = part_of(alloc, choice, own)?;
     Ok(BoundPolicy {
         name: policy.key.copy()?,
-        policy: policy.value.copy()?,
+        policy: own.policy().copy()?,
+        own: policy.value.share()?,
         bindings: bindings_of(alloc, policy.key.as_str(), bindings)?,
-        params: policy_params(alloc, kinds, objects, before, &spec.param_kind)?,
-        pairs: pairs_of(alloc, choice, kinds, spec)?,
-        other: pair_at(alloc, choice, kinds, spec, &None)?,
+        pairs: pairs_of(alloc, &refused, kinds, spec, old, kept)?,
+        other: other_of(alloc, &refused, kinds, spec, kept.other(old), kept.round)?,
     })
 }
 
+fn texts_in(old: Option<&BoundPolicy>) -> Option<&Shared<PolicyTexts>> {
+    match old {
+        Some(old) => Some(&old.own),
+        None => None,
+    }
+}
+
+/// Policies with their own texts, which are read of those that changed.
+pub fn policy_texts(
+    alloc: Global,
+    kept: &Kept<'_>,
+    policies: &[Keyed<Policy>],
+) -> Result<Items<Keyed<Shared<PolicyTexts>>>, AllocError>
+    ensures { IfOk result (λ own. own ≡ policies.now) }
+{
+    let mut all = Vec::new(alloc);
+    let mut rest = kept.policies;
+    for policy in policies {
+        rest = not_below(rest, policy.key.as_str());
+        let old = kept.policy(rest, policy.key.as_str(), &policy.value);
+        all.push(Keyed {
+            key: policy.key.copy()?,
+            value: own_texts(alloc, &policy.value, texts_in(old))?,
+        })?;
+    }
+    Ok(Items::from_vec(all))
+}
+
 /// Why a policy is not compiled.
-fn unbuilt(policy: &Keyed<Policy>, error: CompileError) -> Result<BuildError, AllocError>
+fn unbuilt(
+    policy: &Keyed<Shared<PolicyTexts>>,
+    error: CompileError,
+) -> Result<BuildError, AllocError>
     ensures { IfOk result (λ told. told ≡ error_of policy.now.key error) }
 {
     match error {
@@ -162,24 +158,26 @@ fn unbuilt(policy: &Keyed<Policy>, error: CompileError) -> Result<BuildError, Al
     }
 }
 
-/// Policies with their bindings and params, and what each is at each kind.
+/// Policies with their bindings, and what each is at each kind.
 pub fn bound_policies(
     alloc: Global,
     choice: &Choice,
     kinds: &[Kind],
-    objects: &Objects,
     bindings: &[Keyed<Binding>],
-    policies: &[Keyed<Policy>],
-) -> Result<Items<BoundPolicy>, BuildError>
-    ensures bound { IfOk result (λ bound. bound ≡ map (bound_of choice.now kinds.now objects.now bindings.now) policies.now) }
+    kept: &Kept<'_>,
+    policies: &[Keyed<Shared<PolicyTexts>>],
+) -> Result<Items<Shared<BoundPolicy>>, BuildError>
+    ensures bound { IfOk result (λ bound. bound ≡ map (bound_of choice.now kinds.now bindings.now) policies.now) }
     ensures unverified { (name : List ℕ) → IsErrOf result (build_error.Unverified name)
         → AreUnverified choice.now kinds.now name policies.now }
 {
     let mut bound = Vec::new(alloc);
+    let mut rest = kept.policies;
     for policy in policies {
-        let before = bound.as_slice();
-        match bound_of(alloc, choice, kinds, objects, bindings, before, policy) {
-            Ok(one) => bound.push(one)?,
+        rest = not_below(rest, policy.key.as_str());
+        let old = kept.policy(rest, policy.key.as_str(), policy.value.get().policy());
+        match bound_of(alloc, choice, kinds, bindings, old, kept, policy) {
+            Ok(one) => bound.push(Shared::new(alloc, one)?)?,
             Err(error) => return Err(unbuilt(policy, error)?),
         }
     }

@@ -6,7 +6,7 @@ ghost use Rattle.std.specs.Ordering.{nat_cmp};
 ghost use Rattle.vap_set.specs.Sets.{misconfigured_at, misconfigured_in, report_cmp, IsReport};
 
 use crate::bound::{BoundPolicy, KindPair};
-use plain::{Items, Text};
+use plain::{Items, Shared, Text};
 use std::alloc::{AllocError, Global};
 use std::cmp::Ordering;
 use vap_programs::{Pair, PairFault};
@@ -25,7 +25,7 @@ pub struct Misconfigured {
 fn put_at(policy: &Text, pair: &KindPair, report: &mut Vec<Misconfigured>) -> Result<(), AllocError>
     ensures { OnOk result (report.new.items ≡ report.old.items ++ misconfigured_at policy.now pair.now) }
 {
-    match &pair.pair {
+    match pair.made.get().pair() {
         Pair::Runs(_) => Ok(()),
         Pair::Misconfigured(fault) => {
             let policy = policy.copy()?;
@@ -54,7 +54,7 @@ fn put_in(policy: &BoundPolicy, report: &mut Vec<Misconfigured>) -> Result<(), A
 }
 
 /// The order of texts, by their bytes.
-fn order(left: &Text, right: &Text) -> Ordering
+pub fn order(left: &Text, right: &Text) -> Ordering
     ensures { result ≡ slice_cmp nat_cmp left.now right.now }
 {
     left.as_str().cmp(right.as_str())
@@ -73,13 +73,13 @@ fn report_order(left: &Misconfigured, right: &Misconfigured) -> Ordering
 /// the one of the policy that stands first stands first.
 pub fn report_of(
     alloc: Global,
-    policies: &[BoundPolicy],
+    policies: &[Shared<BoundPolicy>],
 ) -> Result<Items<Misconfigured>, AllocError>
     ensures { IfOk result (IsReport policies.now) }
 {
     let mut report = Vec::new(alloc);
     for policy in policies {
-        put_in(policy, &mut report)?;
+        put_in(policy.get(), &mut report)?;
     }
     report.sort_by(report_order)?;
     Ok(Items::from_vec(report))

@@ -1,130 +1,325 @@
 //! Sets.
 
-ghost use Rattle.std.specs.Prelude.{◌≡◌, ℕ, List, IfOk, IsErrOf};
+ghost use Rattle.std.specs.Prelude.{◌≡◌, ℕ, true, List, Some, IfOk, IsErrOf};
+ghost use Rattle.std.specs.List.{All};
+ghost use Rattle.std.specs.Option.{option_copied};
 ghost use Rattle.vap_objects.specs.After.{nothing};
-ghost use Rattle.vap_objects.specs.Listed.{policies_in};
+ghost use Rattle.vap_objects.specs.Classes.{all_miss, is_rule};
+ghost use Rattle.vap_objects.specs.Listed.{kinds_in, policies_in};
+ghost use Rattle.vap_objects.specs.OfKind.{namespaces_in};
+ghost use Rattle.vap_set.specs.Index.{AreEnough};
 ghost use Rattle.vap_set.specs.Patterns.{IsChoiceFor, of_policies};
-ghost use Rattle.vap_set.specs.Ready.{AreReady, AreFew};
-ghost use Rattle.vap_set.specs.Sets.{built_of, choice_in, kinds_of, no_choice, policies_of, IsReport};
+ghost use Rattle.vap_set.specs.Ready.{AreReady, AreReadyIn, AreFew};
+ghost use Rattle.vap_set.specs.Reuse.{AreOf, IsBefore};
+ghost use Rattle.vap_set.specs.Sets.{choice_in, holdings_of, kinds_of, namespace_in, no_choice, params_in, policies_of};
+ghost use Rattle.vap_set.specs.Sets.{IsOfObjects, IsReport};
 ghost use Rattle.vap_set.specs.Unverified.{IsUnverifiedIn};
 ghost use Rattle.vap_set.specs.Whole.{AreWhole};
 ghost use Rattle.vap_set.specs.declared.build_error.BuildError.TheVariants.{Unverified};
 
 use crate::bound::BoundPolicy;
 use crate::build_error::BuildError;
+use crate::changes::{Changes, Kept};
 use crate::choice::Choice;
-use crate::literal_patterns::choice_for;
-use crate::policies::bound_policies;
+use crate::counting::compiled_at;
+use crate::definitions::{Definitions, definitions_after, definitions_of};
+use crate::index::Index;
+use crate::kind_params::KindParams;
 use crate::report::{Misconfigured, report_of};
+use crate::reuse::{namespaces_after, params_after, untouched_params};
+use crate::rules::{Rules, rules_of};
+use crate::table::{all_params, find_params};
+use cel_patterns::Patterns;
 use plain::{Items, Shared};
 use std::alloc::{AllocError, Global};
 use std::marker::Model;
 use vap_kinds::Kind;
-use vap_objects::Objects;
+use vap_objects::{Objects, all_miss_rules, namespace};
+use vap_policies::ParamKind;
 use vap_programs::pairs_are_ready;
+use vap_read::{Event, Object, ObjectMap};
 
-/// The policies among objects, compiled. Contracts see it as these objects and the choice of texts that are taken as no
-/// patterns.
+/// The policies among objects, compiled, with what judging needs of the other objects. Contracts see it as what it holds.
 #[derive(Drop)]
 pub struct PolicySet {
-    objects: Objects,
-    choice: Shared<Choice>,
-    kinds: Items<Kind>,
-    policies: Items<BoundPolicy>,
+    events: u64,
+    rules: Shared<Rules>,
+    params: Items<Shared<KindParams>>,
+    namespaces: Shared<ObjectMap>,
+    /// The number of its making; no answer depends on it.
+    round: u64,
+}
+
+/// What is there already of a set that is made: its definitions, some of its params, and its Namespaces.
+#[derive(Drop)]
+struct Parts {
+    definitions: Shared<Definitions>,
+    params: Items<Shared<KindParams>>,
+    namespaces: Shared<ObjectMap>,
 }
 
 impl Model for PolicySet {
     ghost use Rattle.std.specs.Coded.{codes};
-    ghost use Rattle.std.specs.Prelude.{◌≡◌};
-    ghost use Rattle.vap_objects.specs.contracts.objects.Objects as cluster;
+    ghost use Rattle.vap_kinds.specs.contracts.kind.Kind as of_kinds;
+    ghost use Rattle.vap_read.specs.contracts.key.Key as of_keys;
+    ghost use Rattle.vap_read.specs.contracts.object.Object as of_objects;
+    ghost use Rattle.vap_set.specs.contracts.bound.BoundPolicy as of_policies;
+    ghost use Rattle.vap_set.specs.contracts.choice.Choice as of_choices;
+    ghost use Rattle.vap_set.specs.contracts.kind_params.KindParams as of_params;
     ghost use Rattle.vap_set.specs.Ready.{AreFew};
-    ghost use Rattle.vap_set.specs.Sets.{Built, built_of, kinds_of, policies_of};
+    ghost use Rattle.vap_set.specs.Sets.{held_by, Holdings, IsChosen, IsOfObjects};
 
-    ghost Value = { Built };
+    ghost Value = { Holdings };
 
-    ghost coded = { Prim.hlevel (codes, cluster.the_row.coded) };
+    ghost coded = { Prim.hlevel (
+      codes,
+      of_choices.the_row.coded,
+      of_kinds.the_row.coded,
+      of_policies.the_row.coded,
+      of_params.the_row.coded,
+      of_keys.the_row.coded,
+      of_objects.the_row.coded,
+    ) };
 
-    ghost view = { λ s. built_of s.objects s.choice };
+    ghost view = { λ s. held_by s.events s.rules s.params s.namespaces };
 
-    ghost invariant = { λ s. (s.kinds ≡ kinds_of (built_of s.objects s.choice))
-        × (s.policies ≡ policies_of (built_of s.objects s.choice)) × AreFew s.policies };
+    ghost invariant = { λ s. IsOfObjects (held_by s.events s.rules s.params s.namespaces)
+        × AreFew s.rules.policies
+        × IsChosen (held_by s.events s.rules s.params s.namespaces) };
 }
 
 impl PolicySet {
     /// The set of no objects, by the choice that refuses nothing.
     pub fn empty(alloc: Global) -> Result<PolicySet, AllocError>
-        ensures { IfOk result (λ set. set ≡ built_of nothing no_choice) }
+        ensures { IfOk result (λ set. set ≡ holdings_of nothing no_choice) }
     {
         let refused = Shared::new(alloc, Items::from_vec(Vec::new(alloc)))?;
-        let objects = Objects::new(alloc);
-        let kinds = objects.kinds(alloc)?;
-        Ok(PolicySet {
-            objects,
+        let rules = Rules {
             choice: Shared::new(alloc, Choice { refused })?,
-            kinds,
-            policies: Items::from_vec(Vec::new(alloc)),
+            definitions: definitions_of(alloc, &Objects::new(alloc))?,
+            policies: Index::new(alloc, Items::from_vec(Vec::new(alloc)))?,
+            patterns: Shared::new(alloc, Patterns::new(alloc))?,
+        };
+        Ok(PolicySet {
+            events: 0,
+            rules: Shared::new(alloc, rules)?,
+            params: Items::from_vec(Vec::new(alloc)),
+            namespaces: Shared::new(alloc, ObjectMap::new(alloc))?,
+            round: 0,
         })
     }
 
     /// The set of objects, by the choice that refuses what `regex` refuses of the policies' patterns. It is refused where the
     /// verifier refuses what was compiled for a policy.
     pub fn build(alloc: Global, objects: &Objects) -> Result<PolicySet, BuildError>
-        ensures objects { IfOk result (λ set. set.objects ≡ objects.now) }
+        ensures is { IfOk result (λ set. set ≡ holdings_of objects.now set.choice) }
         ensures choice { IfOk result (λ set. IsChoiceFor (of_policies (policies_in objects.now.objects)) set.choice.refused) }
         ensures unverified { (name : List ℕ) → IsErrOf result (Unverified name) → IsUnverifiedIn objects.now name }
     {
-        let policies = objects.policies(alloc)?;
-        let bindings = objects.bindings(alloc)?;
-        let kinds = objects.kinds(alloc)?;
-        let choice = Shared::new(alloc, choice_for(alloc, policies.as_slice())?)?;
-        let policies = bound_policies(
-            alloc,
-            choice.get(),
-            kinds.as_slice(),
-            objects,
-            bindings.as_slice(),
-            policies.as_slice(),
-        )?;
+        let none = Vec::new(alloc);
+        let patterns = Shared::new(alloc, Patterns::new(alloc))?;
+        let changes = Changes::none(alloc);
+        let kept = Kept {
+            policies: none.as_slice(),
+            patterns: &patterns,
+            changes: &changes,
+            round: 0,
+        };
+        let parts = Parts {
+            definitions: definitions_of(alloc, objects)?,
+            params: Items::from_vec(Vec::new(alloc)),
+            namespaces: Shared::new(alloc, objects.namespaces(alloc)?)?,
+        };
+        PolicySet::made(alloc, objects, &parts, &kept)
+    }
+
+    /// The set of the objects that events leave of those of this set, as [`PolicySet::build`] makes it. What they do not change
+    /// is taken over: no policy is compiled again, no text read again, and where they touch no policy, binding or definition, the
+    /// cost does not depend on how many there are.
+    pub fn advance(
+        &self,
+        alloc: Global,
+        objects: &Objects,
+        events: &[Event],
+    ) -> Result<PolicySet, BuildError>
+        requires before { IsBefore self.now events.now objects.now }
+        ensures is { IfOk result (λ set. set ≡ holdings_of objects.now set.choice) }
+        ensures choice { IfOk result (λ set. IsChoiceFor (of_policies (policies_in objects.now.objects)) set.choice.refused) }
+        ensures unverified { (name : List ℕ) → IsErrOf result (Unverified name) → IsUnverifiedIn objects.now name }
+    {
+        if all_miss_rules(events) {
+            Ok(self.with_others(alloc, objects, events)?)
+        } else {
+            self.with_rules(alloc, objects, events)
+        }
+    }
+
+    /// The set after events that touch no policy, binding or definition.
+    fn with_others(
+        &self,
+        alloc: Global,
+        objects: &Objects,
+        events: &[Event],
+    ) -> Result<PolicySet, AllocError>
+        requires before { IsBefore self.now events.now objects.now }
+        requires missed { all_miss is_rule events.now ≡ true }
+        ensures is { IfOk result (λ set. set ≡ holdings_of objects.now set.choice) }
+        ensures choice { IfOk result (λ set. IsChoiceFor (of_policies (policies_in objects.now.objects)) set.choice.refused) }
+    {
+        let params = params_after(alloc, self.params.as_slice(), objects, events)?;
+        let namespaces = namespaces_after(alloc, &self.namespaces, objects, events)?;
         Ok(PolicySet {
-            objects: objects.copy(alloc)?,
-            choice,
-            kinds,
-            policies,
+            events: objects.events(),
+            rules: self.rules.share()?,
+            params,
+            namespaces,
+            round: self.round.wrapping_add(1),
         })
     }
 
-    /// The objects that the set is built of.
-    pub fn objects(&self) -> &Objects
-        ensures { result.now ≡ self.now.objects }
+    /// The set after events that may touch policies, bindings and definitions.
+    fn with_rules(
+        &self,
+        alloc: Global,
+        objects: &Objects,
+        events: &[Event],
+    ) -> Result<PolicySet, BuildError>
+        requires before { IsBefore self.now events.now objects.now }
+        ensures is { IfOk result (λ set. set ≡ holdings_of objects.now set.choice) }
+        ensures choice { IfOk result (λ set. IsChoiceFor (of_policies (policies_in objects.now.objects)) set.choice.refused) }
+        ensures unverified { (name : List ℕ) → IsErrOf result (Unverified name) → IsUnverifiedIn objects.now name }
     {
-        &self.objects
+        let rules = self.rules.get();
+        let changes = Changes::of(alloc, &rules.definitions.get().entries, events)?;
+        let kept = Kept {
+            policies: rules.policies.all(),
+            patterns: &rules.patterns,
+            changes: &changes,
+            round: self.round.wrapping_add(1),
+        };
+        let parts = self.parts_after(alloc, objects, events)?;
+        PolicySet::made(alloc, objects, &parts, &kept)
+    }
+
+    /// What is there already of the set after events.
+    fn parts_after(
+        &self,
+        alloc: Global,
+        objects: &Objects,
+        events: &[Event],
+    ) -> Result<Parts, AllocError>
+        requires before { IsBefore self.now events.now objects.now }
+        ensures kinds { IfOk result (λ parts. parts.definitions.kinds ≡ kinds_in objects.now.objects) }
+        ensures params { IfOk result (λ parts. All (AreOf (kinds_in objects.now.objects) objects.now) parts.params) }
+        ensures namespaces { IfOk result (λ parts. parts.namespaces ≡ namespaces_in objects.now.objects) }
+    {
+        let old = &self.rules.get().definitions;
+        Ok(Parts {
+            definitions: definitions_after(alloc, old, objects, events)?,
+            params: untouched_params(alloc, self.params.as_slice(), events)?,
+            namespaces: namespaces_after(alloc, &self.namespaces, objects, events)?,
+        })
+    }
+
+    /// The set of objects of which these parts are, where something may be kept of a set before.
+    fn made(
+        alloc: Global,
+        objects: &Objects,
+        parts: &Parts,
+        kept: &Kept<'_>,
+    ) -> Result<PolicySet, BuildError>
+        requires kinds { parts.now.definitions.kinds ≡ kinds_in objects.now.objects }
+        requires params { All (AreOf (kinds_in objects.now.objects) objects.now) parts.now.params }
+        requires namespaces { parts.now.namespaces ≡ namespaces_in objects.now.objects }
+        ensures is { IfOk result (λ set. set ≡ holdings_of objects.now set.choice) }
+        ensures choice { IfOk result (λ set. IsChoiceFor (of_policies (policies_in objects.now.objects)) set.choice.refused) }
+        ensures unverified { (name : List ℕ) → IsErrOf result (Unverified name) → IsUnverifiedIn objects.now name }
+    {
+        let named = objects.policies(alloc)?;
+        let kinds = parts.definitions.get().kinds.as_slice();
+        let old = parts.params.as_slice();
+        let params = all_params(alloc, kinds, objects, old, named.as_slice())?;
+        let rules = rules_of(alloc, objects, &parts.definitions, named.as_slice(), kept)?;
+        let rules = Shared::new(alloc, rules)?;
+        let events = objects.events();
+        Ok(PolicySet {
+            events,
+            rules,
+            params,
+            namespaces: parts.namespaces.share()?,
+            round: kept.round,
+        })
+    }
+
+    /// How many policies at kinds were compiled in making this set, those at the kinds that are not known with them.
+    pub fn compiled(&self) -> u64 {
+        compiled_at(self.round, self.rules.get().policies.all())
+    }
+
+    /// How many events left the objects that the set is built of.
+    pub fn events(&self) -> u64
+        ensures { result ≡ self.now.events }
+    {
+        self.events
     }
 
     /// The choice that the set is built by.
     pub fn choice(&self) -> &Shared<Choice>
         ensures { result.now ≡ choice_in self.now }
     {
-        &self.choice
+        &self.rules.get().choice
     }
 
     /// The kinds that are known or refused.
     pub fn kinds(&self) -> &[Kind]
-        ensures { result.now ≡ kinds_of self.now }
+        ensures exact { result.now ≡ kinds_of self.now }
+        // As a set always is.
+        ensures source { IsOfObjects self.now }
     {
-        self.kinds.as_slice()
+        self.rules.get().definitions.get().kinds.as_slice()
     }
 
-    /// The policies by name, with their params and what each is at each kind.
-    pub fn policies(&self) -> &[BoundPolicy]
+    /// The params of a kind, if a policy names it and it is known.
+    pub fn params_of(&self, kind: &ParamKind) -> Option<&KindParams>
+        ensures { option_copied result ≡ params_in self.now (Some kind.now) }
+    {
+        match find_params(self.params.as_slice(), kind) {
+            Some(params) => Some(params.get()),
+            None => None,
+        }
+    }
+
+    /// The Namespace of a name.
+    pub fn namespace(&self, alloc: Global, name: &str) -> Result<Option<&Object>, AllocError>
+        ensures { IfOk result (λ found. option_copied found ≡ namespace_in name.now self.now) }
+    {
+        match namespace(alloc, name, self.namespaces.get())? {
+            Some(object) => Ok(Some(object.get())),
+            None => Ok(None),
+        }
+    }
+
+    /// The policies by name, with what each is at each kind.
+    pub fn policies(&self) -> &[Shared<BoundPolicy>]
         ensures exact { result.now ≡ policies_of self.now }
-        // The params of each are those of its kind, and at each kind what runs may be run where names have their types there.
+        // The params of the kind of each are held, and at each kind what runs may be run where names have their types there.
         ensures ready { AreReady self.now }
         ensures few { AreFew result.now }
         // None is nothing at a kind that it names.
         ensures whole { AreWhole self.now }
     {
         pairs_are_ready();
-        self.policies.as_slice()
+        self.rules.get().policies.all()
+    }
+
+    /// Some of the policies by name, among them all that may cover requests on a resource of a group.
+    pub fn policies_on(&self, group: &str, resource: &str) -> &[Shared<BoundPolicy>]
+        ensures enough { AreEnough group.now resource.now (policies_of self.now) result.now }
+        ensures ready { AreReadyIn self.now result.now }
+        ensures few { AreFew result.now }
+    {
+        pairs_are_ready();
+        self.rules.get().policies.on(group, resource)
     }
 
     /// Where policies are misconfigured, at the known kinds that they name: by policy, group, version and kind. Of two that are
@@ -132,6 +327,6 @@ impl PolicySet {
     pub fn report(&self, alloc: Global) -> Result<Items<Misconfigured>, AllocError>
         ensures { IfOk result (IsReport (policies_of self.now)) }
     {
-        report_of(alloc, self.policies.as_slice())
+        report_of(alloc, self.rules.get().policies.all())
     }
 }

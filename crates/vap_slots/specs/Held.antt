@@ -12,8 +12,6 @@ use Rattle.vap_fit.specs.Seen.{seen}
 use Rattle.vap_fit.specs.declared.fit_fault.FitFault.{FitFault}
 use Rattle.vap_kinds.specs.FixedKinds.{namespace_type}
 use Rattle.vap_match.specs.Namespaces.{is_cluster}
-use Rattle.vap_objects.specs.Cluster.{Cluster}
-use Rattle.vap_objects.specs.OfKind.{namespace_key, object_at}
 use Rattle.vap_read.specs.declared.object.Object.{Object}
 use Rattle.vap_request.specs.Requests.{object_of, old_object_of}
 use Rattle.vap_request.specs.declared.request.Admission.{Admission}
@@ -41,27 +39,27 @@ abbrev pub held_namespace : Option Object → Value
 held_namespace None = value.Null
 held_namespace (Some o) = or_null (seen (codes "namespaceObject") namespace_type o.document)
 
--- the object of the namespace that a request is in: null where it is in none, or none is held
-abbrev pub namespace_value : Cluster → Admission → Value
-namespace_value c r = if is_cluster r then value.Null else held_namespace (object_at (namespace_key r.namespace) c.objects)
+-- the Namespace that a request is in: null where it is in none, or none is held
+abbrev pub namespace_value : Option Object → Admission → Value
+namespace_value n r = if is_cluster r then value.Null else held_namespace n
 
--- what all names but `params` hold, where the object is this
-abbrev pub held_with : Cluster → CelType → Admission → Value → Held
-held_with c t r v = record {
+-- what all names but `params` hold, where this Namespace is held under the name of the request's, and the object is this
+abbrev pub held_with : Option Object → CelType → Admission → Value → Held
+held_with n t r v = record {
   object = v;
   old_object = old_outcome (value_at (codes "oldObject") t (old_object_of r));
   request = request_value r;
-  namespace = namespace_value c r;
+  namespace = namespace_value n r;
 }
 
 -- the same, unless the object has a fault
-abbrev pub held_by : Cluster → CelType → Admission → Result Value FitFault → Result Held FitFault
-held_by c t r (Ok v) = Ok (held_with c t r v)
-held_by c t r (Err fault) = Err fault
+abbrev pub held_by : Option Object → CelType → Admission → Result Value FitFault → Result Held FitFault
+held_by n t r (Ok v) = Ok (held_with n t r v)
+held_by n t r (Err fault) = Err fault
 
 -- what all names but `params` hold at a request whose objects are of this type, or the fault of the object
-abbrev pub held_at : Cluster → CelType → Admission → Result Held FitFault
-held_at c t r = held_by c t r (value_at (codes "object") t (object_of r))
+abbrev pub held_at : Option Object → CelType → Admission → Result Held FitFault
+held_at n t r = held_by n t r (value_at (codes "object") t (object_of r))
 
 -- what all names hold, in their order
 abbrev pub slots_of : Held → Value → List Outcome

@@ -1,6 +1,7 @@
 //! What the first names of a policy's expressions hold.
 
 ghost use Rattle.std.specs.Prelude.{◌≡◌, IfOk, Some, codes, true};
+ghost use Rattle.std.specs.Option.{option_copied};
 ghost use Rattle.cel_value.specs.CelType.{fits};
 ghost use Rattle.cel_value.specs.declared.cel_type.CelType as type;
 ghost use Rattle.cel_operators.specs.Outcomes.{outcome_fits};
@@ -17,7 +18,6 @@ use std::alloc::{AllocError, Global};
 use vap_fit::{FitError, FitFault, fit};
 use vap_kinds::namespace_type;
 use vap_match::is_cluster;
-use vap_objects::Objects;
 use vap_read::Object;
 use vap_request::{Admission, Request};
 
@@ -82,33 +82,33 @@ fn held_namespace(alloc: Global, object: &Object) -> Result<Value, AllocError>
     }
 }
 
-/// The object of the namespace that a request is in.
+/// The Namespace that a request is in, if it is in one and it is held.
 fn namespace_value(
     alloc: Global,
-    objects: &Objects,
+    namespace: Option<&Object>,
     request: &Admission,
 ) -> Result<Value, AllocError>
-    ensures exact { IfOk result (λ v. v ≡ namespace_value objects.now request.now) }
+    ensures exact { IfOk result (λ v. v ≡ namespace_value (option_copied namespace.entry) request.now) }
     ensures fits { IfOk result (λ v. fits v (type.Nullable namespace_type) ≡ true) }
 {
     if is_cluster(request) {
         return Ok(Value::Null);
     }
-    match objects.namespace(alloc, request.namespace.as_str())? {
-        Some(object) => held_namespace(alloc, object.get()),
+    match namespace {
+        Some(object) => held_namespace(alloc, object),
         None => Ok(Value::Null),
     }
 }
 
 fn held_with(
     alloc: Global,
-    objects: &Objects,
+    namespace: Option<&Object>,
     cel_type: &CelType,
     request: &Request,
     object: Value,
 ) -> Result<Held, AllocError>
     requires { fits object (type.Nullable cel_type.now) ≡ true }
-    ensures exact { IfOk result (λ held. held ≡ held_with objects.now cel_type.now request.now.admission object) }
+    ensures exact { IfOk result (λ held. held ≡ held_with (option_copied namespace.entry) cel_type.now request.now.admission object) }
     ensures fits { IfOk result (IsHeldAt cel_type.now) }
 {
     let asked = request.admission();
@@ -116,22 +116,23 @@ fn held_with(
         object,
         old_object: old_outcome(alloc, cel_type, asked)?,
         request: request_value(alloc, request)?,
-        namespace: namespace_value(alloc, objects, asked)?,
+        namespace: namespace_value(alloc, namespace, asked)?,
     })
 }
 
-/// What all names but `params` hold at a request whose objects are of this type, or the fault of the object.
+/// What all names but `params` hold at a request whose objects are of this type, or the fault of the object. The Namespace is the
+/// one of the name of the request's, if it is held.
 pub fn held_at(
     alloc: Global,
-    objects: &Objects,
+    namespace: Option<&Object>,
     cel_type: &CelType,
     request: &Request,
 ) -> Result<Result<Held, FitFault>, AllocError>
-    ensures exact { IfOk result (λ held. held ≡ held_at objects.now cel_type.now request.now.admission) }
+    ensures exact { IfOk result (λ held. held ≡ held_at (option_copied namespace.entry) cel_type.now request.now.admission) }
     ensures fits { IfOk result (λ held. IfOk held (IsHeldAt cel_type.now)) }
 {
     match value_at(alloc, "object", cel_type, request.admission().object())? {
-        Ok(object) => Ok(Ok(held_with(alloc, objects, cel_type, request, object)?)),
+        Ok(object) => Ok(Ok(held_with(alloc, namespace, cel_type, request, object)?)),
         Err(fault) => Ok(Err(fault)),
     }
 }

@@ -3,12 +3,12 @@ use Rattle.std.proofs.Common.{◌≡◌, ◌+◌, ℕ, Bool, true, false, List, 
 use Rattle.std.specs.Prelude.{if◌then◌else◌}
 use Rattle.vap_read.specs.declared.event.Event.{Event}
 use Rattle.vap_request.specs.declared.request.Request.{Request}
-use Rattle.vap_set.specs.Sets.{kinds_of}
+use Rattle.vap_set.specs.Sets.{holdings_of, kinds_of}
 use Rattle.vap_judge.specs.Evaluations.{found_by}
 use Rattle.vap_judge.specs.Judging as judging
 use Rattle.vap_judge.specs.Places.{is_exempt, kind_at}
-use Rattle.vap_watch.specs.Given.{Objects, PolicySet, Verdict, after, no_objects, verdict_of}
-use Rattle.vap_watch.specs.Logs.{events_of, objects_after, set_of, verdict_at}
+use Rattle.vap_watch.specs.Given.{Choice, Objects, PolicySet, Verdict, after, built_of, no_choice, no_objects, verdict_of}
+use Rattle.vap_watch.specs.Logs.{choice_after, events_of, objects_after, objects_of, set_of, verdict_at}
 use Rattle.vap_watch.specs.declared.log.Logged.{Logged}
 
 -- two verdicts of one revision
@@ -22,14 +22,19 @@ of_each : {A E : Type 0} (f : Result A E → Verdict) (n : ℕ) → ((a : A) →
 of_each f n h k (Ok a) = h a
 of_each f n h k (Err e) = k e
 
--- the revision of what a set decides is the count of the events of its objects
-set_revision : (set : PolicySet) (request : Request) → (verdict_of set request).revision ≡ set.objects.events
+-- the revision of what a set decides is the count of the events that it keeps
+set_revision : (set : PolicySet) (request : Request) → (verdict_of set request).revision ≡ set.events
 unfolding verdict_of judging.verdict_of
 set_revision set request =
     let kind = kind_at (kinds_of set) request.admission in
-    either (is_exempt request.admission.resource) (judging.verdict_by set.objects.events (found_by []))
-    (judging.verdict_at set request.admission kind) set.objects.events refl
-    (of_each (judging.verdict_with set request.admission kind) set.objects.events (λ held. refl) (λ fault. refl) _)
+    either (is_exempt request.admission.resource) (judging.verdict_by set.events (found_by []))
+    (judging.verdict_at set request.admission kind) set.events refl
+    (of_each (judging.verdict_with set request.admission kind) set.events (λ held. refl) (λ fault. refl) _)
+
+-- which is that of its objects
+kept_count : (objects : Objects) (choice : Choice) → (built_of objects choice).events ≡ objects.events
+unfolding holdings_of
+kept_count objects choice = refl
 
 -- each event is counted
 counted : (objects : Objects) (events : List Event) → (objects_after objects events).events ≡ objects.events + length events
@@ -45,4 +50,4 @@ pub verdict_revision : (log : List Logged) (request : Request) → (verdict_at l
 verdict_revision log request =
     let all : (objects_after no_objects (events_of log)).events ≡ length (events_of log) =
     omega (arith, counted no_objects (events_of log)) in
-    set_revision (set_of log) request ∙ (all ∙ length_events log)
+    set_revision (set_of log) request ∙ kept_count (objects_of log) (choice_after no_choice log) ∙ (all ∙ length_events log)

@@ -8,7 +8,6 @@ use crate::fault::{PublishError, StageFault};
 use crate::snapshot::{Snapshot, revision_of};
 use std::alloc::{AllocError, Global};
 use std::marker::Model;
-use vap_judge::PolicySet;
 use vap_objects::Objects;
 use vap_read::Event;
 
@@ -110,7 +109,8 @@ impl Writer {
         ensures next { IfOk result (λ snapshot. IsNext self.now snapshot) }
         ensures unverified { IsErrOf result PublishError.Unverified → AreUnverified (objects_at self.now) }
     {
-        let set = PolicySet::build(self.alloc, &self.objects)?;
+        let before = self.published.set();
+        let set = before.advance(self.alloc, &self.objects, self.staged.as_slice())?;
         let log = self
             .published
             .log()

@@ -2,16 +2,20 @@
 //! room, is left out.
 
 use crate::matching::events::push_key;
+use crate::matching::read::sign;
 use calls_notation::{Asked, json, unknown};
-use plain::{Keyed, Shared};
+use plain::{Keyed, Shared, Text};
 use serde_json::Value as Json;
 use std::alloc::{AllocError, Global};
 use vap_bindings::Binding;
 use vap_kinds::Kind;
 use vap_match::Labels;
-use vap_objects::{Objects, bindings_of};
+use vap_objects::{
+    Objects, all_miss_definitions, all_miss_kind, all_miss_namespaces, all_miss_rules, bindings_of,
+    misses_key,
+};
 use vap_policies::Policy;
-use vap_read::{Event, EventError, Object};
+use vap_read::{Event, EventError, Key, Object};
 
 /// The answer to a call of objects.
 pub fn answer(alloc: Global, asked: &Asked) -> Result<String, AllocError> {
@@ -20,6 +24,7 @@ pub fn answer(alloc: Global, asked: &Asked) -> Result<String, AllocError> {
         "bound" => bound(alloc, asked.input),
         "kinds" => kinds(alloc, asked.input),
         "held" => held(alloc, asked.input),
+        "missed" => missed(alloc, asked.input),
         "filled" => filled(alloc, asked.number(0) as usize, asked.input, asked.text(1)),
         "passed" => passed(alloc, asked.number(0)),
         _ => unknown(alloc),
@@ -165,6 +170,58 @@ fn push_held(out: &mut String, alloc: Global, objects: &Objects) -> Result<(), A
 fn held(alloc: Global, row: &str) -> Result<String, AllocError> {
     let mut out = String::new(alloc);
     push_held(&mut out, alloc, &after(alloc, row)?)?;
+    Ok(out)
+}
+
+// ---- what events do not touch
+
+/// Puts the event of a line behind others.
+fn push_read(alloc: Global, events: &mut Vec<Event>, line: Json) -> Result<(), AllocError> {
+    match Event::from_json(alloc, line) {
+        Ok(event) => {
+            events.push(event)?;
+            Ok(())
+        }
+        Err(EventError::Fault(_)) => Ok(()),
+        Err(EventError::OutOfMemory) => Err(AllocError),
+    }
+}
+
+fn events_in(alloc: Global, lines: Json) -> Result<Vec<Event>, AllocError> {
+    let mut events = Vec::new(alloc);
+    if let Json::Array(lines) = lines {
+        let mut read = Ok(());
+        for line in lines {
+            if read.is_ok() {
+                read = push_read(alloc, &mut events, line);
+            }
+        }
+        read?;
+    }
+    Ok(events)
+}
+
+/// The key of the Namespace d.
+fn key_of_namespace(alloc: Global) -> Result<Key, AllocError> {
+    Ok(Key {
+        api_version: Text::from_str(alloc, "v1")?,
+        kind: Text::from_str(alloc, "Namespace")?,
+        namespace: Text::from_str(alloc, "")?,
+        name: Text::from_str(alloc, "d")?,
+    })
+}
+
+/// Which of these no event of a row touches: policies, bindings and definitions; definitions alone; Namespaces; the Namespace d;
+/// ConfigMaps.
+fn missed(alloc: Global, row: &str) -> Result<String, AllocError> {
+    let read = events_in(alloc, json(alloc, row)?)?;
+    let events = read.as_slice();
+    let mut out = String::new(alloc);
+    out.push_str(sign(all_miss_rules(events)))?;
+    out.push_str(sign(all_miss_definitions(events)))?;
+    out.push_str(sign(all_miss_namespaces(events)))?;
+    out.push_str(sign(misses_key(events, &key_of_namespace(alloc)?)))?;
+    out.push_str(sign(all_miss_kind(events, "v1", "ConfigMap")))?;
     Ok(out)
 }
 

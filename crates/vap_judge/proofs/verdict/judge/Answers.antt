@@ -10,31 +10,32 @@ use Rattle.vap_judge.specs.Places.{is_exempt, kind_at}
 use Rattle.vap_judge.proofs.verdict.judge.Goals as goal
 
 pub returns-in_err-exempt_verdict-clause-none_passed_over : goal.returns-in_err-exempt_verdict-clause-none_passed_over
-returns-in_err-exempt_verdict-clause-none_passed_over c = none_passed_over c.args.set.now c.args.request.now.admission
+returns-in_err-exempt_verdict-clause-none_passed_over c =
+    none_passed_over c.args.set.now c.kinds-kinds.ensures.source c.args.request.now.admission
 
 pub returns-then-is_exempt-clause-none_passed_over : goal.returns-then-is_exempt-clause-none_passed_over
-returns-then-is_exempt-clause-none_passed_over c = none_passed_over c.args.set.now c.args.request.now.admission
+returns-then-is_exempt-clause-none_passed_over c = none_passed_over c.args.set.now c.kinds-kinds.ensures.source c.args.request.now.admission
 
 pub returns-clause-none_passed_over : goal.returns-clause-none_passed_over
-returns-clause-none_passed_over c = none_passed_over c.args.set.now c.args.request.now.admission
+returns-clause-none_passed_over c = none_passed_over c.args.set.now c.kinds-kinds.ensures.source c.args.request.now.admission
 
 pub returns-in_err-exempt_verdict-clause-priced : goal.returns-in_err-exempt_verdict-clause-priced
 returns-in_err-exempt_verdict-clause-priced c =
     let b = c.args.set.now in
     let r = c.args.request.now.admission in
-    set_priced b (kind_at (kinds_of b) r) (kind_first (kinds_of b) r)
+    set_priced b c.kinds-kinds.ensures.source (kind_at (kinds_of b) r) (kind_first (kinds_of b) r)
 
 pub returns-then-is_exempt-clause-priced : goal.returns-then-is_exempt-clause-priced
 returns-then-is_exempt-clause-priced c =
     let b = c.args.set.now in
     let r = c.args.request.now.admission in
-    set_priced b (kind_at (kinds_of b) r) (kind_first (kinds_of b) r)
+    set_priced b c.kinds-kinds.ensures.source (kind_at (kinds_of b) r) (kind_first (kinds_of b) r)
 
 pub returns-clause-priced : goal.returns-clause-priced
 returns-clause-priced c =
     let b = c.args.set.now in
     let r = c.args.request.now.admission in
-    set_priced b (kind_at (kinds_of b) r) (kind_first (kinds_of b) r)
+    set_priced b c.kinds-kinds.ensures.source (kind_at (kinds_of b) r) (kind_first (kinds_of b) r)
 
 pub returns-clause-pattern : goal.returns-clause-pattern
 returns-clause-pattern c = λ is.
@@ -44,7 +45,7 @@ returns-clause-pattern c = λ is.
       judged = ap (λ (r : Admission). is_exempt r.resource) (sym asked) ∙ (sym c.is_exempt.ensures ∙ c.if-is_exempt.false);
       one =
           subst (KindMayMatch b c.args.request.now.admission)
-          (c.kind_at-kind.ensures ∙ (ap (λ (ks : List Kind). kind_at ks c.admission-admission.result.now) c.kinds.ensures
+          (c.kind_at-kind.ensures ∙ (ap (λ (ks : List Kind). kind_at ks c.admission-admission.result.now) c.kinds-kinds.ensures.exact
           ∙ ap (λ (r : Admission). kind_at (kinds_of b) r) asked))
           (c.judge_at.ensures.pattern is);
     }

@@ -1,12 +1,11 @@
 use Rattle.std.proofs.Common.{◌≡◌}
-use Rattle.std.specs.List.{flat_map}
-use Rattle.vap_objects.specs.Listed.{definition_in}
+use Rattle.vap_objects.specs.Listed.{definitions_among}
 use Rattle.vap_objects.proofs.Gathering.{IsGathered}
 use Rattle.vap_objects.proofs.lists.definitions_in.Given as goal
 
-abbrev pub invariant-loop-object : goal.invariant-loop-object
-invariant-loop-object l = record {
-  can_next : goal.iterator-loop-object.can_next l.object-iterator;
-  is_finite : goal.iterator-loop-object.is_finite l.object-iterator;
-  gathered : IsGathered (flat_map definition_in l.objects) (flat_map definition_in l.object-iterator) l.definitions.items;
+abbrev pub invariant-loop-key : goal.invariant-loop-key
+invariant-loop-key l = record {
+  can_next : goal.iterator-loop-key.can_next l.key-iterator;
+  is_finite : goal.iterator-loop-key.is_finite l.key-iterator;
+  gathered : IsGathered (definitions_among l.objects) (definitions_among l.key-iterator) l.definitions.items;
 }

@@ -1,6 +1,7 @@
-use Rattle.std.proofs.Common.{refl, arith}
-use Rattle.vap_set.specs.Patterns.{of_policy}
-use Rattle.vap_set.proofs.Asked.{leaves_all, leaves_less, leaves_none, lent_asked}
+use Rattle.std.proofs.Common.{refl, arith, ap, subst, ◌∙◌}
+use Rattle.vap_policies.specs.declared.policy.Policy.{Policy}
+use Rattle.vap_set.specs.Patterns.{AreAsked, of_policy}
+use Rattle.vap_set.proofs.Asked.{leaves_all, leaves_less, leaves_none}
 use Rattle.vap_set.proofs.literal_patterns.ask_policies.Goals as goal
 
 pub loop-policy-init : goal.loop-policy-init
@@ -11,7 +12,10 @@ loop-policy-preserved c =
     let l = c.loop-policy in
     leaves_less (λ p. of_policy p.value.spec) c.args.policies.now l.policy-index c.policy-item.result _ _ _ _
     (omega (arith, c.loop-policy-test.true)) c.policy-item.is
-    (lent_asked of_policy _ _ _ _ c.get.ensures c.in_ok-ask_policy.ensures) l.invariant
+    (subst (λ texts. AreAsked texts l.patterns c.ask_texts.new.patterns)
+    (c.texts.ensures ∙ ap (λ (p : Policy). of_policy p.spec) c.get.ensures)
+    c.in_ok-ask_texts.ensures)
+    l.invariant
 
 pub returns : goal.returns
 returns c =

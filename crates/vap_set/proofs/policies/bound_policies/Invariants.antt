@@ -4,5 +4,5 @@ use Rattle.vap_set.proofs.policies.bound_policies.Given as goal
 
 abbrev pub invariant-loop-policy : goal.invariant-loop-policy
 invariant-loop-policy l =
-    l.bound.items ++ map (bound_of l.choice l.kinds l.objects l.bindings) (drop l.policy-index l.policies)
-    ≡ map (bound_of l.choice l.kinds l.objects l.bindings) l.policies
+    l.bound.items ++ map (bound_of l.choice l.kinds l.bindings) (drop l.policy-index l.policies)
+    ≡ map (bound_of l.choice l.kinds l.bindings) l.policies

@@ -1,5 +1,7 @@
-use Rattle.std.proofs.Common.{Some, sym, ◌∙◌}
+use Rattle.std.proofs.Common.{Some, ap, sym, ◌∙◌}
 use Rattle.std.proofs.lemmas.Result.{err_from_is_err_and}
+use Rattle.vap_policies.specs.declared.policy.PolicySpec.{PolicySpec}
+use Rattle.vap_set.specs.Sets.{is_looked_at}
 use Rattle.vap_set.proofs.policies.pairs_of.Goals as goal
 
 -- at the kind where the loop is
@@ -12,7 +14,8 @@ returns-in_err-kind_pair-clause-unverified c = λ at is.
       kind = Some c.kind-item.result;
       looked_at = (
         (c.loop-kind.kind-index, c.loop-kind-test.true, sym c.kind-item.is),
-        sym c.is_looked_at.ensures ∙ c.if-is_looked_at.true,
+        ap (λ (p : PolicySpec). is_looked_at p c.kind-item.result) (sym c.get.ensures) ∙ sym c.is_looked_at.ensures
+            ∙ c.if-is_looked_at.true,
       );
       at = at;
       is = c.in_err-kind_pair.ensures.unverified at (cc);

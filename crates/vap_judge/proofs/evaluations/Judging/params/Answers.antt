@@ -1,4 +1,5 @@
 use Rattle.std.proofs.Common.{arith}
+use Rattle.std.specs.Option.{option_copied}
 use Rattle.vap_judge.specs.Shown.{case_of}
 use Rattle.vap_judge.proofs.Fitting.{null_runs}
 use Rattle.vap_judge.proofs.evaluations.Judging.params.Goals as goal
@@ -10,7 +11,7 @@ run-requires g c =
       (
         ready.within,
         (
-          null_runs (case_of c.args.self.now.case.now) c.args.params.now g.types c.args.programs.now ready,
+          null_runs (case_of c.args.self.now.case.now) (option_copied c.args.params) g.types c.args.programs.now ready,
           omega
               (arith, c.requires.1),
         ),

@@ -1,0 +1,17 @@
+use Rattle.std.proofs.Common.{Some, ap, sym, ◌∙◌}
+use Rattle.std.specs.Option.{option_copied}
+use Rattle.std.proofs.lemmas.List.Elements.{recursion_from_All}
+use Rattle.vap_set.specs.Fitted.{Fitted}
+use Rattle.vap_set.specs.Reuse.{AreOf}
+use Rattle.vap_set.proofs.ParamTable.{found_theirs}
+use Rattle.vap_set.proofs.table.kind_params.Goals as goal
+
+pub returns-in_ok-share-in-Some : goal.returns-in_ok-share-in-Some
+returns-in_ok-share-in-Some c =
+    let kinds = c.args.kinds.now in
+    let objects = c.args.objects.now in
+    let kept = c.args.kept.now in
+    let found = sym c.find_params.ensures ∙ ap option_copied c.in-Some.is in
+    ap (λ (q : Fitted). Some q) c.in_ok-share-in-Some.ensures
+    ∙ sym (found_theirs kinds objects c.args.kind.now kept (recursion_from_All (AreOf kinds objects) kept c.requires)
+    c.in-Some.params.now found)

@@ -1,0 +1,155 @@
+//! Policies at kinds, kept with what they were compiled of.
+
+ghost use Rattle.std.specs.Prelude.{◌≡◌, ◌↔◌, ℕ, IfOk, IsErrOf, IsTrue};
+ghost use Rattle.cel_expression.specs.declared.refusal.CompileError.TheVariants.{Unverified};
+ghost use Rattle.vap_programs.specs.Expressions.{expressions_of, IsOneUnverified};
+ghost use Rattle.vap_programs.specs.Scopes.{first_names};
+ghost use Rattle.vap_set.specs.Kinds.{type_or_opaque, types_at};
+ghost use Rattle.vap_set.specs.Made.{pair_made};
+ghost use Rattle.vap_set.specs.Sets.{inputs_of};
+ghost use Rattle.vap_set.specs.Unverified.{expressions_at};
+
+use crate::params::{is_object_type, is_params_type, object_type, params_type, types_at};
+use cel_value::CelType;
+use plain::{Items, Shared, Text};
+use std::alloc::{AllocError, Global};
+use std::marker::Model;
+use vap_kinds::Kind;
+use vap_policies::PolicySpec;
+use vap_programs::{CompileError, Pair, ParamsType, pair};
+use vap_same::Same;
+
+/// What a policy is compiled of at a kind: the texts of its own that are taken as no patterns, the type of the objects, what the
+/// params are, and what it says.
+#[derive(Drop)]
+pub struct Inputs {
+    pub refused: Shared<Items<Text>>,
+    pub cel_type: CelType,
+    pub params: ParamsType,
+    pub policy: Shared<PolicySpec>,
+}
+
+/// A policy at a kind, compiled. Contracts see it as what it was compiled of.
+#[derive(Drop)]
+pub struct MadePair {
+    inputs: Inputs,
+    pair: Pair,
+    /// At which making of a set it was compiled; no answer depends on it.
+    round: u64,
+}
+
+impl Model for MadePair {
+    ghost use Rattle.std.specs.Coded.{codes};
+    ghost use Rattle.std.specs.Prelude.{◌≡◌};
+    ghost use Rattle.vap_set.specs.contracts.made.Inputs as of_inputs;
+    ghost use Rattle.vap_set.specs.declared.made.Inputs.{Inputs as InputsOf};
+    ghost use Rattle.vap_set.specs.Made.{pair_made};
+
+    ghost Value = { InputsOf };
+
+    ghost coded = { Prim.hlevel (codes, of_inputs.the_row.coded) };
+
+    ghost view = { λ m. m.inputs };
+
+    ghost invariant = { λ m. m.pair ≡ pair_made m.inputs };
+}
+
+/// Compiles a policy at a kind.
+fn compiled(alloc: Global, inputs: &Inputs) -> Result<Pair, CompileError>
+    ensures pair { IfOk result (λ p. p ≡ pair_made inputs.now) }
+    ensures unverified { (at : ℕ) → IsErrOf result (Unverified at) → IsOneUnverified at
+        (expressions_of inputs.now.refused (first_names (types_at inputs.now.cel_type) inputs.now.params) inputs.now.policy) }
+{
+    let types = types_at(alloc, &inputs.cel_type)?;
+    pair(
+        alloc,
+        &inputs.refused,
+        &types,
+        &inputs.params,
+        inputs.policy.get(),
+    )
+}
+
+impl MadePair {
+    /// Compiles a policy at a kind.
+    fn new(alloc: Global, inputs: Inputs, round: u64) -> Result<MadePair, CompileError>
+        ensures made { IfOk result (λ m. m ≡ inputs) }
+        ensures unverified { (at : ℕ) → IsErrOf result (Unverified at) → IsOneUnverified at
+            (expressions_of inputs.refused (first_names (types_at inputs.cel_type) inputs.params) inputs.policy) }
+    {
+        let pair = compiled(alloc, &inputs)?;
+        Ok(MadePair {
+            inputs,
+            pair,
+            round,
+        })
+    }
+
+    /// What the policy is at the kind.
+    pub fn pair(&self) -> &Pair
+        ensures { result.now ≡ pair_made self.now }
+    {
+        &self.pair
+    }
+
+    /// At which making of a set it was compiled.
+    pub fn round(&self) -> u64 {
+        self.round
+    }
+
+    /// Whether it was compiled of these.
+    fn is_of(
+        &self,
+        refused: &Shared<Items<Text>>,
+        kinds: &[Kind],
+        policy: &Shared<PolicySpec>,
+        cel_type: &Option<CelType>,
+    ) -> bool
+        ensures { IsTrue result ↔ (self.now ≡ inputs_of refused.now kinds.now policy.now cel_type.now) }
+    {
+        self.inputs.refused.same(refused)
+            && is_object_type(&self.inputs.cel_type, cel_type)
+            && is_params_type(&self.inputs.params, kinds, &policy.get().param_kind)
+            && self.inputs.policy.same(policy)
+    }
+}
+
+fn inputs_of(
+    alloc: Global,
+    refused: &Shared<Items<Text>>,
+    kinds: &[Kind],
+    policy: &Shared<PolicySpec>,
+    cel_type: &Option<CelType>,
+) -> Result<Inputs, AllocError>
+    ensures { IfOk result (λ i. i ≡ inputs_of refused.now kinds.now policy.now cel_type.now) }
+{
+    Ok(Inputs {
+        refused: refused.share()?,
+        cel_type: object_type(cel_type)?,
+        params: params_type(alloc, kinds, &policy.get().param_kind)?,
+        policy: policy.share()?,
+    })
+}
+
+/// Compiles a policy at a kind, unless what is kept was compiled of the same.
+pub fn made_of(
+    alloc: Global,
+    refused: &Shared<Items<Text>>,
+    kinds: &[Kind],
+    policy: &Shared<PolicySpec>,
+    cel_type: &Option<CelType>,
+    kept: Option<&Shared<MadePair>>,
+    round: u64,
+) -> Result<Shared<MadePair>, CompileError>
+    ensures made { IfOk result (λ m. m ≡ inputs_of refused.now kinds.now policy.now cel_type.now) }
+    ensures unverified { (at : ℕ) → IsErrOf result (Unverified at)
+        → IsOneUnverified at (expressions_at refused.now kinds.now policy.now (type_or_opaque cel_type.now)) }
+{
+    match kept {
+        Some(made) if made.get().is_of(refused, kinds, policy, cel_type) => Ok(made.share()?),
+        _ => {
+            let inputs = inputs_of(alloc, refused, kinds, policy, cel_type)?;
+            Ok(Shared::new(alloc, MadePair::new(alloc, inputs, round)?)?)
+        }
+    }
+}

@@ -1,0 +1,71 @@
+//! What a set holds of policies, bindings and definitions.
+
+ghost use Rattle.std.specs.Prelude.{◌≡◌, ◌≤◌, ℕ, List, length, IfOk, IsErrOf};
+ghost use Rattle.vap_objects.specs.Listed.{kinds_in, policies_in};
+ghost use Rattle.vap_set.specs.Patterns.{IsChoiceFor, of_policies};
+ghost use Rattle.vap_set.specs.Ready.{AreFew};
+ghost use Rattle.vap_set.specs.Sets.{policies_by};
+ghost use Rattle.vap_set.specs.Unverified.{IsUnverifiedIn};
+ghost use Rattle.vap_set.specs.declared.build_error.BuildError.TheVariants.{Unverified};
+
+use crate::build_error::BuildError;
+use crate::changes::Kept;
+use crate::choice::Choice;
+use crate::definitions::Definitions;
+use crate::index::Index;
+use crate::literal_patterns::{answers_for, choice_for};
+use crate::policies::{bound_policies, policy_texts};
+use cel_patterns::Patterns;
+use plain::{Keyed, Shared};
+use std::alloc::Global;
+use vap_objects::Objects;
+use vap_policies::Policy;
+
+/// What a set holds that is made of policies, bindings and definitions alone.
+#[derive(Drop)]
+pub struct Rules {
+    pub choice: Shared<Choice>,
+    pub definitions: Shared<Definitions>,
+    pub policies: Index,
+    /// What was asked of texts so far; no answer depends on it.
+    pub patterns: Shared<Patterns>,
+}
+
+/// The rules among objects whose definitions and policies these are, where something may be kept of a set before.
+pub fn rules_of(
+    alloc: Global,
+    objects: &Objects,
+    definitions: &Shared<Definitions>,
+    named: &[Keyed<Policy>],
+    kept: &Kept<'_>,
+) -> Result<Rules, BuildError>
+    requires kinds { definitions.now.kinds ≡ kinds_in objects.now.objects }
+    requires named { named.now ≡ policies_in objects.now.objects }
+    requires few { length named.now ≤ 256 }
+    ensures kinds { IfOk result (λ r. r.definitions.kinds ≡ kinds_in objects.now.objects) }
+    ensures policies { IfOk result (λ r. r.policies ≡ policies_by r.choice objects.now) }
+    ensures few { IfOk result (λ r. AreFew r.policies) }
+    ensures choice { IfOk result (λ r. IsChoiceFor (of_policies (policies_in objects.now.objects)) r.choice.refused) }
+    ensures unverified { (name : List ℕ) → IsErrOf result (Unverified name) → IsUnverifiedIn objects.now name }
+{
+    let bindings = objects.bindings(alloc)?;
+    let own = policy_texts(alloc, kept, named)?;
+    let patterns = answers_for(alloc, kept.patterns, own.as_slice())?;
+    let choice = choice_for(alloc, patterns.get(), own.as_slice())?;
+    let choice = Shared::new(alloc, choice)?;
+    let bound = bound_policies(
+        alloc,
+        choice.get(),
+        definitions.get().kinds.as_slice(),
+        bindings.as_slice(),
+        kept,
+        own.as_slice(),
+    )?;
+    let policies = Index::new(alloc, bound)?;
+    Ok(Rules {
+        choice,
+        definitions: definitions.share()?,
+        policies,
+        patterns,
+    })
+}
