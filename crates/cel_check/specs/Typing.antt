@@ -1,6 +1,6 @@
 -- The typed tree of an expression in a scope of names, or its first fault in post-order.
 use Rattle.std.specs.Prelude.{ℕ, Bool, ◌&&◌, ◌||◌, nat_lt, List, [], ◌∷◌, ◌++◌, map, Option, Some, None, Result, Ok, Err, if◌then◌else◌}
-use Rattle.std.specs.Prelude.{◌≡◌, codes, false, is_none}
+use Rattle.std.specs.Prelude.{codes, false, is_none}
 use Rattle.std.specs.Str.{bytes_eq}
 use Rattle.plain.specs.declared.text.Keyed.{Keyed}
 use Rattle.cel_value.specs.declared.value.Value as value
@@ -15,8 +15,8 @@ use Rattle.cel_parse.specs.declared.expr.Syntax.TheVariants as syntax
 use Rattle.cel_parse.specs.Sizes.{depth_of, nodes_of}
 use Rattle.cel_operators.specs.declared.type_rule.TypeRule.TheVariants.{NoOverload, TooLarge}
 use Rattle.cel_check.specs.declared.fault.TypeFault.{TypeFault}
-use Rattle.cel_check.specs.declared.fault.CheckError.{CheckError}
-use Rattle.cel_check.specs.declared.fault.CheckError.TheVariants as error
+use Rattle.failing.specs.declared.failed.Failed.{Failed}
+use Rattle.failing.specs.Failures.{Answers, Gives}
 use Rattle.cel_check.specs.declared.scope.Scope.{Scope}
 use Rattle.cel_check.specs.declared.bindings.Bindings.{Bindings}
 use Rattle.cel_check.specs.declared.refusals.Refusals.{Refusals}
@@ -260,31 +260,27 @@ is_too_large e = nat_lt 100 (depth_of e) || nat_lt 16384 (nodes_of e)
 abbrev pub checked_within : Expr → Names → Checked
 checked_within e names = if is_too_large e then refused 0 TooLarge else checked e names
 
--- what a function answers is what checking gives, unless memory ran out
-abbrev pub Answers : {X Y : Type 0} → Result X CheckError → (X → Y) → Result Y TypeFault → Type 0
-Answers (Ok x) view c = c ≡ Ok (view x)
-Answers (Err error.OutOfMemory) view c = Unit {0}
-Answers (Err (error.Fault f)) view c = c ≡ Err f
-
 -- whatever checking gives of a part, what a node answers is what follows behind the part
-abbrev pub Follows : Result TypedTree CheckError → Result TypedTree CheckError → (TypedTree → Checked) → Type 0
-Follows part result f = (c : Checked) → Answers part (λ tree. tree) c → Answers result (λ tree. tree) (after c f)
+abbrev pub Follows : Result TypedTree (Failed TypeFault) → Result TypedTree (Failed TypeFault) → (TypedTree → Checked) → Type 0
+Follows part result f = (c : Checked) → Answers c part → Answers (after c f) result
 
 -- likewise where a slot may come before that
-abbrev pub FollowsUnless : Option (ℕ × CelType) → Result TypedTree CheckError → Result TypedTree CheckError → (TypedTree → Checked)
-    → Type 0
-FollowsUnless slot part result f = (c : Checked) → Answers part (λ tree. tree) c → Answers result (λ tree. tree) (or_else slot (after c f))
+abbrev pub FollowsUnless : Option (ℕ × CelType) → Result TypedTree (Failed TypeFault) → Result TypedTree (Failed TypeFault)
+    → (TypedTree → Checked) → Type 0
+FollowsUnless slot part result f = (c : Checked) → Answers c part → Answers (or_else slot (after c f)) result
 
 -- whatever checking gives of several parts, what a node answers is what follows behind them
-abbrev pub FollowsItems : Result (List TypedTree) CheckError → Result TypedTree CheckError → (List TypedTree → Checked) → Type 0
-FollowsItems parts result f = (c : Trees) → Answers parts (λ trees. trees) c → Answers result (λ tree. tree) (after_items c f)
+abbrev pub FollowsItems : Result (List TypedTree) (Failed TypeFault) → Result TypedTree (Failed TypeFault)
+    → (List TypedTree → Checked) → Type 0
+FollowsItems parts result f = (c : Trees) → Answers c parts → Answers (after_items c f) result
 
 -- likewise behind several entries
-abbrev pub FollowsEntries : Result (List (Entry TypedTree)) CheckError → Result TypedTree CheckError
+abbrev pub FollowsEntries : Result (List (Entry TypedTree)) (Failed TypeFault) → Result TypedTree (Failed TypeFault)
     → (List (Entry TypedTree) → Checked) → Type 0
-FollowsEntries parts result f = (c : Pairs) → Answers parts (λ entries. entries) c → Answers result (λ tree. tree) (after_entries c f)
+FollowsEntries parts result f = (c : Pairs) → Answers c parts → Answers (after_entries c f) result
 
 -- what checking answers is what the definition gives by some choice
-pub record AnswersBySome {X : Type 0} (result : Result X CheckError) (view : X → TypedTree) (c : List (List ℕ) → Checked) : Type 0 where
+pub record AnswersBySome {X : Type 0} (result : Result X (Failed TypeFault)) (view : X → TypedTree)
+    (c : List (List ℕ) → Checked) : Type 0 where
   pub choice : List (List ℕ)
-  pub answers : Answers result view (c choice)
+  pub answers : Gives view result (c choice)

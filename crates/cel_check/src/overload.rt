@@ -1,6 +1,6 @@
 ghost use Rattle.std.specs.Prelude.{◌≡◌, Ok, Err};
 ghost use Rattle.cel_check.specs.Typing.{unary_overloads, binary_overloads, first_of_one, first_of_two};
-ghost use Rattle.cel_operators.specs.Operators.{Tells};
+ghost use Rattle.failing.specs.Failures.{Answers};
 ghost use Rattle.cel_check.specs.Typing.{index_overloads, function_overloads, method_overloads, method_overloads_with};
 
 use cel_operators::{Operator, Overload, TypeRule, Untyped};
@@ -34,7 +34,7 @@ pub fn first_of_two(
     left: &CelType,
     right: &CelType,
 ) -> Result<Overload, Untyped>
-    ensures { Tells result (first_of_two overloads.now left.now right.now) }
+    ensures { Answers (first_of_two overloads.now left.now right.now) result }
 {
     for overload in overloads {
         match overload.type_of_two(alloc, left, right) {
@@ -44,11 +44,11 @@ pub fn first_of_two(
                     cel_type,
                 });
             }
-            Err(Untyped::Rule(TypeRule::NoOverload)) => {}
+            Err(Untyped::Fault(TypeRule::NoOverload)) => {}
             Err(why) => return Err(why),
         }
     }
-    Err(Untyped::Rule(TypeRule::NoOverload))
+    Err(Untyped::Fault(TypeRule::NoOverload))
 }
 
 /// The overloads of an operator in front of one operand, in the order in which they are tried.

@@ -3,7 +3,8 @@
 ghost use Rattle.std.specs.Prelude.{◌≡◌, ◌++◌, codes, is_none, option_copied, option_map};
 ghost use Rattle.std.specs.Str.{bytes_eq};
 ghost use Rattle.cel_parse.specs.declared.expr.Expr.{out-Expr};
-ghost use Rattle.cel_check.specs.Typing.{selected, with_text, own_name, name_in, Answers, Follows, FollowsUnless};
+ghost use Rattle.failing.specs.Failures.{Answers};
+ghost use Rattle.cel_check.specs.Typing.{selected, with_text, own_name, name_in, Follows, FollowsUnless};
 ghost use Rattle.cel_check.specs.Typing.{is_word, names_in, part_of, slot_from, variable_in, word_at};
 ghost use Rattle.cel_operators.specs.Wants.{limit_of};
 ghost use Rattle.cel_operators.specs.declared.operands.Want.TheVariants.{Members};
@@ -65,11 +66,11 @@ fn with_text(
     operand: Boxed<TypedTree>,
     text: Text,
 ) -> Result<Boxed<TypedTree>, CheckError>
-    ensures { Answers result (λ tree. tree) (with_text place operator text operand) }
+    ensures { Answers (with_text place operator text operand) result }
 {
     match operator.type_of(text.as_str(), &operand.get().cel_type) {
         Ok(cel_type) => new_node(alloc, cel_type, Form::WithText(operator, operand, text)),
-        Err(Untyped::Rule(rule)) => Err(refused(rule, place)),
+        Err(Untyped::Fault(rule)) => Err(refused(rule, place)),
         Err(Untyped::OutOfMemory) => Err(CheckError::OutOfMemory),
     }
 }

@@ -5,3 +5,4 @@ mod Matches
 mod PlainCode
 mod PlainTrees
 mod Spelled
+pub mod Crossing

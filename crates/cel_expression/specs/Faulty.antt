@@ -6,18 +6,9 @@ use Rattle.cel_check.specs.Typing.{types_in}
 use Rattle.cel_code.specs.declared.image.Image.{Image}
 use Rattle.cel_code.specs.Compiled.{IsCompiled}
 use Rattle.cel_verify.specs.declared.fault.VerifyFault.{VerifyFault}
-use Rattle.cel_verify.specs.declared.fault.VerifyError.{VerifyError}
-use Rattle.cel_verify.specs.declared.fault.VerifyError.TheVariants as verifying
 use Rattle.cel_verify.specs.Accepted.{IsFault}
-use Rattle.cel_expression.specs.declared.refusal.CompileError.{CompileError}
-use Rattle.cel_expression.specs.declared.refusal.CompileError.TheVariants.{OutOfMemory, Unverified}
 use Rattle.cel_expression.specs.Source.{Source}
 use Rattle.cel_expression.specs.Expressions.{accepted_of}
-
--- what a failure to verify is to the whole
-abbrev pub from_verifying : VerifyError → CompileError
-from_verifying verifying.OutOfMemory = OutOfMemory
-from_verifying (verifying.Fault fault) = Unverified fault.at
 
 -- the image that the expression compiles to has a fault at this instruction
 pub record IsFaulty (tree : TypedTree) (types : List CelType) (at : ℕ) : Type 0 where

@@ -1,4 +1,6 @@
 ghost use Rattle.std.specs.Prelude.{◌≡◌, ◌≤◌, ℕ, true, Some, IfOk, IsErrOf};
+ghost use Rattle.failing.specs.declared.failed.Failed.TheVariants.{Fault};
+ghost use Rattle.cel_machine.specs.declared.fault.RunFault.TheVariants.{Pattern};
 ghost use Rattle.cel_operators.specs.Outcomes.{outcome_fits, slots_fit};
 ghost use Rattle.cel_check.specs.Typing.{types_in};
 ghost use Rattle.cel_code.specs.Compiled.{IsCompiled};
@@ -8,11 +10,11 @@ ghost use Rattle.cel_expression.specs.Expressions.{accepted_of, compiled_of, est
 ghost use Rattle.cel_expression.specs.Faulty.{IsFaulty, IsUnverified};
 ghost use Rattle.cel_expression.specs.Patterns.{MayMatch};
 ghost use Rattle.cel_expression.specs.Stages.{IsRated};
-ghost use Rattle.cel_expression.specs.declared.refusal.CompileError.TheVariants.{Unverified};
+ghost use Rattle.cel_expression.specs.declared.refusal.CompileFault.TheVariants.{Unverified};
 
 use crate::refusal::{CompileError, Refusal};
 use crate::stages::{Accepted, program_of, typed_text};
-use cel_machine::{Matchers, RunFault, Slots, run};
+use cel_machine::{Matchers, RunError, Slots, run};
 use cel_value::{CelError, CelType, Value};
 use cel_verify::Program;
 use plain::{Items, Keyed, Shared, Text};
@@ -66,7 +68,7 @@ pub fn compile_text(
 ) -> Result<Result<Compiled, Refusal>, CompileError>
     ensures compiled { IfOk result (λ c. c ≡ compiled_of (record { choice = choice.now; names = names.now; text = text.now })) }
     ensures itself { IfOk result (λ c. IfOk c (λ s. s ≡ record { choice = choice.now; names = names.now; text = text.now })) }
-    ensures unverified { (at : ℕ) → IsErrOf result (Unverified at)
+    ensures unverified { (at : ℕ) → IsErrOf result (Fault (Unverified at))
         → IsUnverified (record { choice = choice.now; names = names.now; text = text.now }) at }
 {
     match typed_text(
@@ -94,7 +96,7 @@ fn compiled_by(
     requires { IsRated (types_in names.now)
         (accepted_of (record { choice = choice.now; names = names.now; text = text.now })) accepted.now }
     ensures compiled { IfOk result (λ c. c ≡ record { choice = choice.now; names = names.now; text = text.now }) }
-    ensures unverified { (at : ℕ) → IsErrOf result (Unverified at)
+    ensures unverified { (at : ℕ) → IsErrOf result (Fault (Unverified at))
         → IsFaulty accepted.now.typed.tree accepted.now.typed.slots at }
 {
     match program_of(alloc, &accepted.typed) {
@@ -171,13 +173,13 @@ impl Compiled {
         alloc: Global,
         slots: &Slots<'_>,
         matchers: &mut Matchers,
-    ) -> Result<Ran, RunFault>
+    ) -> Result<Ran, RunError>
         requires { slots_fit (types_in self.now.names) slots.now ≡ true }
         ensures run { IfOk result (λ r. run_of self.now slots.now ≡ Some (record { outcome = r.outcome; charged = r.charged })) }
         ensures fits { IfOk result (λ r. outcome_fits (type_at self.now) (Some r.outcome) ≡ true) }
         ensures within { IfOk result (λ r. r.charged ≤ estimate_at self.now) }
         ensures small { IfOk result (λ r. r.charged ≤ budget) }
-        ensures pattern { IsErrOf result RunFault.Pattern → MayMatch self.now }
+        ensures pattern { IsErrOf result (Fault Pattern) → MayMatch self.now }
     {
         let ended = run(alloc, self.program.get(), slots, matchers)?;
         Ok(Ran {

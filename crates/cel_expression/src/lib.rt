@@ -14,6 +14,6 @@ mod texts;
 
 pub use choice::{ask_patterns, choice_of};
 pub use compiled::{Compiled, Ran, compile_text};
-pub use refusal::{CompileError, Refusal};
+pub use refusal::{CompileError, CompileFault, Refusal};
 pub use stages::root_type;
 pub use texts::gather_texts;

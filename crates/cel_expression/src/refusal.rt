@@ -1,14 +1,13 @@
 //! Why an expression may not be run.
 
 ghost use Rattle.std.specs.Prelude.{◌≡◌};
-ghost use Rattle.cel_expression.specs.Faulty.{from_verifying};
 ghost use Rattle.cel_expression.specs.Names.{refusal_name, refusal_place};
-ghost use Rattle.cel_expression.specs.declared.refusal.CompileError.TheVariants.{OutOfMemory};
+ghost use Rattle.cel_expression.specs.declared.refusal.CompileFault.TheVariants.{Unverified};
 
 use cel_check::TypeFault;
 use cel_parse::ParseFault;
-use cel_verify::VerifyError;
-use std::alloc::{AllocError, AllocFailed};
+use cel_verify::VerifyFault;
+use failing::Failed;
 
 /// Why a text is no expression that may be run; the first of these that applies.
 #[derive(Clone, Copy, Debug, PartialEq, Eq)]
@@ -45,35 +44,18 @@ impl Refusal {
 
 /// Why an expression that may be run is not compiled.
 #[derive(Clone, Copy, Debug, PartialEq, Eq)]
-pub enum CompileError {
-    OutOfMemory,
+pub enum CompileFault {
     /// The verifier refuses the compiled image, at this instruction.
     Unverified { at: usize },
 }
 
-impl From<AllocError> for CompileError {
-    ghost from_gives = { λ _ e. e ≡ OutOfMemory };
+impl From<VerifyFault> for CompileFault {
+    ghost from_gives = { λ refused fault. fault ≡ Unverified refused.at };
 
-    fn from(_error: AllocError) -> CompileError {
-        CompileError::OutOfMemory
+    fn from(refused: VerifyFault) -> CompileFault {
+        CompileFault::Unverified { at: refused.at }
     }
 }
 
-impl<T: Drop> From<AllocFailed<T>> for CompileError {
-    ghost from_gives = { λ _ e. e ≡ OutOfMemory };
-
-    fn from(_error: AllocFailed<T>) -> CompileError {
-        CompileError::OutOfMemory
-    }
-}
-
-impl From<VerifyError> for CompileError {
-    ghost from_gives = { λ error e. e ≡ from_verifying error };
-
-    fn from(error: VerifyError) -> CompileError {
-        match error {
-            VerifyError::OutOfMemory => CompileError::OutOfMemory,
-            VerifyError::Fault(fault) => CompileError::Unverified { at: fault.at },
-        }
-    }
-}
+/// Why an expression that may be run is not compiled.
+pub type CompileError = Failed<CompileFault>;

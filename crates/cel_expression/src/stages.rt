@@ -7,7 +7,8 @@ ghost use Rattle.cel_code.specs.Correct.{Computes, Preserves};
 ghost use Rattle.cel_expression.specs.Expressions.{accepted_of, root_type, typed_at, typed_of, within_budget};
 ghost use Rattle.cel_expression.specs.Faulty.{IsFaulty};
 ghost use Rattle.cel_expression.specs.Stages.{IsFound};
-ghost use Rattle.cel_expression.specs.declared.refusal.CompileError.TheVariants.{Unverified};
+ghost use Rattle.failing.specs.declared.failed.Failed.TheVariants.{Fault};
+ghost use Rattle.cel_expression.specs.declared.refusal.CompileFault.TheVariants.{Unverified};
 
 use crate::refusal::{CompileError, Refusal};
 use cel_check::{CheckError, Typed, check_by};
@@ -110,11 +111,11 @@ pub fn program_of(alloc: Global, typed: &Typed) -> Result<Program, CompileError>
     ensures preserves { IfOk result (λ _. Preserves typed.now.slots typed.now.tree) }
     ensures slots { IfOk result (λ program. program.slots ≡ typed.now.slots) }
     ensures image { IfOk result (λ program. IsCompiled program typed.now.tree typed.now.slots) }
-    ensures unverified { (at : ℕ) → IsErrOf result (Unverified at) → IsFaulty typed.now.tree typed.now.slots at }
+    ensures unverified { (at : ℕ) → IsErrOf result (Fault (Unverified at)) → IsFaulty typed.now.tree typed.now.slots at }
 {
     let image = compile(alloc, typed)?;
     match verify(alloc, image) {
         Ok(program) => Ok(program),
-        Err((error, _)) => Err(CompileError::from(error)),
+        Err((error, _)) => Err(error.widened()),
     }
 }

@@ -5,8 +5,8 @@ use Rattle.std.specs.Prelude.{IfOk, IsErrOf, max}
 use Rattle.cel_lex.specs.declared.token.Token.{Token}
 use Rattle.cel_grammar.specs.declared.fault.ParseFault.{ParseFault}
 use Rattle.cel_grammar.specs.declared.fault.ParseFault.TheVariants.{Unexpected, TooDeep}
-use Rattle.cel_grammar.specs.declared.fault.ParseError.{ParseError}
-use Rattle.cel_grammar.specs.declared.fault.ParseError.TheVariants as errors
+use Rattle.failing.specs.declared.failed.Failed.{Failed}
+use Rattle.failing.specs.declared.failed.Failed.TheVariants as failed
 use Rattle.cel_grammar.specs.declared.tree.Tree.{Tree}
 use Rattle.cel_grammar.specs.Grammar.{Derives, Expression, place_at}
 use Rattle.cel_grammar.specs.Limits.{depth, nests, IsWithin, Exceeds}
@@ -122,16 +122,16 @@ none_when_deep : (source : List ℕ) (ts : List Token) → length ts ≤ 16384 �
 none_when_deep source ts few h e d w = let g = tree_answered source ts e few d w in cc
 
 -- what the code answers, where it answers what reading gives
-pub answered_tree : (source : List ℕ) (ts : List Token) → length ts ≤ 16384 → (r : Result Tree ParseError)
+pub answered_tree : (source : List ℕ) (ts : List Token) → length ts ≤ 16384 → (r : Result Tree (Failed ParseFault))
     → Gives same r (all_of source ts) → IfOk r (λ e. IsTree source ts e)
 answered_tree source ts few (Ok e) g = ok_tree e (all_end source ts few) g
 answered_tree source ts few (Err e) g = tt
 
-pub answered_fault : (source : List ℕ) (ts : List Token) → length ts ≤ 16384 → (r : Result Tree ParseError)
-    → Gives same r (all_of source ts) → (f : ParseFault) → IsErrOf r (errors.Fault f) → HasNoTree source ts f
+pub answered_fault : (source : List ℕ) (ts : List Token) → length ts ≤ 16384 → (r : Result Tree (Failed ParseFault))
+    → Gives same r (all_of source ts) → (f : ParseFault) → IsErrOf r (failed.Fault f) → HasNoTree source ts f
 answered_fault source ts few (Ok e) g f h = absurd cc
-answered_fault source ts few (Err errors.OutOfMemory) g f h = absurd cc
-answered_fault source ts few (Err (errors.Fault k)) g f h =
+answered_fault source ts few (Err failed.OutOfMemory) g f h = absurd cc
+answered_fault source ts few (Err (failed.Fault k)) g f h =
     let e : k ≡ f = cc in
     fault_is f (all_end source ts few) (g ∙ ap Err e) (λ place q. all_unexpected source place ts q) (none_when_deep source ts few)
 

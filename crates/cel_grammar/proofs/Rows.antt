@@ -5,8 +5,8 @@ use Rattle.std.specs.Prelude.{max}
 use Rattle.cel_lex.specs.declared.token.Token.{Token}
 use Rattle.cel_grammar.specs.declared.fault.ParseFault.{ParseFault}
 use Rattle.cel_grammar.specs.declared.fault.ParseFault.TheVariants.{TooDeep}
-use Rattle.cel_grammar.specs.declared.fault.ParseError.{ParseError}
-use Rattle.cel_grammar.specs.declared.fault.ParseError.TheVariants as errors
+use Rattle.failing.specs.declared.failed.Failed.{Failed}
+use Rattle.failing.specs.declared.failed.Failed.TheVariants as failed
 use Rattle.cel_grammar.specs.declared.heads.Closer.{Closer}
 use Rattle.cel_grammar.specs.declared.heads.Step.{Step}
 use Rattle.cel_grammar.specs.declared.heads.Step.TheVariants as step
@@ -52,17 +52,17 @@ module _ {A : Type 0} (source : List ℕ) (c : Closer) (item : List Token → Re
     after_item r h =
         sym unrolled ∙ ap (λ (q : ReadOf A). with_front front deep (q >>= λ e. step_at source c e.rest >>= moved others e)) h
 
-    pub item_fails : (e : ParseError) → Fails e (item ahead) → Fails e total
-    item_fails errors.OutOfMemory h = tt
-    item_fails (errors.Fault f) h = after_item (Err f) h
+    pub item_fails : (e : Failed ParseFault) → Fails e (item ahead) → Fails e total
+    item_fails failed.OutOfMemory h = tt
+    item_fails (failed.Fault f) h = after_item (Err f) h
 
     module _ (e : Found A) (h : item ahead ≡ Ok e) where
       after_step : (r : Result Move ParseFault) → step_at source c e.rest ≡ r → total ≡ with_front front deep (r >>= moved others e)
       after_step r q = after_item (Ok e) h ∙ ap (λ (s : Result Move ParseFault). with_front front deep (s >>= moved others e)) q
 
-      pub step_fails : (x : ParseError) → Fails x (step_at source c e.rest) → Fails x total
-      step_fails errors.OutOfMemory q = tt
-      step_fails (errors.Fault f) q = after_step (Err f) q
+      pub step_fails : (x : Failed ParseFault) → Fails x (step_at source c e.rest) → Fails x total
+      step_fails failed.OutOfMemory q = tt
+      step_fails (failed.Fault f) q = after_step (Err f) q
 
       pub items_end : (rest : List Token) (now : List A) (depth : ℕ) → step_at source c e.rest ≡ Ok (stop rest)
           → now ≡ front ++ e.what ∷ [] → depth ≡ max deep e.deep

@@ -2,9 +2,10 @@
 use Rattle.std.proofs.Common.{◌≡◌, ℕ, suc, ◌+◌, ◌-◌, ◌<◌, ◌≤◌, List, Option, Some}
 use Rattle.std.proofs.Common.{None, Result, Ok, Err, sym, ap, subst, ◌∙◌, arith}
 use Rattle.cel_lex.specs.declared.token.Token.{Token}
+use Rattle.cel_grammar.specs.declared.fault.ParseFault.{ParseFault}
 use Rattle.cel_grammar.specs.declared.fault.ParseFault.TheVariants.{TooDeep}
-use Rattle.cel_grammar.specs.declared.fault.ParseError.{ParseError}
-use Rattle.cel_grammar.specs.declared.fault.ParseError.TheVariants as errors
+use Rattle.failing.specs.declared.failed.Failed.{Failed}
+use Rattle.failing.specs.declared.failed.Failed.TheVariants as failed
 use Rattle.cel_grammar.specs.declared.tree.Tree.{Tree}
 use Rattle.cel_grammar.specs.declared.tree.UnaryOperator.TheVariants.{Not}
 use Rattle.cel_grammar.specs.declared.nodes.Taken.{Taken}
@@ -35,9 +36,9 @@ module _ {A : Type 0} (ask : List Token → Option A) (act : A → Found Tree �
     unfolding next
     after_act r q = at_next (Some x) h ∙ ap (λ (o : Read). o >>= more ask act (100 - (t + 1))) q
 
-    pub act_fails : (e : ParseError) → Fails e (act x left) → Fails e total
-    act_fails errors.OutOfMemory q = tt
-    act_fails (errors.Fault f) q = after_act (Err f) q
+    pub act_fails : (e : Failed ParseFault) → Fails e (act x left) → Fails e total
+    act_fails failed.OutOfMemory q = tt
+    act_fails (failed.Fault f) q = after_act (Err f) q
 
     pub loop_goes_on : (both : Found Tree) → act x left ≡ Ok both → more ask act (100 - (t + 1)) both ≡ total
     loop_goes_on both q = sym (after_act (Ok both) q)
@@ -52,7 +53,7 @@ out_of_turns ask act t left total le kept =
 
 -- a sign "!" stands first
 pub nots_give : (inner : Reader) (source : List ℕ) (brackets : ℕ) (ts : List Token) (x : ℕ × List Token)
-    (r : Result (Taken Tree) ParseError) → Some x ≡ head_if is_bang ts
+    (r : Result (Taken Tree) (Failed ParseFault)) → Some x ≡ head_if is_bang ts
     → Gives seen r (nots_at inner source brackets 100 x.1 >>= wrapped x.0 Not) → Gives seen r (unary_at inner source brackets ts)
 unfolding unary_at
 nots_give inner source brackets ts x r h g =

@@ -1,4 +1,3 @@
-pub mod Faults
 pub mod Words
 pub mod Grammar
 pub mod Limits

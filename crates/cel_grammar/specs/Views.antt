@@ -1,27 +1,18 @@
 -- What the code's values stand for.
-use Rattle.std.specs.Prelude.{◌≡◌, ℕ, List, Option, option_map, Result, Ok, Err}
+use Rattle.std.specs.Prelude.{ℕ, List, Option, option_map, Result}
 use Rattle.std.specs.Borrow.{Bor}
 use Rattle.cel_lex.specs.declared.token.Token.{Token}
 use Rattle.cel_grammar.specs.declared.fault.ParseFault.{ParseFault}
-use Rattle.cel_grammar.specs.declared.fault.ParseError.{ParseError}
-use Rattle.cel_grammar.specs.declared.fault.ParseError.TheVariants as errors
+use Rattle.failing.specs.declared.failed.Failed.{Failed}
+pub use Rattle.failing.specs.Failures.{Fails, Gives}
 use Rattle.cel_grammar.specs.declared.heads.Step.{Step}
 use Rattle.cel_grammar.specs.declared.heads.Step.TheVariants as step
 use Rattle.cel_grammar.specs.declared.nodes.Taken.{Taken}
 use Rattle.cel_grammar.specs.Descent.{◌>>=◌, Found, Move, stop, go_on}
 
--- a failure is the fault that reading gives, unless memory ran out
-abbrev pub Fails : {Y : Type 0} → ParseError → Result Y ParseFault → Type 0
-Fails errors.OutOfMemory read = Unit {0}
-Fails (errors.Fault f) read = read ≡ Err f
-
--- what a function returned, seen by view, is what reading gives, unless memory ran out
-abbrev pub Gives : {X Y : Type 0} → (X → Y) → Result X ParseError → Result Y ParseFault → Type 0
-Gives view (Ok x) read = read ≡ Ok (view x)
-Gives view (Err e) read = Fails e read
-
 -- whatever reading gives what was passed, what a function returned is what a step makes of it
-abbrev pub Carries : {X Y Z W : Type 0} → (X → Y) → (Z → W) → Result X ParseError → Result Z ParseError → (Y → Result W ParseFault) → Type 0
+abbrev pub Carries : {X Y Z W : Type 0} → (X → Y) → (Z → W) → Result X (Failed ParseFault) → Result Z (Failed ParseFault)
+    → (Y → Result W ParseFault) → Type 0
 Carries view view' passed result step = (read : Result _ ParseFault) → Gives view passed read → Gives view' result (read >>= step)
 
 -- a value as it is

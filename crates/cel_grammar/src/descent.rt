@@ -2,7 +2,7 @@
 
 ghost use Rattle.std.specs.Prelude.{◌≡◌, ◌≤◌, length, IfOk, IsErrOf};
 ghost use Rattle.cel_grammar.specs.declared.fault.ParseFault.{ParseFault};
-ghost use Rattle.cel_grammar.specs.declared.fault.ParseError.TheVariants as errors;
+ghost use Rattle.failing.specs.declared.failed.Failed.TheVariants as failed;
 ghost use Rattle.cel_grammar.specs.Trees.{IsTree, HasNoTree};
 ghost use Rattle.cel_grammar.specs.Views.{seen, same, Gives};
 ghost use Rattle.cel_grammar.specs.Descent.{primary, suffixed, member, nots_at, minuses_at, unary_at, operators};
@@ -374,7 +374,7 @@ fn read_all(alloc: Global, source: &str, tokens: &[Token]) -> Result<Boxed<Tree>
 pub fn tree_of(alloc: Global, source: &str, tokens: &[Token]) -> Result<Boxed<Tree>, ParseError>
     requires few { length tokens.now ≤ 16384 }
     ensures tree { IfOk result (λ e. IsTree source.now tokens.now e) }
-    ensures refused { (f : ParseFault) → IsErrOf result (errors.Fault f) → HasNoTree source.now tokens.now f }
+    ensures refused { (f : ParseFault) → IsErrOf result (failed.Fault f) → HasNoTree source.now tokens.now f }
     // The answer is that of reading from left to right, which is a function of the tokens.
     ensures read { Gives same result (all_of source.now tokens.now) }
 {

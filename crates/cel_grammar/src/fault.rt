@@ -1,12 +1,10 @@
 //! Why a text is not parsed.
 
 ghost use Rattle.std.specs.Prelude.{◌≡◌};
-ghost use Rattle.cel_grammar.specs.declared.fault.ParseError.TheVariants.{OutOfMemory};
-ghost use Rattle.cel_grammar.specs.Faults.{from_lexing};
 ghost use Rattle.cel_grammar.specs.Names.{parse_fault_name, parse_fault_place};
 
-use cel_lex::{LexError, LexFault};
-use std::alloc::{AllocError, AllocFailed};
+use cel_lex::LexFault;
+use failing::Failed;
 use thiserror::Error;
 
 #[derive(Clone, Copy, Debug, PartialEq, Eq, Error)]
@@ -49,37 +47,15 @@ impl ParseFault {
     }
 }
 
-#[derive(Debug, Drop, Error)]
-pub enum ParseError {
-    #[error("out of memory")]
-    OutOfMemory,
-    #[error("{0}")]
-    Fault(ParseFault),
-}
+impl From<LexFault> for ParseFault {
+    ghost use Rattle.cel_grammar.specs.declared.fault.ParseFault.TheVariants.{Lex};
 
-impl From<AllocError> for ParseError {
-    ghost from_gives = { λ _ e. e ≡ OutOfMemory };
+    ghost from_gives = { λ l f. f ≡ Lex l };
 
-    fn from(_e: AllocError) -> ParseError {
-        ParseError::OutOfMemory
+    fn from(fault: LexFault) -> ParseFault {
+        ParseFault::Lex(fault)
     }
 }
 
-impl<T: Drop> From<AllocFailed<T>> for ParseError {
-    ghost from_gives = { λ _ e. e ≡ OutOfMemory };
-
-    fn from(_e: AllocFailed<T>) -> ParseError {
-        ParseError::OutOfMemory
-    }
-}
-
-impl From<LexError> for ParseError {
-    ghost from_gives = { λ l e. e ≡ from_lexing l };
-
-    fn from(error: LexError) -> ParseError {
-        match error {
-            LexError::OutOfMemory => ParseError::OutOfMemory,
-            LexError::Fault(fault) => ParseError::Fault(ParseFault::Lex(fault)),
-        }
-    }
-}
+/// Why no tree is answered.
+pub type ParseError = Failed<ParseFault>;

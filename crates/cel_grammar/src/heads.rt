@@ -1,7 +1,7 @@
 //! The tokens that stand first.
 
 ghost use Rattle.std.specs.Prelude.{◌≡◌, length};
-ghost use Rattle.cel_grammar.specs.declared.fault.ParseError.TheVariants as errors;
+ghost use Rattle.failing.specs.declared.failed.Failed.TheVariants as failed;
 ghost use Rattle.cel_grammar.specs.declared.fault.ParseFault.TheVariants.{Unexpected};
 ghost use Rattle.cel_grammar.specs.Grammar.{looseness, closes, takes_comma, is_selector, place_at};
 ghost use Rattle.cel_grammar.specs.Views.{same, seen_head, seen_operator, seen_step, Gives};
@@ -326,7 +326,7 @@ pub fn joining_at(level: u32, tokens: &[Token]) -> Option<(Joint, usize, &[Token
 }
 
 pub fn unexpected_at(source: &str, tokens: &[Token]) -> ParseError
-    ensures { result ≡ errors.Fault (Unexpected (place_at (length source.now) tokens.now)) }
+    ensures { result ≡ failed.Fault (Unexpected (place_at (length source.now) tokens.now)) }
 {
     match tokens {
         [] => ParseError::Fault(ParseFault::Unexpected {

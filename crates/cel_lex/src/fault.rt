@@ -2,9 +2,8 @@
 
 ghost use Rattle.std.specs.Prelude.{◌≡◌};
 ghost use Rattle.cel_lex.specs.Names.{lex_fault_name};
-ghost use Rattle.cel_lex.specs.declared.fault.LexError.TheVariants.{OutOfMemory};
 
-use std::alloc::{AllocError, AllocFailed};
+use failing::Failed;
 use thiserror::Error;
 
 #[derive(Clone, Copy, Debug, PartialEq, Eq, Error)]
@@ -44,26 +43,5 @@ pub struct LexFault {
     pub place: usize,
 }
 
-#[derive(Debug, Drop, Error)]
-pub enum LexError {
-    #[error("out of memory")]
-    OutOfMemory,
-    #[error("{0}")]
-    Fault(LexFault),
-}
-
-impl From<AllocError> for LexError {
-    ghost from_gives = { λ _ e. e ≡ OutOfMemory };
-
-    fn from(_e: AllocError) -> LexError {
-        LexError::OutOfMemory
-    }
-}
-
-impl<T: Drop> From<AllocFailed<T>> for LexError {
-    ghost from_gives = { λ _ e. e ≡ OutOfMemory };
-
-    fn from(_e: AllocFailed<T>) -> LexError {
-        LexError::OutOfMemory
-    }
-}
+/// Why no tokens are answered.
+pub type LexError = Failed<LexFault>;

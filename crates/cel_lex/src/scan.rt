@@ -3,7 +3,7 @@
 ghost use Rattle.std.specs.Prelude.{◌≡◌, ◌≤◌, ℕ, List, length, IfOk, IsErrOf};
 ghost use Rattle.cel_lex.specs.declared.token.Token.{Token};
 ghost use Rattle.cel_lex.specs.declared.fault.LexFault.{LexFault};
-ghost use Rattle.cel_lex.specs.declared.fault.LexError.TheVariants as errors;
+ghost use Rattle.failing.specs.declared.failed.Failed.TheVariants as failed;
 ghost use Rattle.cel_lex.specs.Lexis.{IsCut, Refuses};
 ghost use Rattle.cel_lex.specs.Together.{IsTogether};
 ghost use Rattle.cel_lex.specs.Total.{HasAnswer};
@@ -14,7 +14,7 @@ use crate::token::Token;
 use std::alloc::Global;
 
 fn fault(kind: LexFaultKind, place: usize) -> LexError
-    ensures { result ≡ errors.Fault (record { kind = kind; place = place }) }
+    ensures { result ≡ failed.Fault (record { kind = kind; place = place }) }
 {
     LexError::Fault(LexFault { kind, place })
 }
@@ -26,7 +26,7 @@ pub fn tokens(alloc: Global, text: &str) -> Result<Vec<Token>, LexError>
     // The pieces of these tokens, put together with what lies between them, are the text.
     ensures together { IfOk result (λ v. IsTogether 0 text.now v.items) }
     // The fault that is answered is the first.
-    ensures fault { (f : LexFault) → IsErrOf result (errors.Fault f) → Refuses text.now f }
+    ensures fault { (f : LexFault) → IsErrOf result (failed.Fault f) → Refuses text.now f }
 {
     if text.len() > 16384 {
         return Err(fault(LexFaultKind::TooLong, 0));

@@ -1,4 +1,3 @@
-pub mod Faults
 pub mod Follow
 pub mod Found
 pub mod Operand

@@ -31,7 +31,7 @@ mod with_text;
 
 pub use cel_patterns::Matchers;
 pub use ended::Run;
-pub use fault::RunFault;
+pub use fault::{RunError, RunFault};
 pub use machine::run;
 pub use operand::Operand;
 pub use parts::field;

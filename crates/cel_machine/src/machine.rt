@@ -1,4 +1,6 @@
 ghost use Rattle.std.specs.Prelude.{◌≡◌, ◌<◌, ◌≤◌, true, Some, IfOk, IsErrOf, length};
+ghost use Rattle.failing.specs.declared.failed.Failed.TheVariants.{Fault};
+ghost use Rattle.cel_machine.specs.declared.fault.RunFault.TheVariants.{Pattern};
 ghost use Rattle.cel_operators.specs.Outcomes.{slots_fit};
 ghost use Rattle.cel_code.specs.Machine.{Run as IsRun};
 ghost use Rattle.cel_verify.specs.StackTypes.{Fits};
@@ -8,7 +10,7 @@ ghost use Rattle.cel_machine.specs.Follow.{top_of};
 ghost use Rattle.cel_code.specs.Matches.{HasMatches};
 
 use crate::ended::Run;
-use crate::fault::RunFault;
+use crate::fault::RunError;
 use crate::frames::Frames;
 use crate::operand::outcome_of;
 use crate::position::Position;
@@ -36,14 +38,14 @@ pub fn run<'a>(
     program: &'a Program,
     slots: &'a Slots<'_>,
     matchers: &mut Matchers,
-) -> Result<Run, RunFault>
+) -> Result<Run, RunError>
     requires { slots_fit program.now.slots slots.now ≡ true }
     ensures run { IfOk result (λ r. IsRun program.now slots.now r.outcome r.charged r.steps) }
     ensures fits { IfOk result (λ r. Fits r.outcome program.now.result) }
     ensures steps { IfOk result (λ r. IsWithin (IsRouteLength program.now) r.steps) }
     ensures charged { IfOk result (λ r. IsWithin (IsRouteCharge program.now) r.charged) }
     ensures within_budget { IfOk result (λ r. r.charged ≤ budget) }
-    ensures pattern { IsErrOf result RunFault.Pattern → HasMatches program.now }
+    ensures pattern { IsErrOf result (Fault Pattern) → HasMatches program.now }
 {
     let image = program.image();
     let mut stack = Stack::with_room(alloc, program.max_depth() + 1)?;

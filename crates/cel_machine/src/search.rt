@@ -5,12 +5,14 @@ ghost use Rattle.cel_operators.specs.Operators.{at_one};
 ghost use Rattle.cel_operators.specs.TextOperators.{row_with};
 ghost use Rattle.cel_apply.specs.Counted.{counted};
 ghost use Rattle.cel_apply.specs.Lent.{lent};
+ghost use Rattle.cel_patterns.specs.Meaning.{is_found};
 
-use crate::fault::RunFault;
+use crate::fault::RunError;
 use cel_apply::{alone, characters, made};
 use cel_operators::{Made, TextOperator, matching_charge};
 use cel_patterns::Matchers;
 use cel_value::{CelError, Value, code_points};
+use failing::Failed;
 use std::alloc::Global;
 
 /// Whether a pattern is found in an operand.
@@ -19,15 +21,29 @@ pub fn matches(
     x: Result<&Value, CelError>,
     pattern: &str,
     matchers: &mut Matchers,
-) -> Result<Option<Made>, RunFault>
+) -> Result<Option<Made>, RunError>
     ensures { IfOk result (λ made. made ≡ counted (at_one (row_with TextOperator.Matches pattern.now) (Some (lent x.entry)))) }
 {
     match alone(characters(x)) {
         Ok(text) => {
-            let found = matchers.finds(alloc, pattern, text)?;
+            let found = is_found(alloc, pattern, text, matchers)?;
             let charge = matching_charge(pattern, code_points(text) as u64);
             Ok(made(Ok(Value::Bool(found)), charge))
         }
         Err(made) => Ok(made),
     }
+}
+
+// Whether a pattern is found in a text; why it is not built, as a run tells it.
+fn is_found(
+    alloc: Global,
+    pattern: &str,
+    text: &str,
+    matchers: &mut Matchers,
+) -> Result<bool, RunError>
+    ensures { IfOk result (λ found. found ≡ is_found pattern.now text.now) }
+{
+    matchers
+        .finds(alloc, pattern, text)
+        .map_err(Failed::widened)
 }

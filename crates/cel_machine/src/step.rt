@@ -1,4 +1,6 @@
 ghost use Rattle.std.specs.Prelude.{◌≡◌, ◌+◌, ◌<◌, ◌^◌, [], Ok, IfOk, IsErrOf, IsTrue, Some, slice_get, option_map, reverse};
+ghost use Rattle.failing.specs.declared.failed.Failed.TheVariants.{Fault};
+ghost use Rattle.cel_machine.specs.declared.fault.RunFault.TheVariants.{Pattern};
 ghost use Rattle.cel_operators.specs.Operators.{row, operator_of};
 ghost use Rattle.cel_operators.specs.Wants.{side_of};
 ghost use Rattle.cel_code.specs.Machine.{Frame, act, inputs_of, push, constant as constant_of, slot as slot_of, operate_by};
@@ -12,7 +14,7 @@ ghost use Rattle.cel_machine.specs.Follow.{Follows, LeadsTo, Comes, Finishes, me
 ghost use Rattle.cel_machine.specs.Follow.{test_of, join_of, sides_of, branch_of, end_of};
 
 use crate::comparison::compared;
-use crate::fault::RunFault;
+use crate::fault::RunError;
 use crate::frames::Frames;
 use crate::index::{Found, index_list, index_map};
 use crate::lists::list;
@@ -52,13 +54,13 @@ pub fn step<'a>(
     stack: &mut Stack<'a>,
     frames: &mut Frames<'a>,
     matchers: &mut Matchers,
-) -> Result<Move, RunFault>
+) -> Result<Move, RunError>
     requires at { position.old.at + 1 < 2 ^ 64 }
     requires room { HasRoom stack.old }
     requires frame_room { HasFrameRoom frames.old }
     ensures acts { IfOk result (λ m. Follows (act (inputs_of image.now slots.now) instr position.old.at stack.old.items frames.old.items)
         m position.new stack.new.items frames.new.items) }
-    ensures pattern { IsErrOf result RunFault.Pattern → IsTrue (is_matches instr) }
+    ensures pattern { IsErrOf result (Fault Pattern) → IsTrue (is_matches instr) }
     ensures room { stack.new.room ≡ stack.old.room }
     ensures frame_room { frames.new.room ≡ frames.old.room }
 {
@@ -99,13 +101,13 @@ fn end(stack: &Stack<'_>) -> Move
 }
 
 /// The move of an instruction for which memory alone may be wanting, as a step answers it.
-pub fn told(moved: Result<Move, AllocError>) -> Result<Move, RunFault>
+pub fn told(moved: Result<Move, AllocError>) -> Result<Move, RunError>
     ensures moved { IfOk result (λ m. moved ≡ Ok m) }
-    ensures memory { IsErrOf result RunFault.Pattern → ⊥ }
+    ensures memory { IsErrOf result (Fault Pattern) → ⊥ }
 {
     match moved {
         Ok(moved) => Ok(moved),
-        Err(error) => Err(RunFault::from(error)),
+        Err(error) => Err(RunError::from(error)),
     }
 }
 

@@ -1,12 +1,14 @@
 //! The instruction of the operators that are given a text.
 
 ghost use Rattle.std.specs.Prelude.{◌≡◌, ◌+◌, ◌<◌, ◌^◌, IfOk, IsErrOf, Some, option_map, slice_get};
+ghost use Rattle.failing.specs.declared.failed.Failed.TheVariants.{Fault};
+ghost use Rattle.cel_machine.specs.declared.fault.RunFault.TheVariants.{Pattern};
 ghost use Rattle.cel_operators.specs.TextOperators.{row_with};
 ghost use Rattle.cel_code.specs.Machine.{constant_text, operate_with};
 ghost use Rattle.cel_machine.specs.Room.{HasRoom};
 ghost use Rattle.cel_machine.specs.Follow.{LeadsTo, Comes, metered_one};
 
-use crate::fault::RunFault;
+use crate::fault::RunError;
 use crate::operand::read;
 use crate::parts::{field, has_field};
 use crate::position::Position;
@@ -37,12 +39,12 @@ pub fn operate_with(
     position: &mut Position,
     stack: &mut Stack<'_>,
     matchers: &mut Matchers,
-) -> Result<Move, RunFault>
+) -> Result<Move, RunError>
     requires at { position.old.at + 1 < 2 ^ 64 }
     requires room { HasRoom stack.old }
     ensures acts { IfOk result (λ m. LeadsTo (operate_with op (Some text.now) position.old.at stack.old.items)
         m position.new stack.new.items) }
-    ensures pattern { IsErrOf result RunFault.Pattern → op ≡ TextOperator.Matches }
+    ensures pattern { IsErrOf result (Fault Pattern) → op ≡ TextOperator.Matches }
     ensures room { stack.new.room ≡ stack.old.room }
 {
     match op {
@@ -93,7 +95,7 @@ fn search(
     position: &mut Position,
     stack: &mut Stack<'_>,
     matchers: &mut Matchers,
-) -> Result<Move, RunFault>
+) -> Result<Move, RunError>
     requires at { position.old.at + 1 < 2 ^ 64 }
     requires room { HasRoom stack.old }
     ensures acts { IfOk result (λ m. Comes (metered_one (row_with TextOperator.Matches pattern.now) position.old.at stack.old.items)

@@ -1,6 +1,6 @@
 -- The operators: for each the kinds of its operands, its answer and errors, its charge, its type and its greatest
 -- charge. The value, the cost, the machine and the verifier take an operator from here alone.
-use Rattle.std.specs.Prelude.{ℕ, zero, suc, ◌+◌, ◌-◌, ◌*◌, ◌/◌, ◌%◌, ◌^◌, min, max, ℤ, pos, negsuc, ◌+ℤ◌, ◌-ℤ◌, ◌≡◌}
+use Rattle.std.specs.Prelude.{ℕ, zero, suc, ◌+◌, ◌-◌, ◌*◌, ◌/◌, ◌%◌, ◌^◌, min, max, ℤ, pos, negsuc, ◌+ℤ◌, ◌-ℤ◌}
 use Rattle.std.specs.Prelude.{◌*ℤ◌, neg_ℤ, int_div, int_rem, int_lt, Bool, true, false, not, ◌&&◌, nat_lt, nat_le, List, []}
 use Rattle.std.specs.Prelude.{◌∷◌, ◌++◌, map, length, sum, sum_by, if◌then◌else◌, slice_get, is_some, Option, Some, None, Result, Ok, Err}
 use Rattle.std.specs.Prelude.{decimal}
@@ -38,8 +38,6 @@ use Rattle.cel_operators.specs.Compared.{compared}
 use Rattle.cel_operators.specs.Outcomes.{Outcome}
 use Rattle.cel_operators.specs.Wants.{Want, Any, Truth, Whole, Natural, Ordered, Characters, Items, Entries, Indexed, Sought, Wholes}
 use Rattle.cel_operators.specs.Wants.{Naturals, Texts, Of, taken, Limit, Shelf, limit_of}
-use Rattle.cel_operators.specs.declared.type_rule.Untyped.{Untyped}
-use Rattle.cel_operators.specs.declared.type_rule.Untyped.TheVariants as untyped
 
 -- an operator with one operand; None is no answer at an operand of its kind
 pub record OneRow (w : Want) : Type 0 where
@@ -470,9 +468,3 @@ greatest_of_one (Two v w r) s = 0
 abbrev pub greatest_of_two : Row → CelType → CelType → ℕ
 greatest_of_two (One w r) s t = 0
 greatest_of_two (Two v w r) s t = most_of_two r.greatest (limit_of v s) (limit_of w t)
-
--- what a row is found to give is what it gives, unless memory ran out
-abbrev pub Tells : {X : Type 0} → Result X Untyped → Result X TypeRule → Type 0
-Tells (Ok x) r = r ≡ Ok x
-Tells (Err untyped.OutOfMemory) r = Unit {0}
-Tells (Err (untyped.Rule e)) r = r ≡ Err e

@@ -1,5 +1,6 @@
 ghost use Rattle.std.specs.Prelude.{◌≡◌};
-ghost use Rattle.cel_operators.specs.Operators.{row, code_of, operands_of, operator_of, type_of_one, type_of_two, Tells};
+ghost use Rattle.failing.specs.Failures.{Answers};
+ghost use Rattle.cel_operators.specs.Operators.{row, code_of, operands_of, operator_of, type_of_one, type_of_two};
 
 use crate::answer_type::{
     in_list, index_list, index_map, joined, list_sum, order, same_text, text_sum, where_both_taken,
@@ -228,7 +229,7 @@ impl Operator {
         left: &CelType,
         right: &CelType,
     ) -> Result<CelType, Untyped>
-        ensures { Tells result (type_of_two (row self.now) left.now right.now) }
+        ensures { Answers (type_of_two (row self.now) left.now right.now) result }
     {
         match self {
             Operator::Add
@@ -267,7 +268,7 @@ impl Operator {
             Operator::IndexList => index_list(left, right),
             Operator::IndexMap => index_map(left, right),
             Operator::Join => joined(left, right),
-            _ => Err(Untyped::Rule(TypeRule::NoOverload)),
+            _ => Err(Untyped::Fault(TypeRule::NoOverload)),
         }
     }
 

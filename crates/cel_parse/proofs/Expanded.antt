@@ -4,7 +4,7 @@ use Rattle.cel_parse.specs.declared.expr.Expr.{Expr}
 use Rattle.cel_grammar.specs.declared.tree.Entry.{Entry}
 use Rattle.cel_parse.specs.declared.expr.Syntax.TheVariants as syntax
 use Rattle.cel_grammar.specs.declared.fault.ParseFault.{ParseFault}
-use Rattle.cel_grammar.specs.declared.fault.ParseError.{ParseError}
+use Rattle.failing.specs.declared.failed.Failed.{Failed}
 use Rattle.cel_grammar.specs.declared.tree.Tree.{Tree, roll-Tree, Call as call, Method as method, List as list, Map as map_tree}
 use Rattle.cel_grammar.specs.declared.tree.Tree.TheOpen.{Tree-F}
 use Rattle.cel_grammar.specs.declared.tree.Tree.TheVariants.{rolls-Call, rolls-Method, rolls-List, rolls-Map}
@@ -26,19 +26,19 @@ rolled : (source : List ℕ) (t : Tree-F Tree)
     → expanded source (roll-Tree t) ≡ expanded_at source (map-Tree Tree Expansion (expansion source) t)
 rolled source t = ap (λ (x : Expansion). x.own) (fold-roll-Tree Expansion (level source) t)
 
-gives_by : (r : Result Expr ParseError) (a b : Expanded) → a ≡ b → Gives same r b → Gives same r a
+gives_by : (r : Result Expr (Failed ParseFault)) (a b : Expanded) → a ≡ b → Gives same r b → Gives same r a
 gives_by r a b e g = subst (λ o. Gives same r o) (sym e) g
 
 -- the list that the code reads is the tree's
 module _ (source : List ℕ) (place : ℕ) (tree : Tree) (es xs : List Tree) (read : xs ≡ es) where
-  pub call_gives : (r : Result Expr ParseError) → tree ≡ call place es → Gives same r (call_of source place (expansions source xs))
+  pub call_gives : (r : Result Expr (Failed ParseFault)) → tree ≡ call place es → Gives same r (call_of source place (expansions source xs))
       → Gives same r (expanded source tree)
   call_gives r e g =
       gives_by r (expanded source tree) (call_of source place (expansions source xs))
       (ap (expanded source) (e ∙ sym (rolls-Call place es)) ∙ rolled source (Tree-F.Call place es) ∙ ap
       (λ ys. call_of source place (expansions source ys)) (sym read)) g
 
-  pub method_gives : (r : Result Expr ParseError) (a b : Tree) (x : Expr) → tree ≡ method place a es → b ≡ a
+  pub method_gives : (r : Result Expr (Failed ParseFault)) (a b : Tree) (x : Expr) → tree ≡ method place a es → b ≡ a
       → expanded source b ≡ Ok x → Gives same r (method_of source place (Ok x) (expansions source xs))
       → Gives same r (expanded source tree)
   method_gives r a b x e q h g =
@@ -50,7 +50,7 @@ module _ (source : List ℕ) (place : ℕ) (tree : Tree) (es xs : List Tree) (re
   abbrev as_list : List Expr → Expanded
   as_list ys = Ok (expr place (syntax.List ys))
 
-  pub list_gives : (r : Result Expr ParseError) → tree ≡ list place es → Gives same r (each (expansions source xs) >>= as_list)
+  pub list_gives : (r : Result Expr (Failed ParseFault)) → tree ≡ list place es → Gives same r (each (expansions source xs) >>= as_list)
       → Gives same r (expanded source tree)
   list_gives r e g =
       gives_by r (expanded source tree) (each (expansions source xs) >>= as_list)
@@ -62,7 +62,7 @@ module _ (source : List ℕ) (place : ℕ) (tree : Tree) (es xs : List (Entry Tr
   abbrev as_map : List (Entry Expr) → Expanded
   as_map ys = Ok (expr place (syntax.Map ys))
 
-  pub map_gives : (r : Result Expr ParseError) → tree ≡ map_tree place es
+  pub map_gives : (r : Result Expr (Failed ParseFault)) → tree ≡ map_tree place es
       → Gives same r (each_entry (entry_expansions source xs) >>= as_map) → Gives same r (expanded source tree)
   map_gives r e g =
       gives_by r (expanded source tree) (each_entry (entry_expansions source xs) >>= as_map)

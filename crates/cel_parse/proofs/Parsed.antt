@@ -1,20 +1,18 @@
 -- What the function of a text answers is what the grammar's relations say.
 use Rattle.std.proofs.Common.{◌≡◌, ◌≤◌, ℕ, List, Option, Some, None, Result, Ok, Err, refl, sym, ap, subst, ◌∙◌}
-use Rattle.std.specs.Prelude.{IfOk, IsErrOf}
+use Rattle.std.specs.Prelude.{IfOk, IfErr, IsErrOf, IsErrAnd, MatchResult}
 use Rattle.cel_lex.specs.declared.token.Token.{Token}
 use Rattle.cel_lex.specs.declared.fault.LexFault.{LexFault}
-use Rattle.cel_lex.specs.declared.fault.LexError.{LexError}
-use Rattle.cel_lex.specs.declared.fault.LexError.TheVariants as lexing
 use Rattle.cel_lex.specs.Lexis.{IsCut, Refuses}
 use Rattle.cel_lex.specs.Answer.{Answer, answer_of}
 use Rattle.cel_lex.proofs.Answering.{answer_cut, answer_fault, is_the_cut, is_the_fault}
 use Rattle.cel_grammar.specs.declared.fault.ParseFault.{ParseFault}
 use Rattle.cel_grammar.specs.declared.fault.ParseFault.TheVariants.{Lex, BadMacro}
-use Rattle.cel_grammar.specs.declared.fault.ParseError.{ParseError}
-use Rattle.cel_grammar.specs.declared.fault.ParseError.TheVariants as errors
+use Rattle.failing.specs.declared.failed.Failed.{Failed}
+use Rattle.failing.specs.declared.failed.Failed.TheVariants as failed
+use Rattle.failing.specs.Failures.{Widens}
 use Rattle.cel_grammar.specs.declared.tree.Tree.{Tree}
 use Rattle.cel_grammar.specs.Descent.{◌>>=◌, all_of}
-use Rattle.cel_grammar.specs.Faults.{from_lexing}
 use Rattle.cel_grammar.specs.Trees.{IsTree}
 use Rattle.cel_grammar.specs.Views.{same, Fails, Gives}
 use Rattle.cel_grammar.proofs.Answered.{answered_tree, answered_fault}
@@ -46,7 +44,7 @@ by_macros text ts tree (Some place) c t h = refuses (bad_macro c t h)
 by_tree : (text : List ℕ) (ts : List Token) (r : Result Tree ParseFault) → IsCut text ts → all_of text ts ≡ r
     → Tells text (r >>= parsed_tree text)
 by_tree text ts (Ok tree) c h = by_macros text ts tree (first_wrong text tree) c (answered_tree text ts (few_tokens c) (Ok tree) h) refl
-by_tree text ts (Err f) c h = refuses (no_tree c (answered_fault text ts (few_tokens c) (Err (errors.Fault f)) h f refl))
+by_tree text ts (Err f) c h = refuses (no_tree c (answered_fault text ts (few_tokens c) (Err (failed.Fault f)) h f refl))
 
 by_cut : (text : List ℕ) (a : Answer) → answer_of text ≡ a → Tells text (lexed a >>= λ ts. all_of text ts >>= parsed_tree text)
 by_cut text (Ok ts) h = by_tree text ts (all_of text ts) (is_the_cut text ts h) refl
@@ -96,15 +94,25 @@ of_fault : (text : List ℕ) (g : LexFault) → Refuses text g → parsed text �
 unfolding parsed
 of_fault text g x = ap (λ (a : Answer). lexed a >>= λ us. all_of text us >>= parsed_tree text) (answer_fault text g x)
 
-pub cut_fails : (text : List ℕ) (l : LexError) (e : ParseError) → from_lexing l ≡ e → ((g : LexFault) → l ≡ lexing.Fault g
-    → Refuses text g) → Fails e (parsed text)
-cut_fails text lexing.OutOfMemory e h x = subst (λ y. Fails y (parsed text)) h tt
-cut_fails text (lexing.Fault g) e h x = subst (λ y. Fails y (parsed text)) h (of_fault text g (x g refl))
+cut_fails : (text : List ℕ) (l : Failed LexFault) (e : Failed ParseFault) → Widens (λ g f. f ≡ Lex g) l e
+    → ((g : LexFault) → l ≡ failed.Fault g → Refuses text g) → Fails e (parsed text)
+cut_fails text failed.OutOfMemory failed.OutOfMemory h x = tt
+cut_fails text failed.OutOfMemory (failed.Fault f) h x = absurd h
+cut_fails text (failed.Fault g) failed.OutOfMemory h x = absurd h
+cut_fails text (failed.Fault g) (failed.Fault f) h x = of_fault text g (x g refl) ∙ ap Err (sym h)
 
-pub tree_fails : (text : List ℕ) (us ts : List Token) (e : ParseError) → IsCut text us → ts ≡ us → Fails e (all_of text ts)
+-- the lexer's failure, told one level up
+pub cut_told : {X : Type 0} (text : List ℕ) (r : Result X (Failed LexFault)) (told : Result X (Failed ParseFault))
+    → MatchResult r (λ x. told ≡ Ok x) (λ l. IsErrAnd told (Widens (λ g f. f ≡ Lex g) l))
+    → ((g : LexFault) → IsErrOf r (failed.Fault g) → Refuses text g) → IfErr told (λ e. Fails e (parsed text))
+cut_told text r (Ok x) m h = tt
+cut_told text (Ok x) (Err e) m h = absurd cc
+cut_told text (Err l) (Err e) m h = cut_fails text l e m (λ g q. h g (ap Err q))
+
+pub tree_fails : (text : List ℕ) (us ts : List Token) (e : Failed ParseFault) → IsCut text us → ts ≡ us → Fails e (all_of text ts)
     → Fails e (parsed text)
-tree_fails text us ts errors.OutOfMemory c q h = tt
-tree_fails text us ts (errors.Fault f) c q h = of_tokens text us (Err f) c (ap (all_of text) (sym q) ∙ h)
+tree_fails text us ts failed.OutOfMemory c q h = tt
+tree_fails text us ts (failed.Fault f) c q h = of_tokens text us (Err f) c (ap (all_of text) (sym q) ∙ h)
 
 -- the tree is held in a box
 module _ (text : List ℕ) (us ts : List Token) (tree boxed : Tree) (cut : IsCut text us) (read : ts ≡ us) (inside : tree ≡ boxed)
@@ -118,32 +126,32 @@ module _ (text : List ℕ) (us ts : List Token) (tree boxed : Tree) (cut : IsCut
   of_expansion : first_wrong text tree ≡ None → parsed text ≡ expanded text tree
   of_expansion m = of_tree ∙ ap (λ (o : Option ℕ). unless_wrong o (expanded text tree)) m
 
-  pub expansion_fails : (e : ParseError) → first_wrong text tree ≡ None → Fails e (expanded text tree) → Fails e (parsed text)
-  expansion_fails errors.OutOfMemory m h = tt
-  expansion_fails (errors.Fault f) m h = of_expansion m ∙ h
+  pub expansion_fails : (e : Failed ParseFault) → first_wrong text tree ≡ None → Fails e (expanded text tree) → Fails e (parsed text)
+  expansion_fails failed.OutOfMemory m h = tt
+  expansion_fails (failed.Fault f) m h = of_expansion m ∙ h
 
   pub expression_is : (e x : Expr) → first_wrong text tree ≡ None → expanded text tree ≡ Ok x → e ≡ x → parsed text ≡ Ok e
   expression_is e x m h q = of_expansion m ∙ h ∙ ap Ok (sym q)
 
 -- a result that is what the function answers is what the relations say
-pub refused_of : (text : List ℕ) (r : Result Expr ParseError) (f : ParseFault) → Gives same r (parsed text)
-    → IsErrOf r (errors.Fault f) → IsRefused text f
+pub refused_of : (text : List ℕ) (r : Result Expr (Failed ParseFault)) (f : ParseFault) → Gives same r (parsed text)
+    → IsErrOf r (failed.Fault f) → IsRefused text f
 refused_of text (Ok e) f g h = absurd cc
-refused_of text (Err errors.OutOfMemory) f g h = absurd cc
-refused_of text (Err (errors.Fault k)) f g h = is_refused_for text f (let q : k ≡ f = cc in g ∙ ap Err q)
+refused_of text (Err failed.OutOfMemory) f g h = absurd cc
+refused_of text (Err (failed.Fault k)) f g h = is_refused_for text f (let q : k ≡ f = cc in g ∙ ap Err q)
 
-pub spelled_of : (text : List ℕ) (r : Result Expr ParseError) → Gives same r (parsed text) → IfOk r (λ e. IsParsed text e)
+pub spelled_of : (text : List ℕ) (r : Result Expr (Failed ParseFault)) → Gives same r (parsed text) → IfOk r (λ e. IsParsed text e)
 spelled_of text (Ok e) g = is_spelled text e g
 spelled_of text (Err e) g = tt
 
-pub depth_is : (text : List ℕ) (r : Result Expr ParseError) → Gives same r (parsed text) → IfOk r (λ e. IsAsDeep text e)
+pub depth_is : (text : List ℕ) (r : Result Expr (Failed ParseFault)) → Gives same r (parsed text) → IfOk r (λ e. IsAsDeep text e)
 depth_is text (Ok e) g = parsed_depth (is_spelled text e g)
 depth_is text (Err e) g = tt
 
-pub shallow_is : (text : List ℕ) (r : Result Expr ParseError) → Gives same r (parsed text) → IfOk r (λ e. depth_of e ≤ 100)
+pub shallow_is : (text : List ℕ) (r : Result Expr (Failed ParseFault)) → Gives same r (parsed text) → IfOk r (λ e. depth_of e ≤ 100)
 shallow_is text (Ok e) g = parsed_shallow (is_spelled text e g)
 shallow_is text (Err e) g = tt
 
-pub small_is : (text : List ℕ) (r : Result Expr ParseError) → Gives same r (parsed text) → IfOk r (λ e. nodes_of e ≤ 16384)
+pub small_is : (text : List ℕ) (r : Result Expr (Failed ParseFault)) → Gives same r (parsed text) → IfOk r (λ e. nodes_of e ≤ 16384)
 small_is text (Ok e) g = parsed_small (is_spelled text e g)
 small_is text (Err e) g = tt

@@ -1,12 +1,13 @@
 //! The expression of a text.
 
-ghost use Rattle.std.specs.Prelude.{◌≡◌, ◌≤◌, ◌↔◌, ℕ, List, Ok, Err, IfOk, IsErrOf};
+ghost use Rattle.std.specs.Prelude.{◌≡◌, ◌≤◌, ◌↔◌, ℕ, List, Ok, Err, IfOk, IfErr, IsErrOf};
 ghost use Rattle.cel_lex.specs.declared.fault.LexFault.{LexFault};
+ghost use Rattle.cel_lex.specs.Lexis.{IsCut};
 ghost use Rattle.cel_parse.specs.declared.expr.Expr.{Expr};
 ghost use Rattle.cel_grammar.specs.declared.fault.ParseFault.{ParseFault};
 ghost use Rattle.cel_grammar.specs.declared.fault.ParseFault.TheVariants.{Lex, Unexpected, BadMacro};
-ghost use Rattle.cel_grammar.specs.declared.fault.ParseError.TheVariants as errors;
-ghost use Rattle.cel_grammar.specs.Views.{same, Gives};
+ghost use Rattle.failing.specs.declared.failed.Failed.TheVariants as failed;
+ghost use Rattle.cel_grammar.specs.Views.{same, Fails, Gives};
 ghost use Rattle.cel_parse.specs.Sizes.{depth_of, nodes_of};
 ghost use Rattle.cel_parse.specs.Parsed.{parsed};
 ghost use Rattle.cel_parse.specs.Parsing.{IsParsed, IsRefused, IsAsDeep};
@@ -16,14 +17,23 @@ use crate::expansion::expand;
 use crate::expr::Expr;
 use crate::macros::first_wrong;
 use cel_grammar::{ParseError, ParseFault, tree_of};
-use cel_lex::tokens;
+use cel_lex::{Token, tokens};
+use failing::Failed;
 use std::alloc::Global;
+
+// The tokens of a text, or why it has no expression.
+fn tokens_in(alloc: Global, text: &str) -> Result<Vec<Token>, ParseError>
+    ensures cut { IfOk result (λ v. IsCut text.now v.items) }
+    ensures fault { IfErr result (λ e. Fails e (parsed text.now)) }
+{
+    tokens(alloc, text).map_err(Failed::widened)
+}
 
 // The expression of a text, or its fault, by a function of the text.
 fn read(alloc: Global, text: &str) -> Result<Expr, ParseError>
     ensures { Gives same result (parsed text.now) }
 {
-    let cut = tokens(alloc, text)?;
+    let cut = tokens_in(alloc, text)?;
     let boxed = tree_of(alloc, text, cut.as_slice())?;
     let tree = boxed.get();
     if let Some(place) = first_wrong(text, tree) {
@@ -37,7 +47,7 @@ pub fn parse(alloc: Global, text: &str) -> Result<Expr, ParseError>
     // The text spells the expression that is answered.
     ensures parsed { IfOk result (λ e. IsParsed text.now e) }
     // A text is refused only for the fault that is answered.
-    ensures refused { (f : ParseFault) → IsErrOf result (errors.Fault f) → IsRefused text.now f }
+    ensures refused { (f : ParseFault) → IsErrOf result (failed.Fault f) → IsRefused text.now f }
     // The answer is a function of the text, so that its fault is one where the grammar leaves a choice, too.
     ensures read { Gives same result (parsed text.now) }
     // The expression is as deep as the text's tree is counted, which is 100 at most.

@@ -7,14 +7,13 @@ use Rattle.regex.specs.declared.string.regex.Regex.{Regex}
 use Rattle.regex_meta.specs.Programs.{leftmost}
 use Rattle.regex_meta.specs.declared.program.Program.{Program}
 use Rattle.cel_patterns.specs.Meaning.{tree_of, is_found}
-use Rattle.cel_patterns.specs.declared.unbuilt.Unbuilt.{Unbuilt}
-use Rattle.cel_patterns.specs.declared.unbuilt.Unbuilt.TheVariants.{OutOfMemory, NoPattern, TooLarge}
+use Rattle.cel_patterns.specs.declared.unbuilt.PatternFault.{PatternFault}
+use Rattle.cel_patterns.specs.declared.unbuilt.PatternFault.TheVariants.{NoPattern, TooLarge}
 
--- the text is no pattern, or it is one that was given up; where memory runs out nothing is said
-abbrev pub IsReason : List ℕ → Unbuilt → Type 0
+-- the text is no pattern, or it is one that was given up
+abbrev pub IsReason : List ℕ → PatternFault → Type 0
 IsReason text NoPattern = tree_of text ≡ None
 IsReason text TooLarge = IsSome (tree_of text)
-IsReason text OutOfMemory = Unit {0}
 
 -- the pattern is read from the text, with no options
 abbrev pub IsRegexOf : List ℕ → Regex → Type 0

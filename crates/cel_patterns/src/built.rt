@@ -2,6 +2,7 @@
 ghost use Rattle.std.specs.Prelude.{◌≡◌, IfOk, IfErr, IfSome, IsSome};
 ghost use Rattle.regex.specs.Strings.{regex_pattern, regex_source};
 ghost use Rattle.regex_dfa.specs.Search.{IsForwardFor};
+ghost use Rattle.failing.specs.Failures.{IfFault};
 ghost use Rattle.cel_patterns.specs.Meaning.{tree_of, is_found};
 ghost use Rattle.cel_patterns.specs.Building.{IsReason, AnswersText, FindsAlike};
 
@@ -31,7 +32,7 @@ impl Built {
 
     pub fn new(alloc: Global, text: &str) -> Result<Built, Unbuilt>
         ensures text { IfOk result (λ b. built_text b ≡ text.now) }
-        ensures refused { IfErr result (IsReason text.now) }
+        ensures refused { IfErr result (IfFault (IsReason text.now)) }
     {
         let regex = regex_of(alloc, text)?;
         let program = program_of(alloc, text)?;

@@ -13,4 +13,4 @@ mod unbuilt;
 
 pub use matchers::Matchers;
 pub use patterns::Patterns;
-pub use unbuilt::Unbuilt;
+pub use unbuilt::{PatternFault, Unbuilt};

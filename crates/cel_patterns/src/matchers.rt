@@ -1,6 +1,7 @@
 //! What was built for each pattern, which is kept.
 ghost use Rattle.std.specs.Prelude.{◌≡◌, List, ℕ, IfOk, IfErr, IsSome, Some, None, map, slice_get, option_map};
 ghost use Rattle.std.specs.BTreeMap.{get_by_text};
+ghost use Rattle.failing.specs.Failures.{IfFault};
 ghost use Rattle.cel_patterns.specs.Meaning.{tree_of, is_found};
 ghost use Rattle.cel_patterns.specs.Building.{IsReason};
 ghost use Rattle.cel_patterns.specs.BuiltText.{built_text};
@@ -34,7 +35,7 @@ impl Matchers {
     pub fn finds(&mut self, alloc: Global, pattern: &str, text: &str) -> Result<bool, Unbuilt>
         ensures found { IfOk result (λ found. found ≡ is_found pattern.now text.now) }
         ensures is_pattern { IfOk result (λ _. IsSome (tree_of pattern.now)) }
-        ensures refused { IfErr result (IsReason pattern.now) }
+        ensures refused { IfErr result (IfFault (IsReason pattern.now)) }
     {
         let place = self.place_of(alloc, pattern)?;
         Ok(self.kept[place].finds(alloc, text)?)
@@ -43,7 +44,7 @@ impl Matchers {
     /// Where the pattern stands among what is kept.
     fn place_of(&mut self, alloc: Global, pattern: &str) -> Result<usize, Unbuilt>
         ensures place { IfOk result (λ place. slice_get (texts_of self.new) place ≡ Some pattern.now) }
-        ensures refused { IfErr result (IsReason pattern.now) }
+        ensures refused { IfErr result (IfFault (IsReason pattern.now)) }
     {
         if let Some(place) = self.places.get(pattern) {
             return Ok(*place);
@@ -56,7 +57,7 @@ impl Matchers {
     #[inline(never)]
     fn build(&mut self, alloc: Global, pattern: &str) -> Result<usize, Unbuilt>
         ensures place { IfOk result (λ place. slice_get (texts_of self.new) place ≡ Some pattern.now) }
-        ensures refused { IfErr result (IsReason pattern.now) }
+        ensures refused { IfErr result (IfFault (IsReason pattern.now)) }
     {
         let key = String::from_str(alloc, pattern)?;
         let place = self.kept.len();

@@ -3,11 +3,12 @@ ghost use Rattle.std.specs.Prelude.{◌≡◌, List, ℕ, true, IfOk, IfErr, IsS
 ghost use Rattle.regex.specs.Patterns.{Refuses, default_config};
 ghost use Rattle.regex.specs.Sources.{IsRefusal};
 ghost use Rattle.regex.specs.Failures.{IsRightKind};
+ghost use Rattle.failing.specs.Failures.{IfFault};
+ghost use Rattle.failing.specs.declared.failed.Failed.TheVariants.{OutOfMemory};
 ghost use Rattle.cel_patterns.specs.Meaning.{tree_of};
 ghost use Rattle.cel_patterns.specs.Building.{IsRegexOf, IsProgramOf, IsReason};
-ghost use Rattle.cel_patterns.specs.declared.unbuilt.Unbuilt.TheVariants.{OutOfMemory};
 
-use crate::Unbuilt;
+use crate::{PatternFault, Unbuilt};
 use regex::{Error, Regex};
 use regex_meta::Program;
 use regex_syntax::{Config, ErrorKind, Parsed};
@@ -20,7 +21,7 @@ const MOST_BYTES: usize = 10 << 20;
 pub fn regex_of(alloc: Global, text: &str) -> Result<Regex, Unbuilt>
     ensures regex { IfOk result (IsRegexOf text.now) }
     ensures is_pattern { IfOk result (λ _. IsSome (tree_of text.now)) }
-    ensures refused { IfErr result (IsReason text.now) }
+    ensures refused { IfErr result (IfFault (IsReason text.now)) }
 {
     match Regex::new(alloc, text) {
         Ok(regex) => Ok(regex),
@@ -32,13 +33,13 @@ pub fn regex_of(alloc: Global, text: &str) -> Result<Regex, Unbuilt>
 fn refused(error: Error) -> Unbuilt
     ensures memory { result ≡ OutOfMemory → error ≡ Error.OutOfMemory }
     ensures reason { (text : List ℕ) → IsRefusal default_config text error → IsRightKind default_config text error
-        → IsReason text result }
+        → IfFault (IsReason text) result }
 {
     match error {
         Error::OutOfMemory => Unbuilt::OutOfMemory,
-        Error::Syntax(_) => Unbuilt::NoPattern,
-        Error::CompiledTooBig => Unbuilt::TooLarge,
-        Error::Internal => Unbuilt::TooLarge,
+        Error::Syntax(_) => Unbuilt::Fault(PatternFault::NoPattern),
+        Error::CompiledTooBig => Unbuilt::Fault(PatternFault::TooLarge),
+        Error::Internal => Unbuilt::Fault(PatternFault::TooLarge),
     }
 }
 
@@ -56,7 +57,7 @@ pub fn builds(alloc: Global, text: &str) -> Result<bool, AllocError>
 /// The program of the same text. `regex` lends none of its own.
 pub fn program_of(alloc: Global, text: &str) -> Result<Program, Unbuilt>
     ensures program { IfOk result (IsProgramOf text.now) }
-    ensures refused { IfErr result (IsReason text.now) }
+    ensures refused { IfErr result (IfFault (IsReason text.now)) }
 {
     match regex_syntax::parse(alloc, text, &Config::default()) {
         Ok(parsed) => program_from(alloc, parsed),
@@ -67,26 +68,26 @@ pub fn program_of(alloc: Global, text: &str) -> Result<Program, Unbuilt>
 /// Why a text was not read.
 fn unread(kind: ErrorKind) -> Unbuilt
     ensures memory { result ≡ OutOfMemory → kind ≡ ErrorKind.OutOfMemory }
-    ensures reason { (text : List ℕ) → Refuses default_config text kind → IsReason text result }
+    ensures reason { (text : List ℕ) → Refuses default_config text kind → IfFault (IsReason text) result }
 {
     match kind {
         ErrorKind::OutOfMemory => Unbuilt::OutOfMemory,
-        _ => Unbuilt::NoPattern,
+        _ => Unbuilt::Fault(PatternFault::NoPattern),
     }
 }
 
 /// The program of what was read.
 fn program_from(alloc: Global, parsed: Parsed) -> Result<Program, Unbuilt>
     ensures program { IfOk result (λ p. p.hir ≡ parsed.hir) }
-    ensures refused { (text : List ℕ) → IsSome (tree_of text) → IfErr result (IsReason text) }
+    ensures refused { (text : List ℕ) → IsSome (tree_of text) → IfErr result (IfFault (IsReason text)) }
 {
     let Parsed { hir, names } = parsed;
     let Ok(groups) = u32::try_from(names.len()) else {
-        return Err(Unbuilt::TooLarge);
+        return Err(Unbuilt::Fault(PatternFault::TooLarge));
     };
     match Program::new(alloc, hir, groups, MOST_BYTES) {
         Ok(program) => Ok(program),
         Err(regex_compile::Error::OutOfMemory) => Err(Unbuilt::OutOfMemory),
-        Err(_) => Err(Unbuilt::TooLarge),
+        Err(_) => Err(Unbuilt::Fault(PatternFault::TooLarge)),
     }
 }

@@ -8,7 +8,7 @@ use Rattle.cel_verify.specs.Depths.{greatest_depth}
 use Rattle.cel_verify.specs.Accepted.{IsCounted, IsAccepted, IsRefused, Misplaced, TooDear, AreBounds, AreCapped}
 use Rattle.cel_verify.specs.Accepted.{misplaced_entry, fault, budget}
 use Rattle.cel_verify.specs.declared.fault.VerifyFault.{VerifyFault}
-use Rattle.cel_verify.specs.declared.fault.VerifyError.TheVariants.{Fault}
+use Rattle.failing.specs.declared.failed.Failed.TheVariants.{Fault}
 use Rattle.cel_verify.specs.declared.fault.VerifyRule.TheVariants.{BadTarget, OverBudget}
 use Rattle.cel_verify.specs.Walked.{ceiling}
 use Rattle.cel_verify.proofs.Bounded.{greatest_within}

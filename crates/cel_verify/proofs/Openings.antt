@@ -8,6 +8,7 @@ use Rattle.std.specs.Slice.{IsItemAt}
 use Rattle.std.proofs.lemmas.Bool.{cases_lt, lt-leb, le-leb, le-ltb, lt-ltb, eqb-true, leb-true, leb-false, not-false, and_parts}
 use Rattle.std.proofs.lemmas.List.{reverse-append, length-reverse, get_or-reverse}
 use Rattle.std.proofs.lemmas.Option.{slice_get-get_or, slice_get_past}
+use Rattle.failing.specs.Failures.{Fails}
 use Rattle.cel_value.specs.declared.cel_type.CelType.{CelType}
 use Rattle.cel_value.specs.declared.cel_type.CelType as type
 use Rattle.cel_parse.specs.declared.expr.Loop.{Loop}
@@ -22,14 +23,14 @@ use Rattle.cel_code.specs.declared.image.Image.{Image}
 use Rattle.cel_verify.specs.declared.fault.VerifyRule.{VerifyRule}
 use Rattle.cel_verify.specs.declared.fault.VerifyRule.TheVariants.{WrongKind, TooDeep, OverBudget}
 use Rattle.cel_verify.specs.declared.open_loop.Open.{Open}
-use Rattle.cel_verify.specs.declared.refusal.Refusal.{Refusal}
-use Rattle.cel_verify.specs.declared.refusal.Refusal.TheVariants.{Broken, NoMemory}
+use Rattle.failing.specs.declared.failed.Failed.{Failed}
+use Rattle.failing.specs.declared.failed.Failed.TheVariants.{Fault, OutOfMemory}
 use Rattle.cel_verify.specs.StackTypes.{StackTypes, all_assignable}
 use Rattle.cel_verify.specs.Sound.{Falls, needs, below_all, typed_rule, entry_in, entry_or, opening, with_loop}
 use Rattle.cel_verify.specs.Sound.{enters, empty_rule, range_rule, loop_rule, next_rule, no_items, still_open, in_innermost}
 use Rattle.cel_verify.specs.Sound.{max_depth, max_loops}
 use Rattle.cel_verify.specs.Paths.{is_loop}
-use Rattle.cel_verify.specs.Walked.{Refuses, arrived, Arrives, typed_here, Passes, TakesNone, IsRange, Awaits, Begins, ceiling}
+use Rattle.cel_verify.specs.Walked.{arrived, Arrives, typed_here, Passes, TakesNone, IsRange, Awaits, Begins, ceiling}
 use Rattle.cel_verify.specs.Walked.{entered, shallow}
 
 -- an instruction that begins no loop opens none
@@ -80,12 +81,12 @@ loop_told : (l : Loop) (es : Option StackTypes) (ts : StackTypes) (k : VerifyRul
 loop_told l es [] k e = λ q. cc
 loop_told l es (t ∷ ts) k e = range_told l (limit_of Ranged t) es ts k e
 
-pub refused_loop : (image : Image) (at : ℕ) (l : Loop) (exit : ℕ) (ts : StackTypes) (opens : List Open) (r : Refusal)
-    → Refuses r (loop_rule l (entry_in image.targets exit) ts) → Refuses r (typed_here image at (instr.Loop l exit) ts opens)
-refused_loop image at l exit ts opens (Broken k) h =
+pub refused_loop : (image : Image) (at : ℕ) (l : Loop) (exit : ℕ) (ts : StackTypes) (opens : List Open) (r : Failed VerifyRule)
+    → Fails r (loop_rule l (entry_in image.targets exit) ts) → Fails r (typed_here image at (instr.Loop l exit) ts opens)
+refused_loop image at l exit ts opens (Fault k) h =
     let alike = told_alike (entry_in image.targets (at + 1)) k (loop_told l (entry_in image.targets exit) ts k h) in
     told_typed image at (instr.Loop l exit) ts opens k k h alike
-refused_loop image at l exit ts opens NoMemory h = tt
+refused_loop image at l exit ts opens OutOfMemory h = tt
 
 -- an instruction whose own rule holds
 module _ (image : Image) (at : ℕ) (i : Instr) (ts : StackTypes) (opens behind : List Open) (next : Option StackTypes)
@@ -93,23 +94,23 @@ module _ (image : Image) (at : ℕ) (i : Instr) (ts : StackTypes) (opens behind 
   here_is : typed_here image at i ts opens ≡ arrived image (at + 1) behind (Ok next)
   here_is = ap (λ os. arrived image (at + 1) os (typed_rule image i opens ts)) eo ∙ ap (arrived image (at + 1) behind) et
 
-  refused_there : (r : Refusal) → Refuses r (arrived image (at + 1) behind (Ok next)) → Refuses r (typed_here image at i ts opens)
-  refused_there (Broken k) h = here_is ∙ h
-  refused_there NoMemory h = tt
+  refused_there : (r : Failed VerifyRule) → Fails r (arrived image (at + 1) behind (Ok next)) → Fails r (typed_here image at i ts opens)
+  refused_there (Fault k) h = here_is ∙ h
+  refused_there OutOfMemory h = tt
 
   -- what goes on arrives, or is refused
-  pub passes : (result : Result (Option StackTypes) Refusal) (left : List Open)
+  pub passes : (result : Result (Option StackTypes) (Failed VerifyRule)) (left : List Open)
       → MatchResult result (λ there. Arrives image (at + 1) behind next there × (left ≡ behind))
-      (λ r. Refuses r (arrived image (at + 1) behind (Ok next)))
-      → MatchResult result (λ there. Passes image at i ts opens there left) (λ r. Refuses r (typed_here image at i ts opens))
+      (λ r. Fails r (arrived image (at + 1) behind (Ok next)))
+      → MatchResult result (λ there. Passes image at i ts opens there left) (λ r. Fails r (typed_here image at i ts opens))
   passes (Ok there) left h = record { next = next; holds = here_is ∙ h.0.0; entry = h.0.1; opened = eo ∙ sym h.1 }
   passes (Err r) left h = refused_there r h
 
 -- the same, where no loop is opened
 pub passes_on : (image : Image) (at : ℕ) (i : Instr) (ts : StackTypes) (opens : List Open) (next : Option StackTypes)
-    → is_loop i ≡ false → typed_rule image i opens ts ≡ Ok next → (result : Result (Option StackTypes) Refusal)
-    → MatchResult result (λ there. Arrives image (at + 1) opens next there) (λ r. Refuses r (arrived image (at + 1) opens (Ok next)))
-    → MatchResult result (λ there. Passes image at i ts opens there opens) (λ r. Refuses r (typed_here image at i ts opens))
+    → is_loop i ≡ false → typed_rule image i opens ts ≡ Ok next → (result : Result (Option StackTypes) (Failed VerifyRule))
+    → MatchResult result (λ there. Arrives image (at + 1) opens next there) (λ r. Fails r (arrived image (at + 1) opens (Ok next)))
+    → MatchResult result (λ there. Passes image at i ts opens there opens) (λ r. Fails r (typed_here image at i ts opens))
 passes_on image at i ts opens next plain et (Ok there) h =
     passes image at i ts opens opens next (opening_plain image at i (Some ts) opens plain) et (Ok there) opens (h, refl)
 passes_on image at i ts opens next plain et (Err r) h =
@@ -117,11 +118,11 @@ passes_on image at i ts opens next plain et (Err r) h =
 
 -- the same, where a loop is opened
 pub passes_in : (image : Image) (at : ℕ) (l : Loop) (exit : ℕ) (ts : StackTypes) (opens left : List Open) (o : Open)
-    → Begins image at l exit ts o → (result : Result (Option StackTypes) Refusal)
+    → Begins image at l exit ts o → (result : Result (Option StackTypes) (Failed VerifyRule))
     → MatchResult result (λ there. Arrives image (at + 1) (o ∷ opens) (Some []) there × (left ≡ o ∷ opens))
-    (λ r. Refuses r (arrived image (at + 1) (o ∷ opens) (Ok (Some []))))
+    (λ r. Fails r (arrived image (at + 1) (o ∷ opens) (Ok (Some []))))
     → MatchResult result (λ there. Passes image at (instr.Loop l exit) ts opens there left)
-    (λ r. Refuses r (typed_here image at (instr.Loop l exit) ts opens))
+    (λ r. Fails r (typed_here image at (instr.Loop l exit) ts opens))
 passes_in image at l exit ts opens left o b result h =
     passes image at (instr.Loop l exit) ts opens (o ∷ opens) (Some []) (b.opens opens) b.holds result left h
 
@@ -145,13 +146,13 @@ begun image at l exit ts below after span r a =
     }
 
 -- a loop that may not begin over a range
-pub not_begun : (image : Image) (l : Loop) (exit : ℕ) (ts below : StackTypes) (span : Span) (r : Refusal) → IsRange ts span below
-    → Refuses r (empty_rule (entry_in image.targets exit) below (loop_type l no_items type.Never))
-    → Refuses r (loop_rule l (entry_in image.targets exit) ts)
-not_begun image l exit ts below span (Broken k) r h =
+pub not_begun : (image : Image) (l : Loop) (exit : ℕ) (ts below : StackTypes) (span : Span) (r : Failed VerifyRule) → IsRange ts span below
+    → Fails r (empty_rule (entry_in image.targets exit) below (loop_type l no_items type.Never))
+    → Fails r (loop_rule l (entry_in image.targets exit) ts)
+not_begun image l exit ts below span (Fault k) r h =
     let entry = entry_in image.targets exit in
     ap (loop_rule l entry) r.is ∙ ap (λ s. range_rule l s entry below) r.ranged ∙ h
-not_begun image l exit ts below span NoMemory r h = tt
+not_begun image l exit ts below span OutOfMemory r h = tt
 
 -- no range is on top
 pub no_range : (l : Loop) (entry : Option StackTypes) (ts below : StackTypes) (t : CelType) → ts ≡ t ∷ below
@@ -174,18 +175,18 @@ module _ (image : Image) (l : Loop) (exit : ℕ) (below es : StackTypes) (s : Ce
       ≡ needs (all_assignable (s ∷ below) es) WrongKind (Ok (Some []))
   rule_is = ap (λ e. empty_rule e below (loop_type l no_items type.Never)) entry ∙ ap (empty_rule (Some es) below) empty
 
-  pub awaits : (result : Result StackTypes Refusal)
+  pub awaits : (result : Result StackTypes (Failed VerifyRule))
       → MatchResult result (λ after. (after ≡ es) × (all_assignable (s ∷ below) after ≡ true))
-      (λ r. Refuses r (needs (all_assignable (s ∷ below) es) WrongKind (Ok (Some []))))
+      (λ r. Fails r (needs (all_assignable (s ∷ below) es) WrongKind (Ok (Some []))))
       → MatchResult result (λ after. Awaits image l exit below after)
-      (λ r. Refuses r (empty_rule (entry_in image.targets exit) below (loop_type l no_items type.Never)))
+      (λ r. Fails r (empty_rule (entry_in image.targets exit) below (loop_type l no_items type.Never)))
   awaits (Ok after) h =
       record {
         entry = entry ∙ ap Some (sym h.0);
         holds = ap (empty_rule (Some after) below) empty ∙ met (all_assignable (s ∷ below) after) WrongKind (Ok (Some [])) h.1;
       }
-  awaits (Err (Broken k)) h = rule_is ∙ h
-  awaits (Err NoMemory) h = tt
+  awaits (Err (Fault k)) h = rule_is ∙ h
+  awaits (Err OutOfMemory) h = tt
 
 -- an entry of no types, or of some
 pub none_taken : (entry : Option StackTypes) → entry ≡ None → TakesNone entry

@@ -7,8 +7,9 @@ use Rattle.std.proofs.lemmas.Option.{slice_get_cases}
 use Rattle.cel_code.specs.declared.instr.Instr.{Instr}
 use Rattle.cel_code.specs.declared.image.Image.{Image}
 use Rattle.cel_verify.specs.declared.fault.VerifyRule.TheVariants.{BadConstant, BadTarget, BadNesting}
-use Rattle.cel_verify.specs.declared.fault.VerifyError.{VerifyError}
-use Rattle.cel_verify.specs.declared.fault.VerifyError.TheVariants.{OutOfMemory, Fault}
+use Rattle.failing.specs.declared.failed.Failed.{Failed}
+use Rattle.cel_verify.specs.declared.fault.VerifyFault.{VerifyFault}
+use Rattle.failing.specs.declared.failed.Failed.TheVariants.{OutOfMemory, Fault}
 use Rattle.cel_verify.specs.declared.measures.Measures.{Measures}
 use Rattle.cel_verify.specs.declared.open_loop.Open.{Open}
 use Rattle.cel_verify.specs.Accepted.{IsCounted, IsRefused, Breaks}
@@ -76,7 +77,7 @@ no_end (x ∷ xs) zero h e = cc
 no_end (x ∷ xs) (suc i) h e = no_end xs i (omega arith) e
 
 -- an instruction that breaks its rule, where the counts are within their limits and END is last and alone
-pub walk_refused : (image : Image) (e : VerifyError) → IsCounted image → EndsOnce image.code → IsWalkFault image e
+pub walk_refused : (image : Image) (e : Failed VerifyFault) → IsCounted image → EndsOnce image.code → IsWalkFault image e
     → IsRefused image e
 walk_refused image OutOfMemory k n h = tt
 walk_refused image (Fault f) k n h =

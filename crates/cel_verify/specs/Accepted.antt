@@ -8,8 +8,8 @@ use Rattle.cel_code.specs.declared.image.Target.{Target}
 use Rattle.cel_verify.specs.declared.fault.VerifyRule.{VerifyRule}
 use Rattle.cel_verify.specs.declared.fault.VerifyRule.TheVariants.{BadTarget, TooDeep, OverBudget}
 use Rattle.cel_verify.specs.declared.fault.VerifyFault.{VerifyFault}
-use Rattle.cel_verify.specs.declared.fault.VerifyError.{VerifyError}
-use Rattle.cel_verify.specs.declared.fault.VerifyError.TheVariants.{OutOfMemory, Fault}
+use Rattle.failing.specs.declared.failed.Failed.{Failed}
+use Rattle.failing.specs.declared.failed.Failed.TheVariants.{OutOfMemory, Fault}
 use Rattle.cel_verify.specs.Sound.{EndsOnce, IsSound, IsFirstFault}
 use Rattle.cel_verify.specs.Paths.{IsRouteCharge, IsRouteLength, IsPathCost, IsPathSteps}
 use Rattle.cel_verify.specs.Depths.{greatest_depth, greatest_nesting}
@@ -92,6 +92,6 @@ pub data IsFault (image : Image) (f : VerifyFault) : Type 0 where
       → (charge : ℕ) → IsRouteCharge image charge → budget < charge → f ≡ fault OverBudget (length image.code - 1) → IsFault image f
 
 -- a refusal: for want of memory, or for the image's fault, with which it is not accepted
-abbrev pub IsRefused : Image → VerifyError → Type 0
+abbrev pub IsRefused : Image → Failed VerifyFault → Type 0
 IsRefused image OutOfMemory = Unit {0}
 IsRefused image (Fault f) = IsFault image f × ¬ IsAccepted image

@@ -15,11 +15,12 @@ use Rattle.cel_code.specs.declared.instr.Instr.TheVariants as instr
 use Rattle.cel_code.specs.declared.instr.Instr.TheVariants.{End}
 use Rattle.cel_code.specs.declared.image.Image.{Image}
 use Rattle.cel_operators.specs.Operators.{Row, type_of_one, type_of_two, greatest_of_one, greatest_of_two}
+use Rattle.cel_verify.specs.declared.fault.VerifyRule.{VerifyRule}
 use Rattle.cel_verify.specs.declared.fault.VerifyRule.TheVariants.{Underflow, WrongKind, TooDeep, OverBudget}
-use Rattle.cel_verify.specs.declared.fault.VerifyError.{VerifyError}
-use Rattle.cel_verify.specs.declared.fault.VerifyError.TheVariants.{OutOfMemory, Fault}
-use Rattle.cel_verify.specs.declared.refusal.Refusal.{Refusal}
-use Rattle.cel_verify.specs.declared.refusal.Refusal.TheVariants.{Broken, NoMemory}
+use Rattle.failing.specs.declared.failed.Failed.{Failed}
+use Rattle.failing.specs.Failures.{Fails}
+use Rattle.cel_verify.specs.declared.fault.VerifyFault.{VerifyFault}
+use Rattle.failing.specs.declared.failed.Failed.TheVariants.{OutOfMemory, Fault}
 use Rattle.cel_verify.specs.StackTypes.{StackTypes, all_assignable}
 use Rattle.cel_verify.specs.declared.open_loop.Open.{Open}
 use Rattle.cel_verify.specs.declared.measures.Measures.{Measures}
@@ -28,14 +29,9 @@ use Rattle.cel_verify.specs.Sound.{below_all, no_items, empty_rule, loop_rule, o
 use Rattle.cel_verify.specs.Paths.{charge_in, charge_at, items_on_top, times_at, goes_to, IsGreatest}
 use Rattle.cel_verify.specs.Depths.{operands_of, deepest, most_open}
 
--- a rule's refusal: the rule that is broken, or want of memory
-abbrev pub Refuses : Refusal → Falls → Type 0
-Refuses (Broken r) falls = falls ≡ Err r
-Refuses NoMemory falls = Unit {0}
-
 -- an answer by a rule: what goes on is what the rule gives, and a refusal is the rule's
-abbrev pub Follows : Result (Option StackTypes) Refusal → Falls → Type 0
-Follows answer falls = MatchResult answer (λ next. falls ≡ Ok next) (λ r. Refuses r falls)
+abbrev pub Follows : Result (Option StackTypes) (Failed VerifyRule) → Falls → Type 0
+Follows answer falls = MatchResult answer (λ next. falls ≡ Ok next) (λ r. Fails r falls)
 
 -- an operator at the type of one operand
 abbrev pub rule_of_one : Row → StackTypes → Falls
@@ -173,7 +169,7 @@ abbrev pub AllHold : Image → Type 0
 AllHold image = (at : ℕ) → at < length image.code → Holds image at
 
 -- the walk's refusal
-abbrev pub IsWalkFault : Image → VerifyError → Type 0
+abbrev pub IsWalkFault : Image → Failed VerifyFault → Type 0
 IsWalkFault image OutOfMemory = Unit {0}
 IsWalkFault image (Fault f) = IsFirstFault image f.at f.rule
 

@@ -1,9 +1,5 @@
-ghost use Rattle.std.specs.Prelude.{◌≡◌};
-ghost use Rattle.cel_verify.specs.declared.fault.VerifyError.TheVariants.{OutOfMemory};
-
-use std::alloc::{AllocError, AllocFailed};
+use failing::Failed;
 use std::fmt;
-use thiserror::Error;
 
 /// Which rule of the verifier an image breaks.
 #[derive(Clone, Copy, Debug, PartialEq, Eq)]
@@ -38,27 +34,8 @@ impl fmt::Display for VerifyFault {
     }
 }
 
+/// Why an instruction is refused.
+pub type Refusal = Failed<VerifyRule>;
+
 /// Why an image is not accepted.
-#[derive(Clone, Copy, Debug, PartialEq, Eq, Error)]
-pub enum VerifyError {
-    #[error("out of memory")]
-    OutOfMemory,
-    #[error("{0}")]
-    Fault(VerifyFault),
-}
-
-impl From<AllocError> for VerifyError {
-    ghost from_gives = { λ _ e. e ≡ OutOfMemory };
-
-    fn from(_error: AllocError) -> VerifyError {
-        VerifyError::OutOfMemory
-    }
-}
-
-impl<T: Drop> From<AllocFailed<T>> for VerifyError {
-    ghost from_gives = { λ _ e. e ≡ OutOfMemory };
-
-    fn from(_error: AllocFailed<T>) -> VerifyError {
-        VerifyError::OutOfMemory
-    }
-}
+pub type VerifyError = Failed<VerifyFault>;

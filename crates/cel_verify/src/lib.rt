@@ -17,7 +17,6 @@ mod open_loop;
 mod opens;
 mod placement;
 mod program;
-mod refusal;
 mod rules;
 mod sums;
 mod targets;

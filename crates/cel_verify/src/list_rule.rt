@@ -6,8 +6,7 @@ ghost use Rattle.cel_code.specs.Machine.{taken_off};
 ghost use Rattle.cel_verify.specs.Sound.{listed_rule, given as given_rule};
 ghost use Rattle.cel_verify.specs.Walked.{Follows};
 
-use crate::fault::VerifyRule;
-use crate::refusal::Refusal;
+use crate::fault::{Refusal, VerifyRule};
 use crate::rules::given;
 use crate::type_stack::TypeStack;
 use cel_check::{Untyped, join_next, plain_list};
@@ -23,7 +22,7 @@ pub fn listed(
     ensures { Follows result (listed_rule (taken_off count [] types)) }
 {
     let Some(items) = taken_off(alloc, count, &mut types)? else {
-        return Err(Refusal::Broken(VerifyRule::Underflow));
+        return Err(Refusal::Fault(VerifyRule::Underflow));
     };
     list_given(alloc, items, types)
 }
@@ -62,8 +61,8 @@ fn list_given(
     let joined = join_all(alloc, items)?;
     match plain_list(alloc, count, joined) {
         Ok(answer) => given(Ok(answer), types),
-        Err(Untyped::Rule(rule)) => given(Err(rule), types),
-        Err(Untyped::OutOfMemory) => Err(Refusal::NoMemory),
+        Err(Untyped::Fault(rule)) => given(Err(rule), types),
+        Err(Untyped::OutOfMemory) => Err(Refusal::OutOfMemory),
     }
 }
 

@@ -1,6 +1,7 @@
 //! The rules of the instructions of loops.
 
 ghost use Rattle.std.specs.Prelude.{◌≡◌, ◌<◌, ◌∷◌, [], true, Option, Some, Ok, MatchResult, length, reverse, slice_get};
+ghost use Rattle.failing.specs.Failures.{Fails};
 ghost use Rattle.cel_value.specs.declared.cel_type.CelType as type;
 ghost use Rattle.cel_parse.specs.declared.expr.Loop.{Loop as LoopKind};
 ghost use Rattle.cel_check.specs.Loops.{loop_type as type_of_loop};
@@ -9,13 +10,12 @@ ghost use Rattle.cel_verify.specs.StackTypes.{StackTypes, all_assignable};
 ghost use Rattle.cel_verify.specs.Sound.{needs, entry_in, no_items, span_of as span_of_open};
 ghost use Rattle.cel_verify.specs.Sound.{local_rule, item_rule, when_rule, next_rule, closing_rule, loop_rule, empty_rule};
 ghost use Rattle.cel_verify.specs.Arrivals.{AreArrivals};
-ghost use Rattle.cel_verify.specs.Walked.{Follows, Refuses, IsRange, Begins, Awaits};
+ghost use Rattle.cel_verify.specs.Walked.{Follows, IsRange, Begins, Awaits};
 
 use crate::arrivals::Arrivals;
-use crate::fault::VerifyRule;
+use crate::fault::{Refusal, VerifyRule};
 use crate::open_loop::Open;
 use crate::opens::Opens;
-use crate::refusal::Refusal;
 use crate::targets::entry;
 use crate::type_stack::TypeStack;
 use cel_check::{Span, Untyped, is_truth, loop_type, span_of};
@@ -33,7 +33,7 @@ pub fn local(
     ensures { Follows result (local_rule (slice_get opens.now within) types) }
 {
     let Some(around) = opens.get(within) else {
-        return Err(Refusal::Broken(VerifyRule::Underflow));
+        return Err(Refusal::Fault(VerifyRule::Underflow));
     };
     types.push(around.item.get().copy()?)?;
     Ok(Some(types))
@@ -44,7 +44,7 @@ pub fn item(mut types: TypeStack) -> Result<Option<TypeStack>, Refusal>
     ensures { Follows result (item_rule types) }
 {
     if types.pop().is_some() {
-        return Err(Refusal::Broken(VerifyRule::WrongKind));
+        return Err(Refusal::Fault(VerifyRule::WrongKind));
     }
     Ok(Some(types))
 }
@@ -54,10 +54,10 @@ pub fn when(mut types: TypeStack) -> Result<Option<TypeStack>, Refusal>
     ensures { Follows result (when_rule types) }
 {
     let Some(t) = types.pop() else {
-        return Err(Refusal::Broken(VerifyRule::Underflow));
+        return Err(Refusal::Fault(VerifyRule::Underflow));
     };
     if types.pop().is_some() || !is_truth(&t) {
-        return Err(Refusal::Broken(VerifyRule::WrongKind));
+        return Err(Refusal::Fault(VerifyRule::WrongKind));
     }
     Ok(Some(types))
 }
@@ -72,14 +72,14 @@ pub fn next(
     ensures { Follows result (next_rule opens.now types) }
 {
     let Some(t) = types.pop() else {
-        return Err(Refusal::Broken(VerifyRule::Underflow));
+        return Err(Refusal::Fault(VerifyRule::Underflow));
     };
     let Some(around) = opens.innermost() else {
-        return Err(Refusal::Broken(VerifyRule::WrongKind));
+        return Err(Refusal::Fault(VerifyRule::WrongKind));
     };
     let below = types.pop();
     if below.is_some() {
-        return Err(Refusal::Broken(VerifyRule::WrongKind));
+        return Err(Refusal::Fault(VerifyRule::WrongKind));
     }
     closing(alloc, around, &t)
 }
@@ -90,8 +90,8 @@ fn closing(alloc: Global, around: &Open, body: &CelType) -> Result<Option<TypeSt
 {
     match loop_type(alloc, around.mode, around.max, around.item.get(), body) {
         Ok(answer) => leads_on(around, &answer),
-        Err(Untyped::Rule(_)) => Err(Refusal::Broken(VerifyRule::WrongKind)),
-        Err(Untyped::OutOfMemory) => Err(Refusal::NoMemory),
+        Err(Untyped::Fault(_)) => Err(Refusal::Fault(VerifyRule::WrongKind)),
+        Err(Untyped::OutOfMemory) => Err(Refusal::OutOfMemory),
     }
 }
 
@@ -100,7 +100,7 @@ fn leads_on(around: &Open, answer: &CelType) -> Result<Option<TypeStack>, Refusa
     ensures { Follows result (closing_rule around.now (Ok answer.now)) }
 {
     if !around.below.fits_under(answer, around.after.as_slice()) {
-        return Err(Refusal::Broken(VerifyRule::WrongKind));
+        return Err(Refusal::Fault(VerifyRule::WrongKind));
     }
     Ok(None)
 }
@@ -119,7 +119,7 @@ pub fn opened(
     requires inside { exit < length image.now.code }
     ensures { MatchResult result
         (λ o. Begins image.now at mode exit types o)
-        (λ r. Refuses r (loop_rule mode (entry_in image.now.targets exit) types)) }
+        (λ r. Fails r (loop_rule mode (entry_in image.now.targets exit) types)) }
 {
     let span = range_taken(alloc, &mut types)?;
     let after = awaited(alloc, image, arrivals, mode, exit, &types)?;
@@ -138,15 +138,15 @@ pub fn opened(
 fn range_taken(alloc: Global, types: &mut TypeStack) -> Result<Span, Refusal>
     ensures { MatchResult result
         (λ span. IsRange types.old span types.new)
-        (λ r. (mode : LoopKind) (entry : Option StackTypes) → Refuses r (loop_rule mode entry types.old)) }
+        (λ r. (mode : LoopKind) (entry : Option StackTypes) → Fails r (loop_rule mode entry types.old)) }
 {
     let Some(range) = types.pop() else {
-        return Err(Refusal::Broken(VerifyRule::Underflow));
+        return Err(Refusal::Fault(VerifyRule::Underflow));
     };
     match span_of(alloc, &range) {
         Ok(Some(span)) => Ok(span),
-        Ok(None) => Err(Refusal::Broken(VerifyRule::WrongKind)),
-        Err(_) => Err(Refusal::NoMemory),
+        Ok(None) => Err(Refusal::Fault(VerifyRule::WrongKind)),
+        Err(_) => Err(Refusal::OutOfMemory),
     }
 }
 
@@ -163,15 +163,15 @@ fn awaited(
     requires inside { exit < length image.now.code }
     ensures { MatchResult result
         (λ after. Awaits image.now mode exit below.now after)
-        (λ r. Refuses r (empty_rule (entry_in image.now.targets exit) below.now (type_of_loop mode no_items type.Never))) }
+        (λ r. Fails r (empty_rule (entry_in image.now.targets exit) below.now (type_of_loop mode no_items type.Never))) }
 {
     let Some(entry) = entry(image, arrivals, exit) else {
-        return Err(Refusal::Broken(VerifyRule::WrongKind));
+        return Err(Refusal::Fault(VerifyRule::WrongKind));
     };
     match loop_type(alloc, mode, 0, &CelType::Never, &CelType::Never) {
         Ok(empty) => taken_in(alloc, below, &empty, entry),
-        Err(Untyped::Rule(_)) => Err(Refusal::Broken(VerifyRule::WrongKind)),
-        Err(Untyped::OutOfMemory) => Err(Refusal::NoMemory),
+        Err(Untyped::Fault(_)) => Err(Refusal::Fault(VerifyRule::WrongKind)),
+        Err(Untyped::OutOfMemory) => Err(Refusal::OutOfMemory),
     }
 }
 
@@ -184,10 +184,10 @@ fn taken_in(
 ) -> Result<TypeStack, Refusal>
     ensures { MatchResult result
         (λ after. (after ≡ reverse entry.now) × (all_assignable (top.now ∷ below.now) after ≡ true))
-        (λ r. Refuses r (needs (all_assignable (top.now ∷ below.now) (reverse entry.now)) WrongKind (Ok (Some [])))) }
+        (λ r. Fails r (needs (all_assignable (top.now ∷ below.now) (reverse entry.now)) WrongKind (Ok (Some [])))) }
 {
     if !below.fits_under(top, entry) {
-        return Err(Refusal::Broken(VerifyRule::WrongKind));
+        return Err(Refusal::Fault(VerifyRule::WrongKind));
     }
     Ok(TypeStack::from_slice(alloc, entry)?)
 }

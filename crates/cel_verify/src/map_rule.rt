@@ -3,7 +3,7 @@
 ghost use Rattle.std.specs.Prelude.{◌≡◌, ◌+◌, ◌-◌, ◌^◌, ◌<◌, min, [], ◌∷◌, ◌++◌, length, reverse, IfOk, MatchOption};
 ghost use Rattle.cel_operators.specs.Lists.{join_all};
 ghost use Rattle.cel_operators.specs.Maps.{entries_type, key_limit, key_greatest, keys_by_turns, values_by_turns};
-ghost use Rattle.cel_operators.specs.Operators.{Tells};
+ghost use Rattle.failing.specs.Failures.{Answers};
 ghost use Rattle.cel_operators.specs.declared.operands.Want.TheVariants.{Characters};
 ghost use Rattle.cel_operators.specs.Wants.{limit_of};
 ghost use Rattle.cel_code.specs.Machine.{taken_off};
@@ -11,9 +11,8 @@ ghost use Rattle.cel_verify.specs.Sound.{mapped_rule, given as given_rule};
 ghost use Rattle.cel_verify.specs.Paths.{mapped_charge};
 ghost use Rattle.cel_verify.specs.Walked.{Follows};
 
-use crate::fault::VerifyRule;
+use crate::fault::{Refusal, VerifyRule};
 use crate::list_rule::taken_off;
-use crate::refusal::Refusal;
 use crate::rules::given;
 use crate::type_stack::TypeStack;
 use cel_check::{Untyped, greater_limit, join_next, map_type, text_limit};
@@ -29,10 +28,10 @@ pub fn mapped(
     ensures { Follows result (mapped_rule (taken_off (count + count) [] types)) }
 {
     if count > types.len() / 2 {
-        return Err(Refusal::Broken(VerifyRule::Underflow));
+        return Err(Refusal::Fault(VerifyRule::Underflow));
     }
     let Some(entries) = taken_off(alloc, count + count, &mut types)? else {
-        return Err(Refusal::Broken(VerifyRule::Underflow));
+        return Err(Refusal::Fault(VerifyRule::Underflow));
     };
     map_given(alloc, entries, types)
 }
@@ -47,14 +46,14 @@ fn map_given(
 {
     match entries_type(alloc, entries.as_slice()) {
         Ok(answer) => given(Ok(answer), types),
-        Err(Untyped::Rule(rule)) => given(Err(rule), types),
-        Err(Untyped::OutOfMemory) => Err(Refusal::NoMemory),
+        Err(Untyped::Fault(rule)) => given(Err(rule), types),
+        Err(Untyped::OutOfMemory) => Err(Refusal::OutOfMemory),
     }
 }
 
 // The type of a map of keys and values of these types by turns, the first one last.
 fn entries_type(alloc: Global, entries: &[CelType]) -> Result<CelType, Untyped>
-    ensures { Tells result (entries_type (reverse entries.now)) }
+    ensures { Answers (entries_type (reverse entries.now)) result }
 {
     let joined = join_values(alloc, entries)?;
     map_type(alloc, entries.len() / 2, key_limit(entries), joined)

@@ -1,4 +1,5 @@
 ghost use Rattle.std.specs.Prelude.{◌≡◌, ◌↔◌, ◌≤◌, true, List, IsTrue, Err, IfOk, IfErr, MatchOption, MatchResult, length};
+ghost use Rattle.failing.specs.declared.failed.Failed.TheVariants as failed;
 ghost use Rattle.cel_operators.specs.Outcomes.{Outcome, slots_fit};
 ghost use Rattle.cel_verify.specs.Sound.{EndsOnce, IsSound, IsWalked, max_depth as most_operands, max_loops as most_loops};
 ghost use Rattle.cel_verify.specs.Paths.{HasGreatest, IsRouteCharge, IsRouteLength, IsPathCost, IsPathSteps};
@@ -148,7 +149,7 @@ fn bounded(alloc: Global, image: &Image, measures: Measures) -> Result<Bounds, A
 }
 
 fn refuse(rule: VerifyRule, at: usize) -> Result<Bounds, VerifyError>
-    ensures { result ≡ Err (VerifyError.Fault (fault rule at)) }
+    ensures { result ≡ Err (failed.Fault (fault rule at)) }
 {
     Err(VerifyError::Fault(VerifyFault { rule, at }))
 }

@@ -13,12 +13,11 @@ ghost use Rattle.cel_verify.specs.Walked.{Follows, rule_of_one, rule_of_two};
 
 use crate::arrivals::Arrivals;
 use crate::constants::{constant_text, constant_type};
-use crate::fault::VerifyRule;
+use crate::fault::{Refusal, VerifyRule};
 use crate::list_rule::listed;
 use crate::loops::{item, local, next, when};
 use crate::map_rule::mapped;
 use crate::opens::Opens;
-use crate::refusal::Refusal;
 use crate::targets::entry;
 use crate::type_stack::TypeStack;
 use cel_check::{Operands, Operator, TextOperator, TypeRule, Untyped, is_truth};
@@ -47,7 +46,7 @@ pub fn typed(
         Instr::Local(within) => local(opens, within, types),
         Instr::Op(code) => match Operator::from_code(code) {
             Some(op) => operation(alloc, op, types),
-            None => Err(Refusal::Broken(VerifyRule::BadConstant)),
+            None => Err(Refusal::Fault(VerifyRule::BadConstant)),
         },
         Instr::WithText(op, number) => with_text(image, op, number, types),
         Instr::List(count) => listed(alloc, count, types),
@@ -72,7 +71,7 @@ fn constant(
     ensures { Follows result (constant_rule (constant_type (slice_get image.now.constants number)) types) }
 {
     let Some(cel_type) = constant_type(image, number) else {
-        return Err(Refusal::Broken(VerifyRule::BadConstant));
+        return Err(Refusal::Fault(VerifyRule::BadConstant));
     };
     types.push(cel_type)?;
     Ok(Some(types))
@@ -82,7 +81,7 @@ fn slot(image: &Image, number: usize, mut types: TypeStack) -> Result<Option<Typ
     ensures { Follows result (constant_rule (slice_get image.now.slots number) types) }
 {
     let Some(cel_type) = image.slots.get(number) else {
-        return Err(Refusal::Broken(VerifyRule::BadConstant));
+        return Err(Refusal::Fault(VerifyRule::BadConstant));
     };
     types.push(cel_type.copy()?)?;
     Ok(Some(types))
@@ -101,7 +100,7 @@ fn operation_on_one(op: Operator, mut types: TypeStack) -> Result<Option<TypeSta
     ensures { Follows result (rule_of_one (row op) types) }
 {
     let Some(s) = types.pop() else {
-        return Err(Refusal::Broken(VerifyRule::Underflow));
+        return Err(Refusal::Fault(VerifyRule::Underflow));
     };
     given(op.type_of_one(&s), types)
 }
@@ -114,10 +113,10 @@ fn operation_on_two(
     ensures { Follows result (rule_of_two (row op) types) }
 {
     let Some(t) = types.pop() else {
-        return Err(Refusal::Broken(VerifyRule::Underflow));
+        return Err(Refusal::Fault(VerifyRule::Underflow));
     };
     let Some(s) = types.pop() else {
-        return Err(Refusal::Broken(VerifyRule::Underflow));
+        return Err(Refusal::Fault(VerifyRule::Underflow));
     };
     given_of_two(alloc, op, &s, &t, types)
 }
@@ -133,7 +132,7 @@ fn with_text(
 {
     match constant_text(image, number) {
         Some(text) => operation_with(op, text, types),
-        None => Err(Refusal::Broken(VerifyRule::BadConstant)),
+        None => Err(Refusal::Fault(VerifyRule::BadConstant)),
     }
 }
 
@@ -145,12 +144,12 @@ fn operation_with(
     ensures { Follows result (rule_of_one (row_with op text.now) types) }
 {
     let Some(s) = types.pop() else {
-        return Err(Refusal::Broken(VerifyRule::Underflow));
+        return Err(Refusal::Fault(VerifyRule::Underflow));
     };
     match op.type_of(text, &s) {
         Ok(answer) => given(Ok(answer), types),
-        Err(Untyped::Rule(rule)) => given(Err(rule), types),
-        Err(Untyped::OutOfMemory) => Err(Refusal::NoMemory),
+        Err(Untyped::Fault(rule)) => given(Err(rule), types),
+        Err(Untyped::OutOfMemory) => Err(Refusal::OutOfMemory),
     }
 }
 
@@ -165,8 +164,8 @@ fn given_of_two(
 {
     match op.type_of_two(alloc, s, t) {
         Ok(answer) => given(Ok(answer), types),
-        Err(Untyped::Rule(rule)) => given(Err(rule), types),
-        Err(Untyped::OutOfMemory) => Err(Refusal::NoMemory),
+        Err(Untyped::Fault(rule)) => given(Err(rule), types),
+        Err(Untyped::OutOfMemory) => Err(Refusal::OutOfMemory),
     }
 }
 
@@ -182,8 +181,8 @@ pub fn given(
             types.push(answer)?;
             Ok(Some(types))
         }
-        Err(TypeRule::TooLarge) => Err(Refusal::Broken(VerifyRule::OverBudget)),
-        Err(_) => Err(Refusal::Broken(VerifyRule::WrongKind)),
+        Err(TypeRule::TooLarge) => Err(Refusal::Fault(VerifyRule::OverBudget)),
+        Err(_) => Err(Refusal::Fault(VerifyRule::WrongKind)),
     }
 }
 
@@ -210,11 +209,11 @@ fn test(
     ensures { Follows result (test_rule (entry_in image.now.targets to) types) }
 {
     let Some(t) = types.pop() else {
-        return Err(Refusal::Broken(VerifyRule::Underflow));
+        return Err(Refusal::Fault(VerifyRule::Underflow));
     };
     types.push(CelType::Bool)?;
     if !(is_truth(&t) && enters(image, arrivals, to, &types)) {
-        return Err(Refusal::Broken(VerifyRule::WrongKind));
+        return Err(Refusal::Fault(VerifyRule::WrongKind));
     }
     types.pop();
     types.push(t)?;
@@ -225,13 +224,13 @@ fn both_sides(mut types: TypeStack) -> Result<Option<TypeStack>, Refusal>
     ensures { Follows result (join_rule types) }
 {
     let Some(t) = types.pop() else {
-        return Err(Refusal::Broken(VerifyRule::Underflow));
+        return Err(Refusal::Fault(VerifyRule::Underflow));
     };
     let Some(s) = types.pop() else {
-        return Err(Refusal::Broken(VerifyRule::Underflow));
+        return Err(Refusal::Fault(VerifyRule::Underflow));
     };
     if !(is_truth(&s) && is_truth(&t)) {
-        return Err(Refusal::Broken(VerifyRule::WrongKind));
+        return Err(Refusal::Fault(VerifyRule::WrongKind));
     }
     types.push(CelType::Bool)?;
     Ok(Some(types))
@@ -250,12 +249,12 @@ fn condition(
     ensures { Follows result (cond_rule (entry_in image.now.targets if_false) (entry_in image.now.targets if_error) types) }
 {
     let Some(t) = types.pop() else {
-        return Err(Refusal::Broken(VerifyRule::Underflow));
+        return Err(Refusal::Fault(VerifyRule::Underflow));
     };
     let holds = is_truth(&t) && enters(image, arrivals, if_false, &types);
     types.push(CelType::Never)?;
     if !(holds && enters(image, arrivals, if_error, &types)) {
-        return Err(Refusal::Broken(VerifyRule::WrongKind));
+        return Err(Refusal::Fault(VerifyRule::WrongKind));
     }
     types.pop();
     Ok(Some(types))
@@ -272,7 +271,7 @@ fn jump(
     ensures { Follows result (jump_rule (entry_in image.now.targets to) types.now) }
 {
     if !enters(image, arrivals, to, types) {
-        return Err(Refusal::Broken(VerifyRule::WrongKind));
+        return Err(Refusal::Fault(VerifyRule::WrongKind));
     }
     Ok(None)
 }
@@ -281,10 +280,10 @@ fn end(result_type: &CelType, mut types: TypeStack) -> Result<Option<TypeStack>,
     ensures { Follows result (end_rule result_type.now types) }
 {
     let Some(t) = types.pop() else {
-        return Err(Refusal::Broken(VerifyRule::Underflow));
+        return Err(Refusal::Fault(VerifyRule::Underflow));
     };
     if types.pop().is_some() || !assignable(&t, result_type) {
-        return Err(Refusal::Broken(VerifyRule::WrongKind));
+        return Err(Refusal::Fault(VerifyRule::WrongKind));
     }
     Ok(None)
 }

@@ -1,20 +1,20 @@
 ghost use Rattle.std.specs.Prelude.{◌≡◌, ◌+◌, ◌<◌, ◌≤◌, ◌^◌, ◌||◌, ◌∷◌, [], Some, Ok, Err, false, IsTrue, IfOk, MatchResult};
 ghost use Rattle.std.specs.Prelude.{length, nat_lt, slice_get};
 ghost use Rattle.std.specs.List.{AllByRecursion};
+ghost use Rattle.failing.specs.Failures.{Fails};
 ghost use Rattle.cel_verify.specs.Sound.{entry_in, jumps_of, max_depth as most_operands, max_loops as most_loops};
 ghost use Rattle.cel_verify.specs.Arrivals.{AreArrivals};
-ghost use Rattle.cel_verify.specs.Walked.{Refuses, Advances, AllHold, AreMeasures, IsWalkFault, Arrives, Passes, TakesNone};
+ghost use Rattle.cel_verify.specs.Walked.{Advances, AllHold, AreMeasures, IsWalkFault, Arrives, Passes, TakesNone};
 ghost use Rattle.cel_verify.specs.Walked.{entered, shallow};
 ghost use Rattle.cel_verify.specs.Walked.{arrived, labelled, rule_here, typed_here};
 
 use crate::arrivals::Arrivals;
-use crate::fault::{VerifyError, VerifyFault, VerifyRule};
+use crate::fault::{Refusal, VerifyError, VerifyFault, VerifyRule};
 use crate::loops::opened;
 use crate::measures::Measures;
 use crate::open_loop::Open;
 use crate::opens::{Opens, close_ended};
 use crate::placement::is_nested;
-use crate::refusal::Refusal;
 use crate::rules::typed;
 use crate::targets::{entry, entry_is_wanted, has_name, has_targets};
 use crate::type_stack::TypeStack;
@@ -40,8 +40,8 @@ pub fn walk(alloc: Global, image: &Image) -> Result<Measures, VerifyError>
         measures.add(image, *instr, &label, &opens)?;
         match advance(alloc, image, &arrivals, *instr, at, label, &mut opens) {
             Ok(there) => label = there,
-            Err(Refusal::Broken(rule)) => return Err(VerifyError::Fault(VerifyFault { rule, at })),
-            Err(Refusal::NoMemory) => return Err(VerifyError::OutOfMemory),
+            Err(Refusal::Fault(rule)) => return Err(VerifyError::Fault(VerifyFault { rule, at })),
+            Err(Refusal::OutOfMemory) => return Err(VerifyError::OutOfMemory),
         }
         at += 1;
     }
@@ -64,19 +64,19 @@ fn advance(
     requires room { at + 1 < 2 ^ 64 }
     ensures { MatchResult result
         (λ there. Advances image.now at (labelled label opens.old) (labelled there opens.new))
-        (λ r. Refuses r (rule_here image.now at (labelled label opens.old))) }
+        (λ r. Fails r (rule_here image.now at (labelled label opens.old))) }
 {
     if !has_name(image, instr) {
-        return Err(Refusal::Broken(VerifyRule::BadConstant));
+        return Err(Refusal::Fault(VerifyRule::BadConstant));
     }
     if !(entry_is_wanted(image, arrivals, at) && has_targets(image, arrivals, at, instr)) {
-        return Err(Refusal::Broken(VerifyRule::BadTarget));
+        return Err(Refusal::Fault(VerifyRule::BadTarget));
     }
     let Some(types) = label else {
-        return Err(Refusal::Broken(VerifyRule::BadTarget));
+        return Err(Refusal::Fault(VerifyRule::BadTarget));
     };
     if !is_nested(image, arrivals, at, instr, opens) {
-        return Err(Refusal::Broken(VerifyRule::BadNesting));
+        return Err(Refusal::Fault(VerifyRule::BadNesting));
     }
     let there = pass(alloc, image, arrivals, instr, at, types, opens)?;
     close_ended(opens, at + 1);
@@ -99,7 +99,7 @@ fn pass(
     requires jumps { AllByRecursion (λ to. to < length image.now.code) (jumps_of instr) }
     ensures { MatchResult result
         (λ there. Passes image.now at instr types opens.old there opens.new)
-        (λ r. Refuses r (typed_here image.now at instr types opens.old)) }
+        (λ r. Fails r (typed_here image.now at instr types opens.old)) }
 {
     match instr {
         Instr::Loop(mode, exit) => {
@@ -108,10 +108,10 @@ fn pass(
         }
         _ => match typed(alloc, image, arrivals, instr, opens, types) {
             Ok(falls) => go_on(alloc, image, arrivals, at + 1, falls, opens),
-            Err(Refusal::Broken(rule)) => {
-                Err(Refusal::Broken(told_at(image, arrivals, at + 1, rule)))
+            Err(Refusal::Fault(rule)) => {
+                Err(Refusal::Fault(told_at(image, arrivals, at + 1, rule)))
             }
-            Err(Refusal::NoMemory) => Err(Refusal::NoMemory),
+            Err(Refusal::OutOfMemory) => Err(Refusal::OutOfMemory),
         },
     }
 }
@@ -144,14 +144,14 @@ fn enter(
     requires inside { to ≤ length image.now.code }
     ensures { MatchResult result
         (λ there. Arrives image.now to (begun ∷ opens.old) (Some []) there × (opens.new ≡ begun ∷ opens.old))
-        (λ r. Refuses r (arrived image.now to (begun ∷ opens.old) (Ok (Some [])))) }
+        (λ r. Fails r (arrived image.now to (begun ∷ opens.old) (Ok (Some [])))) }
 {
     if !takes_none(image, arrivals, to) {
-        return Err(Refusal::Broken(VerifyRule::WrongKind));
+        return Err(Refusal::Fault(VerifyRule::WrongKind));
     }
     let loops = opens.len().saturating_add(1);
     if is_too_much(begun.below.len(), opens.below(), loops) {
-        return Err(Refusal::Broken(VerifyRule::TooDeep));
+        return Err(Refusal::Fault(VerifyRule::TooDeep));
     }
     opens.push(begun)?;
     Ok(Some(TypeStack::new(alloc)))
@@ -183,21 +183,21 @@ fn go_on(
     requires inside { to ≤ length image.now.code }
     ensures { MatchResult result
         (λ there. Arrives image.now to opens.now falls there)
-        (λ r. Refuses r (arrived image.now to opens.now (Ok falls))) }
+        (λ r. Fails r (arrived image.now to opens.now (Ok falls))) }
 {
     let Some(entry) = entry(image, arrivals, to) else {
         if is_too_deep(&falls, opens) {
-            return Err(Refusal::Broken(VerifyRule::TooDeep));
+            return Err(Refusal::Fault(VerifyRule::TooDeep));
         }
         return Ok(falls);
     };
     if let Some(types) = &falls
         && !types.fits(entry)
     {
-        return Err(Refusal::Broken(VerifyRule::WrongKind));
+        return Err(Refusal::Fault(VerifyRule::WrongKind));
     }
     if is_too_deep(&falls, opens) {
-        return Err(Refusal::Broken(VerifyRule::TooDeep));
+        return Err(Refusal::Fault(VerifyRule::TooDeep));
     }
     Ok(Some(TypeStack::from_slice(alloc, entry)?))
 }

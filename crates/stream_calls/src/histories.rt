@@ -8,7 +8,7 @@ use calls_notation::{Asked, json, unknown};
 use serde_json::Value as Json;
 use std::alloc::{AllocError, Global};
 use vap_audit::{Entry, History};
-use vap_judge::{JudgeError, Matchers};
+use vap_judge::{JudgeError, Matchers, RunFault};
 use vap_read::Event;
 use vap_request::Request;
 use vap_watch::{Snapshot, Writer, open};
@@ -94,7 +94,7 @@ fn append_decided(
     let log = snapshot.share_log()?;
     let verdict = match snapshot.judge(alloc, &request, &mut Matchers::new(alloc)) {
         Ok(verdict) => verdict,
-        Err(JudgeError::Pattern) => return Ok(()),
+        Err(JudgeError::Fault(RunFault::Pattern)) => return Ok(()),
         Err(JudgeError::OutOfMemory) => return Err(AllocError),
     };
     let entry = Entry {

@@ -7,7 +7,7 @@
 use calls_notation::{Asked, json, unknown};
 use std::alloc::{AllocError, Global};
 use vap_answer::answer_text;
-use vap_judge::{JudgeError, Matchers, PolicySet, judge};
+use vap_judge::{JudgeError, Matchers, PolicySet, RunFault, judge};
 use vap_objects::Objects;
 use vap_read::{Event, EventError};
 use vap_request::{Request, ReviewError};
@@ -108,7 +108,7 @@ fn answered(
 ) -> Result<String, AllocError> {
     match judge(alloc, set, request, matchers) {
         Ok(verdict) => answer_text(alloc, "", &verdict),
-        Err(JudgeError::Pattern) => String::from_str(alloc, "Pattern"),
+        Err(JudgeError::Fault(RunFault::Pattern)) => String::from_str(alloc, "Pattern"),
         Err(JudgeError::OutOfMemory) => Err(AllocError),
     }
 }

@@ -3,3 +3,4 @@ pub mod Floors
 pub mod Grouped
 pub mod Once
 pub mod WorkedRows
+pub mod Crossing

@@ -3,8 +3,9 @@
 ghost use Rattle.std.specs.Prelude.{◌≡◌, IfOk, IfErr, IfSome, codes, option_map};
 ghost use Rattle.serde_json.specs.Find.{get};
 ghost use Rattle.serde_json.specs.View.{view};
+ghost use Rattle.failing.specs.Failures.{Answers, IfFault};
 ghost use Rattle.vap_select.specs.SelectorForm.{selector_of};
-ghost use Rattle.vap_policies.specs.Faults.{least_of, least_of_rules, IsLeast, TellsLeast, Answers};
+ghost use Rattle.vap_policies.specs.Faults.{least_of, least_of_rules, IsLeast};
 ghost use Rattle.vap_bindings.specs.BindingForm.{applies, has_fault};
 ghost use Rattle.vap_bindings.specs.BindingReading.{param_ref_of, actions_of, binding_spec_of, read_spec, read_binding};
 
@@ -24,7 +25,7 @@ impl Binding {
     /// The binding that an object is, or the least of its faults.
     pub fn from_json(alloc: Global, json: &Json) -> Result<Binding, PolicyError>
         ensures exact { Answers (read_binding (view json.now)) result }
-        ensures least { IfErr result (λ error. TellsLeast (has_fault (view json.now)) error) }
+        ensures least { IfErr result (IfFault (IsLeast (has_fault (view json.now)))) }
     {
         match json.get("spec") {
             Some(found) => read_spec(alloc, found),
@@ -35,7 +36,7 @@ impl Binding {
 
 fn read_spec(alloc: Global, json: &Json) -> Result<Binding, PolicyError>
     ensures exact { Answers (read_spec (view json.now)) result }
-    ensures least { IfErr result (λ error. TellsLeast (applies (view json.now)) error) }
+    ensures least { IfErr result (IfFault (IsLeast (applies (view json.now)))) }
 {
     match fault_of(json) {
         Some(fault) => Err(PolicyError::Fault(fault)),

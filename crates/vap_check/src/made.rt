@@ -7,7 +7,7 @@ ghost use Rattle.vap_schema.specs.Schemas.{object_type_of};
 ghost use Rattle.vap_check.specs.Checks.{IsMade, IsMadeFrom, IsMadeIn, IsMadeOver, IsMadeUnder, names_over};
 
 use crate::refusal::FileRefusal;
-use cel_expression::{CompileError, Compiled, compile_text};
+use cel_expression::{CompileError, CompileFault, Compiled, compile_text};
 use cel_value::CelType;
 use plain::{Items, Keyed, Shared, Text};
 use serde_json::Value as Json;
@@ -105,7 +105,9 @@ fn compiled_over(
     match compile_text(alloc, &choice, &names, &text) {
         Ok(Ok(compiled)) => Ok(Ok(compiled)),
         Ok(Err(why)) => Ok(Err(FileRefusal::Text(why))),
-        Err(CompileError::Unverified { at }) => Ok(Err(FileRefusal::Unverified { at })),
+        Err(CompileError::Fault(CompileFault::Unverified { at })) => {
+            Ok(Err(FileRefusal::Unverified { at }))
+        }
         Err(CompileError::OutOfMemory) => Err(AllocError),
     }
 }

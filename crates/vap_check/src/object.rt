@@ -9,7 +9,7 @@ ghost use Rattle.vap_check.specs.Checks.{IsJudged, IsRun, names_over};
 use crate::judgement::Judgement;
 use crate::made::Made;
 use cel_expression::Compiled;
-use cel_machine::{Matchers, RunFault, Slots};
+use cel_machine::{Matchers, RunError, RunFault, Slots};
 use cel_value::{CelError, Value};
 use serde_json::Value as Json;
 use std::alloc::{AllocError, Global};
@@ -39,7 +39,7 @@ fn run_at(alloc: Global, compiled: &Compiled, value: &Value) -> Result<Judgement
     let mut matchers = Matchers::new(alloc);
     match compiled.run(alloc, &slots, &mut matchers) {
         Ok(ran) => Ok(Judgement::Ran(ran)),
-        Err(RunFault::Pattern) => Ok(Judgement::Pattern),
-        Err(RunFault::OutOfMemory) => Err(AllocError),
+        Err(RunError::Fault(RunFault::Pattern)) => Ok(Judgement::Pattern),
+        Err(RunError::OutOfMemory) => Err(AllocError),
     }
 }

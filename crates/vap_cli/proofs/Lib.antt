@@ -1,2 +1,3 @@
 mod Outcomes
 mod WorkedRows
+pub mod Only

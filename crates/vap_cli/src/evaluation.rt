@@ -7,8 +7,8 @@ ghost use Rattle.cel_expression.specs.declared.refusal.Refusal.{Refusal as TextR
 ghost use Rattle.vap_cli.specs.Evaluation.{Choice, ComesTo, IsAnswer, IsAnswerBy, IsAnswerOf, source_of};
 
 use crate::answer::{Answer, Refusal};
-use cel_expression::{CompileError, Compiled, ask_patterns, choice_of, compile_text};
-use cel_machine::{Matchers, RunFault, Slots};
+use cel_expression::{CompileError, CompileFault, Compiled, ask_patterns, choice_of, compile_text};
+use cel_machine::{Matchers, RunError, RunFault, Slots};
 use cel_patterns::Patterns;
 use cel_value::{CelError, CelType, Value};
 use plain::{Items, Keyed, Shared, Text};
@@ -51,7 +51,9 @@ fn answer_by(
     match compile_text(alloc, choice, names, text) {
         Ok(Ok(compiled)) => answer_of(alloc, &compiled),
         Ok(Err(why)) => Ok(Answer::Refused(Refusal::Text(why))),
-        Err(CompileError::Unverified { at }) => Ok(Answer::Refused(Refusal::Unverified { at })),
+        Err(CompileError::Fault(CompileFault::Unverified { at })) => {
+            Ok(Answer::Refused(Refusal::Unverified { at }))
+        }
         Err(CompileError::OutOfMemory) => Err(AllocError),
     }
 }
@@ -70,7 +72,7 @@ fn answer_of(alloc: Global, compiled: &Compiled) -> Result<Answer, AllocError>
             Ok(value) => Ok(Answer::Value(value)),
             Err(error) => Ok(Answer::Error(error)),
         },
-        Err(RunFault::Pattern) => Ok(Answer::Refused(Refusal::Pattern)),
-        Err(RunFault::OutOfMemory) => Err(AllocError),
+        Err(RunError::Fault(RunFault::Pattern)) => Ok(Answer::Refused(Refusal::Pattern)),
+        Err(RunError::OutOfMemory) => Err(AllocError),
     }
 }

@@ -2,6 +2,8 @@
 -- Kubernetes API with CustomResourceDefinitions", Validation and Field pruning).
 use Rattle.std.specs.Prelude.{◌≡◌, ℕ, ◌+◌, ◌^◌, ◌&&◌, Bool, true, false, not, nat_lt, if◌then◌else◌, ℤ, pos}
 use Rattle.std.specs.Prelude.{List, [], ◌∷◌, ◌++◌, map, Option, Some, None, is_some, option_to_list, Result, Ok, Err}
+use Rattle.failing.specs.Failures.{Answers}
+use Rattle.failing.specs.declared.failed.Failed.{Failed}
 use Rattle.plain.specs.declared.text.Keyed.{Keyed}
 use Rattle.plain.specs.Keys.{value_under}
 use Rattle.serde_json.specs.Data as json
@@ -18,8 +20,6 @@ use Rattle.vap_fit.specs.Paths.{at_field, at_item}
 use Rattle.vap_fit.specs.declared.fit_fault.FitFaultKind.{FitFaultKind}
 use Rattle.vap_fit.specs.declared.fit_fault.FitFaultKind.TheVariants.{WrongKind, Missing, NullHere, OverLimit, IntRange}
 use Rattle.vap_fit.specs.declared.fit_fault.FitFault.{FitFault}
-use Rattle.vap_fit.specs.declared.fit_fault.FitError.{FitError}
-use Rattle.vap_fit.specs.declared.fit_fault.FitError.TheVariants.{Fault, OutOfMemory}
 
 infixl 10 ◌>>=◌
 -- what comes next where there is no fault, and else the fault
@@ -195,22 +195,11 @@ field_reader f = record { required = f.required; cel_type = reader_of f.cel_type
 abbrev pub readers_of : List (Keyed (Field CelType)) → List (Keyed (Field Reader))
 readers_of fields = map (λ f. record { key = f.key; value = field_reader f.value }) fields
 
--- the answer is this value or this fault, or memory ran out
-abbrev pub Answers : {A : Type 0} → Result A FitFault → Result A FitError → Type 0
-Answers want (Ok a) = want ≡ Ok a
-Answers want (Err (Fault f)) = want ≡ Err f
-Answers want (Err OutOfMemory) = Unit {0}
-
--- the error is this fault, or memory ran out
-abbrev pub Tells : FitFault → FitError → Type 0
-Tells want (Fault f) = want ≡ f
-Tells want OutOfMemory = Unit {0}
-
 -- what is made of an answer, or its error
-abbrev pub made : {A B : Type 0} → (A → B) → Result A FitError → Result B FitError
+abbrev pub made : {A B E : Type 0} → (A → B) → Result A E → Result B E
 made f (Ok a) = Ok (f a)
 made f (Err e) = Err e
 
 -- whatever the answer of the part says, the answer of the whole says what a step makes of it
-abbrev pub Carries : {A B : Type 0} → Result A FitError → Result B FitError → (A → Result B FitFault) → Type 0
-Carries part whole step = (want : Result _ FitFault) → Answers want part → Answers (want >>= step) whole
+abbrev pub Carries : {A B F : Type 0} → Result A (Failed F) → Result B (Failed F) → (A → Result B F) → Type 0
+Carries part whole step = (want : Result _ _) → Answers want part → Answers (want >>= step) whole

@@ -3,6 +3,7 @@
 ghost use Rattle.std.specs.Prelude.{◌≡◌, ◌≤◌, ◌&&◌, All, IsTrue, IfOk, IfSome, Ok, nat_le, length, drop};
 ghost use Rattle.std.specs.List.{list_all};
 ghost use Rattle.serde_json.specs.View.{view, number_view, items_view, members_view};
+ghost use Rattle.failing.specs.Failures.{Answers, IfFault};
 ghost use Rattle.plain.specs.Keys.{IsInKeyOrder};
 ghost use Rattle.cel_value.specs.Fits.{fits, HasItsField};
 ghost use Rattle.cel_value.specs.declared.value.Value as V;
@@ -11,7 +12,7 @@ ghost use Rattle.cel_value.specs.Greatest.{greatest_of};
 ghost use Rattle.cel_value.specs.Value.{code_points, weight_of};
 ghost use Rattle.vap_fit.specs.InStep.{first_under};
 ghost use Rattle.vap_fit.specs.Paths.{path_text};
-ghost use Rattle.vap_fit.specs.Seen.{Answers, Carries, Tells, made, if_all_there};
+ghost use Rattle.vap_fit.specs.Seen.{Carries, made, if_all_there};
 ghost use Rattle.vap_fit.specs.Seen.{seen, seen_int, seen_text, seen_list, seen_items, seen_map};
 ghost use Rattle.vap_fit.specs.Seen.{seen_entries, seen_entry, seen_object, seen_members, seen_member, seen_field};
 ghost use Rattle.vap_fit.specs.Seen.{all_there, misfit, fault, within, reader_of, readers_of, is_absent};
@@ -416,7 +417,7 @@ fn check_limit(alloc: Global, max: u32, length: usize, path: &Path<'_>) -> Resul
 /// Why a document of a kind that the type has not is refused.
 #[cold]
 fn misfit(alloc: Global, document: &Json, path: &Path<'_>) -> FitError
-    ensures { Tells (misfit (path_text path.now) (view document.now)) result }
+    ensures { IfFault (λ f. misfit (path_text path.now) (view document.now) ≡ f) result }
 {
     let kind = if document.is_null() {
         FitFaultKind::NullHere
@@ -428,7 +429,7 @@ fn misfit(alloc: Global, document: &Json, path: &Path<'_>) -> FitError
 
 #[cold]
 fn refusal(alloc: Global, kind: FitFaultKind, path: &Path<'_>) -> FitError
-    ensures { Tells (fault kind (path_text path.now)) result }
+    ensures { IfFault (λ f. fault kind (path_text path.now) ≡ f) result }
 {
     match written(alloc, path) {
         Ok(path) => FitError::Fault(FitFault { path, kind }),

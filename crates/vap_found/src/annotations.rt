@@ -2,6 +2,8 @@
 
 ghost use Rattle.std.specs.Prelude.{◌≡◌, ◌≤◌, ◌++◌, true, List, sum_by, IfOk, IsErrOf, OnOk, None};
 ghost use Rattle.std.specs.List.{Any, flat_map};
+ghost use Rattle.failing.specs.declared.failed.Failed.TheVariants.{Fault};
+ghost use Rattle.cel_machine.specs.declared.fault.RunFault.TheVariants.{Pattern};
 ghost use Rattle.cel_value.specs.declared.cel_type.CelType.{CelType};
 ghost use Rattle.cel_operators.specs.Outcomes.{slots_fit};
 ghost use Rattle.cel_estimate.specs.Estimate.{budget};
@@ -15,7 +17,7 @@ use crate::found::{Failure, Note};
 use crate::runs::run;
 use crate::words::expression_error;
 use cel_expression::Ran;
-use cel_machine::{Matchers, RunFault, Slots};
+use cel_machine::{Matchers, RunError, Slots};
 use cel_value::{CelError, Value};
 use plain::Text;
 use std::alloc::{AllocError, Global};
@@ -80,7 +82,7 @@ fn annotate(
     matchers: &mut Matchers,
     failures: &mut Vec<Failure>,
     notes: &mut Vec<Note>,
-) -> Result<u64, RunFault>
+) -> Result<u64, RunError>
     ghost types: { List CelType }
     requires at { IsAt types annotation.now.value }
     requires fit { slots_fit types slots.now ≡ true }
@@ -89,7 +91,7 @@ fn annotate(
     ensures charged { IfOk result (λ n. n ≡ note_charge slots.now annotation.now) }
     ensures within { IfOk result (λ n. n ≤ annotation_estimate annotation.now) }
     ensures small { IfOk result (λ n. n ≤ budget) }
-    ensures pattern { IsErrOf result RunFault.Pattern → AnnotationMayMatch annotation.now }
+    ensures pattern { IsErrOf result (Fault Pattern) → AnnotationMayMatch annotation.now }
 {
     let ran = run(alloc, &annotation.value, slots, matchers)?;
     let Ran { outcome, charged } = ran;
@@ -107,7 +109,7 @@ pub fn annotate_all(
     matchers: &mut Matchers,
     failures: &mut Vec<Failure>,
     notes: &mut Vec<Note>,
-) -> Result<u64, RunFault>
+) -> Result<u64, RunError>
     ghost types: { List CelType }
     requires at { AreAnnotationsAt types annotations.now }
     requires fit { slots_fit types slots.now ≡ true }
@@ -116,7 +118,7 @@ pub fn annotate_all(
     ensures notes { OnOk result (notes.new.items ≡ notes.old.items ++ flat_map (note slots.now) annotations.now) }
     ensures charged { IfOk result (λ n. n ≡ sum_by (note_charge slots.now) annotations.now) }
     ensures within { IfOk result (λ n. n ≤ sum_by annotation_estimate annotations.now) }
-    ensures pattern { IsErrOf result RunFault.Pattern → Any AnnotationMayMatch annotations.now }
+    ensures pattern { IsErrOf result (Fault Pattern) → Any AnnotationMayMatch annotations.now }
 {
     let mut charged: u64 = 0;
     for annotation in annotations {

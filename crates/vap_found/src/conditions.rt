@@ -3,6 +3,8 @@
 ghost use Rattle.std.specs.Prelude.{◌≡◌, ◌≤◌, true, false, List, sum_by, Err, IfOk, IsErrOf};
 ghost use Rattle.std.specs.Option.{option_or};
 ghost use Rattle.std.specs.List.{Any};
+ghost use Rattle.failing.specs.declared.failed.Failed.TheVariants.{Fault};
+ghost use Rattle.cel_machine.specs.declared.fault.RunFault.TheVariants.{Pattern};
 ghost use Rattle.cel_value.specs.declared.cel_type.CelType.{CelType};
 ghost use Rattle.cel_operators.specs.Outcomes.{slots_fit};
 ghost use Rattle.vap_programs.specs.Pairs.{condition_estimate, most};
@@ -12,7 +14,7 @@ ghost use Rattle.vap_found.specs.Patterns.{ConditionMayMatch};
 
 use crate::runs::{Tested, test};
 use crate::words::condition_error;
-use cel_machine::{Matchers, RunFault, Slots};
+use cel_machine::{Matchers, RunError, Slots};
 use cel_value::CelError;
 use plain::Text;
 use std::alloc::{AllocError, Global};
@@ -65,7 +67,7 @@ pub fn pass(
     conditions: &[Condition],
     slots: &Slots<'_>,
     matchers: &mut Matchers,
-) -> Result<Passed, RunFault>
+) -> Result<Passed, RunError>
     ghost types: { List CelType }
     requires at { AreConditionsAt types conditions.now }
     requires fit { slots_fit types slots.now ≡ true }
@@ -73,7 +75,7 @@ pub fn pass(
     ensures gate { IfOk result (λ p. p.gate ≡ conditions_pass conditions.now slots.now) }
     ensures charged { IfOk result (λ p. p.charged ≡ conditions_charge conditions.now slots.now) }
     ensures within { IfOk result (λ p. p.charged ≤ sum_by condition_estimate conditions.now) }
-    ensures pattern { IsErrOf result RunFault.Pattern → Any ConditionMayMatch conditions.now }
+    ensures pattern { IsErrOf result (Fault Pattern) → Any ConditionMayMatch conditions.now }
 {
     let mut first = None;
     let mut total: u64 = 0;

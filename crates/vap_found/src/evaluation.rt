@@ -1,6 +1,8 @@
 //! A policy at one param.
 
 ghost use Rattle.std.specs.Prelude.{◌≡◌, ◌≤◌, ◌++◌, true, List, IfOk, IsErrOf, OnOk};
+ghost use Rattle.failing.specs.declared.failed.Failed.TheVariants.{Fault};
+ghost use Rattle.cel_machine.specs.declared.fault.RunFault.TheVariants.{Pattern};
 ghost use Rattle.cel_value.specs.declared.cel_type.CelType.{CelType};
 ghost use Rattle.cel_operators.specs.Outcomes.{slots_fit};
 ghost use Rattle.cel_apply.specs.Lent.{all_lent};
@@ -17,7 +19,7 @@ use crate::failures::push_error;
 use crate::found::{Failure, Note};
 use crate::validations::validate_all;
 use crate::variables::{Valued, evaluate};
-use cel_machine::{Matchers, RunFault, Slots};
+use cel_machine::{Matchers, RunError, Slots};
 use cel_value::{CelError, Value};
 use std::alloc::Global;
 use vap_policies::FailurePolicy;
@@ -32,7 +34,7 @@ fn decide(
     matchers: &mut Matchers,
     failures: &mut Vec<Failure>,
     notes: &mut Vec<Note>,
-) -> Result<u64, RunFault>
+) -> Result<u64, RunError>
     ghost types: { List CelType }
     requires checks { AreChecksAt types programs.now.validations }
     requires annotations { AreAnnotationsAt types programs.now.annotations }
@@ -42,7 +44,7 @@ fn decide(
     ensures notes { OnOk result (notes.new.items ≡ notes.old.items ++ flat_map (note slots.now) programs.now.annotations) }
     ensures charged { IfOk result (λ n. n ≡ charge_behind programs.now slots.now) }
     ensures within { IfOk result (λ n. n ≤ price_behind programs.now) }
-    ensures pattern { IsErrOf result RunFault.Pattern → DecisionMayMatch programs.now }
+    ensures pattern { IsErrOf result (Fault Pattern) → DecisionMayMatch programs.now }
 {
     let first = validate_all(
         alloc,
@@ -74,7 +76,7 @@ fn decide_behind(
     matchers: &mut Matchers,
     failures: &mut Vec<Failure>,
     notes: &mut Vec<Note>,
-) -> Result<u64, RunFault>
+) -> Result<u64, RunError>
     ghost types: { List CelType }
     requires checks { AreChecksAt types programs.now.validations }
     requires annotations { AreAnnotationsAt types programs.now.annotations }
@@ -86,7 +88,7 @@ fn decide_behind(
         (notes.new.items ≡ notes.old.items ++ flat_map (note (all_lent lent.now ++ values.now)) programs.now.annotations) }
     ensures charged { IfOk result (λ n. n ≡ charge_behind programs.now (all_lent lent.now ++ values.now)) }
     ensures within { IfOk result (λ n. n ≤ price_behind programs.now) }
-    ensures pattern { IsErrOf result RunFault.Pattern → DecisionMayMatch programs.now }
+    ensures pattern { IsErrOf result (Fault Pattern) → DecisionMayMatch programs.now }
 {
     let slots = Slots::new(&*lent, &*values);
     decide(alloc, policy, programs, &slots, matchers, failures, notes)
@@ -104,7 +106,7 @@ pub fn judge(
     matchers: &mut Matchers,
     failures: &mut Vec<Failure>,
     notes: &mut Vec<Note>,
-) -> Result<u64, RunFault>
+) -> Result<u64, RunError>
     ghost types: { List CelType }
     requires ready { IsReady types programs.now }
     requires few { price_of programs.now ≤ most }
@@ -113,7 +115,7 @@ pub fn judge(
     ensures notes { OnOk result (notes.new.items ≡ notes.old.items ++ notes_of programs.now (all_lent lent.now)) }
     ensures charged { IfOk result (λ n. n ≡ charge_of programs.now (all_lent lent.now)) }
     ensures within { IfOk result (λ n. n ≤ price_of programs.now) }
-    ensures pattern { IsErrOf result RunFault.Pattern → PolicyMayMatch programs.now }
+    ensures pattern { IsErrOf result (Fault Pattern) → PolicyMayMatch programs.now }
 {
     let none: Vec<Result<Value, CelError>> = Vec::new(alloc);
     let slots = Slots::new(&*lent, none.as_slice());

@@ -1,6 +1,8 @@
 //! Running one expression.
 
 ghost use Rattle.std.specs.Prelude.{◌≡◌, ◌≤◌, true, Some, IfOk, IsErrOf};
+ghost use Rattle.failing.specs.declared.failed.Failed.TheVariants.{Fault};
+ghost use Rattle.cel_machine.specs.declared.fault.RunFault.TheVariants.{Pattern};
 ghost use Rattle.cel_operators.specs.Outcomes.{outcome_fits, slots_fit};
 ghost use Rattle.cel_check.specs.Typing.{types_in};
 ghost use Rattle.cel_estimate.specs.Estimate.{budget};
@@ -9,7 +11,7 @@ ghost use Rattle.cel_expression.specs.Patterns.{MayMatch};
 ghost use Rattle.vap_found.specs.Runs.{given, charge, holds, truth_of};
 
 use cel_expression::{Compiled, Ran};
-use cel_machine::{Matchers, RunFault, Slots};
+use cel_machine::{Matchers, RunError, Slots};
 use cel_value::{CelError, Value};
 use std::alloc::Global;
 
@@ -20,14 +22,14 @@ pub fn run(
     expression: &Compiled,
     slots: &Slots<'_>,
     matchers: &mut Matchers,
-) -> Result<Ran, RunFault>
+) -> Result<Ran, RunError>
     requires { slots_fit (types_in expression.now.names) slots.now ≡ true }
     ensures given { IfOk result (λ r. r.outcome ≡ given expression.now slots.now) }
     ensures charged { IfOk result (λ r. r.charged ≡ charge expression.now slots.now) }
     ensures fits { IfOk result (λ r. outcome_fits (type_at expression.now) (Some r.outcome) ≡ true) }
     ensures within { IfOk result (λ r. r.charged ≤ estimate_at expression.now) }
     ensures small { IfOk result (λ r. r.charged ≤ budget) }
-    ensures pattern { IsErrOf result RunFault.Pattern → MayMatch expression.now }
+    ensures pattern { IsErrOf result (Fault Pattern) → MayMatch expression.now }
 {
     let ran = expression.run(alloc, slots, matchers)?;
     Ok(ran)
@@ -56,13 +58,13 @@ pub fn test(
     expression: &Compiled,
     slots: &Slots<'_>,
     matchers: &mut Matchers,
-) -> Result<Tested, RunFault>
+) -> Result<Tested, RunError>
     requires { slots_fit (types_in expression.now.names) slots.now ≡ true }
     ensures truth { IfOk result (λ t. t.truth ≡ holds expression.now slots.now) }
     ensures charged { IfOk result (λ t. t.charged ≡ charge expression.now slots.now) }
     ensures within { IfOk result (λ t. t.charged ≤ estimate_at expression.now) }
     ensures small { IfOk result (λ t. t.charged ≤ budget) }
-    ensures pattern { IsErrOf result RunFault.Pattern → MayMatch expression.now }
+    ensures pattern { IsErrOf result (Fault Pattern) → MayMatch expression.now }
 {
     let ran = run(alloc, expression, slots, matchers)?;
     Ok(Tested {

@@ -2,6 +2,8 @@
 
 ghost use Rattle.std.specs.Prelude.{◌≡◌, ◌≤◌, ◌*◌, ◌++◌, true, List, sum_by, Some, IfOk, IsErrOf, OnOk};
 ghost use Rattle.std.specs.List.{Any};
+ghost use Rattle.failing.specs.declared.failed.Failed.TheVariants.{Fault};
+ghost use Rattle.cel_machine.specs.declared.fault.RunFault.TheVariants.{Pattern};
 ghost use Rattle.cel_value.specs.declared.cel_type.CelType.{CelType};
 ghost use Rattle.cel_operators.specs.Outcomes.{slots_fit};
 ghost use Rattle.cel_estimate.specs.Estimate.{budget};
@@ -15,7 +17,7 @@ use crate::found::Failure;
 use crate::runs::{Tested, run, test};
 use crate::words::{expression_error, told_or, written};
 use cel_expression::Ran;
-use cel_machine::{Matchers, RunFault, Slots};
+use cel_machine::{Matchers, RunError, Slots};
 use plain::Text;
 use std::alloc::Global;
 use vap_policies::FailurePolicy;
@@ -35,7 +37,7 @@ fn message(
     check: &Check,
     slots: &Slots<'_>,
     matchers: &mut Matchers,
-) -> Result<Told, RunFault>
+) -> Result<Told, RunError>
     ghost types: { List CelType }
     requires at { IsCheckAt types check.now }
     requires fit { slots_fit types slots.now ≡ true }
@@ -43,7 +45,7 @@ fn message(
     ensures charged { IfOk result (λ t. t.charged ≡ told_charge check.now.message_expression slots.now) }
     ensures within { IfOk result (λ t. t.charged ≤ message_estimate check.now.message_expression) }
     ensures small { IfOk result (λ t. t.charged ≤ budget) }
-    ensures pattern { IsErrOf result RunFault.Pattern → MessageMayMatch check.now.message_expression }
+    ensures pattern { IsErrOf result (Fault Pattern) → MessageMayMatch check.now.message_expression }
 {
     let rest = written(alloc, check.expression.text(), &check.message)?;
     match &check.message_expression {
@@ -72,7 +74,7 @@ fn validate(
     slots: &Slots<'_>,
     matchers: &mut Matchers,
     failures: &mut Vec<Failure>,
-) -> Result<u64, RunFault>
+) -> Result<u64, RunError>
     ghost types: { List CelType }
     requires at { IsCheckAt types check.now }
     requires fit { slots_fit types slots.now ≡ true }
@@ -80,7 +82,7 @@ fn validate(
     ensures charged { IfOk result (λ n. n ≡ check_charge slots.now check.now) }
     ensures within { IfOk result (λ n. n ≤ check_estimate check.now) }
     ensures small { IfOk result (λ n. n ≤ 2 * budget) }
-    ensures pattern { IsErrOf result RunFault.Pattern → CheckMayMatch check.now }
+    ensures pattern { IsErrOf result (Fault Pattern) → CheckMayMatch check.now }
 {
     let tested = test(alloc, &check.expression, slots, matchers)?;
     let Tested { truth, charged } = tested;
@@ -111,7 +113,7 @@ pub fn validate_all(
     slots: &Slots<'_>,
     matchers: &mut Matchers,
     failures: &mut Vec<Failure>,
-) -> Result<u64, RunFault>
+) -> Result<u64, RunError>
     ghost types: { List CelType }
     requires at { AreChecksAt types checks.now }
     requires fit { slots_fit types slots.now ≡ true }
@@ -119,7 +121,7 @@ pub fn validate_all(
     ensures failures { OnOk result (failures.new.items ≡ failures.old.items ++ failures_from policy slots.now 0 checks.now) }
     ensures charged { IfOk result (λ n. n ≡ sum_by (check_charge slots.now) checks.now) }
     ensures within { IfOk result (λ n. n ≤ sum_by check_estimate checks.now) }
-    ensures pattern { IsErrOf result RunFault.Pattern → Any CheckMayMatch checks.now }
+    ensures pattern { IsErrOf result (Fault Pattern) → Any CheckMayMatch checks.now }
 {
     let mut charged: u64 = 0;
     let mut index: usize = 0;

@@ -2,6 +2,8 @@
 
 ghost use Rattle.std.specs.Prelude.{◌≡◌, ◌≤◌, ◌++◌, List, [], ◌∷◌, Some, true, sum_by, IfOk, IsErrOf, OnOk};
 ghost use Rattle.std.specs.List.{Any};
+ghost use Rattle.failing.specs.declared.failed.Failed.TheVariants.{Fault};
+ghost use Rattle.cel_machine.specs.declared.fault.RunFault.TheVariants.{Pattern};
 ghost use Rattle.cel_value.specs.declared.cel_type.CelType.{CelType};
 ghost use Rattle.cel_operators.specs.Outcomes.{outcome_fits, slots_fit};
 ghost use Rattle.cel_apply.specs.Lent.{all_lent};
@@ -16,7 +18,7 @@ ghost use Rattle.vap_found.specs.Variables.{values_from, values_charge};
 
 use crate::runs::run;
 use cel_expression::{Compiled, Ran};
-use cel_machine::{Matchers, RunFault, Slots};
+use cel_machine::{Matchers, RunError, Slots};
 use cel_value::{CelError, Value};
 use std::alloc::{AllocError, Global};
 
@@ -44,7 +46,7 @@ fn run_next(
     lent: &[Result<&Value, CelError>],
     matchers: &mut Matchers,
     made: &mut Vec<Result<Value, CelError>>,
-) -> Result<u64, RunFault>
+) -> Result<u64, RunError>
     requires { slots_fit (types_in variable.now.names) (all_lent lent.now ++ made.old.items) ≡ true }
     ensures value { OnOk result (made.new.items ≡ made.old.items ++ given variable.now (all_lent lent.now ++ made.old.items) ∷ []) }
     ensures fits { OnOk result
@@ -52,7 +54,7 @@ fn run_next(
     ensures charged { IfOk result (λ n. n ≡ charge variable.now (all_lent lent.now ++ made.old.items)) }
     ensures within { IfOk result (λ n. n ≤ estimate_at variable.now) }
     ensures small { IfOk result (λ n. n ≤ budget) }
-    ensures pattern { IsErrOf result RunFault.Pattern → MayMatch variable.now }
+    ensures pattern { IsErrOf result (Fault Pattern) → MayMatch variable.now }
 {
     let ran = run(
         alloc,
@@ -71,7 +73,7 @@ pub fn evaluate(
     variables: &[Compiled],
     lent: &[Result<&Value, CelError>],
     matchers: &mut Matchers,
-) -> Result<Valued, RunFault>
+) -> Result<Valued, RunError>
     ghost types: { List CelType × List CelType }
     requires follow { Follow types.0 variables.now types.1 }
     requires fit { slots_fit types.0 (all_lent lent.now) ≡ true }
@@ -80,7 +82,7 @@ pub fn evaluate(
     ensures fit { IfOk result (λ v. slots_fit types.1 (all_lent lent.now ++ v.values.items) ≡ true) }
     ensures charged { IfOk result (λ v. v.charged ≡ values_charge [] variables.now (all_lent lent.now)) }
     ensures within { IfOk result (λ v. v.charged ≤ sum_by estimate_at variables.now) }
-    ensures pattern { IsErrOf result RunFault.Pattern → Any MayMatch variables.now }
+    ensures pattern { IsErrOf result (Fault Pattern) → Any MayMatch variables.now }
 {
     let mut values = Vec::new(alloc);
     let mut charged: u64 = 0;

@@ -1,6 +1,5 @@
 pub mod Places
 pub mod Evaluations
-pub mod Faults
 pub mod Params
 pub mod Judging
 pub mod Shown

@@ -3,6 +3,8 @@
 ghost use Rattle.std.specs.Prelude.{◌≡◌, ◌≤◌, Some, true, List, [], ◌∷◌, map, filter, IfOk, IsErrOf, OnOk};
 ghost use Rattle.std.specs.List.{All};
 ghost use Rattle.std.specs.Option.{option_copied};
+ghost use Rattle.failing.specs.declared.failed.Failed.TheVariants.{Fault};
+ghost use Rattle.cel_machine.specs.declared.fault.RunFault.TheVariants.{Pattern};
 ghost use Rattle.cel_apply.specs.Lent.{lent};
 ghost use Rattle.cel_operators.specs.Outcomes.{slots_fit};
 ghost use Rattle.cel_value.specs.declared.cel_type.CelType.{CelType};
@@ -65,7 +67,7 @@ impl Judging<'_> {
     /// Adds a failure with a message.
     fn fail(&mut self, rule: &Rule<'_>, message: &str) -> Result<(), JudgeError>
         ensures adds { OnOk result (Adds self.old self.new (Failed (lent_rule rule.now) message.now ∷ []) 0) }
-        ensures pattern { IsErrOf result JudgeError.Pattern → ⊥ }
+        ensures pattern { IsErrOf result (Fault Pattern) → ⊥ }
     {
         Ok(self.findings.fail(self.alloc, rule, message)?)
     }
@@ -84,7 +86,7 @@ impl Judging<'_> {
         requires room { HasRoom self.old.findings.charged 1 }
         ensures adds { OnOk result (Adds self.old self.new
             (Ran (lent_rule rule.now) programs.now (slots_of self.old.case.now.held.now params.now) ∷ []) 1) }
-        ensures pattern { IsErrOf result JudgeError.Pattern → PolicyMayMatch programs.now }
+        ensures pattern { IsErrOf result (Fault Pattern) → PolicyMayMatch programs.now }
     {
         let held = self.case.held;
         let lent: [Result<&Value, CelError>; 5] = [
@@ -125,7 +127,7 @@ impl Judging<'_> {
         requires room { HasRoom self.old.findings.charged 1 }
         ensures adds { OnOk result (Adds self.old self.new
             (at_seen (case_in self.old) (lent_rule rule.now) programs.now param.now.outcome ∷ []) 1) }
-        ensures pattern { IsErrOf result JudgeError.Pattern → EvaluationMayMatch
+        ensures pattern { IsErrOf result (Fault Pattern) → EvaluationMayMatch
             (at_seen (case_in self.old) (lent_rule rule.now) programs.now param.now.outcome) }
     {
         match &param.outcome {
@@ -151,7 +153,7 @@ impl Judging<'_> {
         ensures adds { OnOk result (Adds self.old self.new
             (map (at_param (case_in self.old) (lent_rule rule.now) programs.now params.now.cel_type)
             (filter (is_param (lent_place selection.now.place) selection.now.reference.now) params.now.objects)) params_of_binding) }
-        ensures pattern { IsErrOf result JudgeError.Pattern → OneMayMatch
+        ensures pattern { IsErrOf result (Fault Pattern) → OneMayMatch
             (map (at_param (case_in self.old) (lent_rule rule.now) programs.now params.now.cel_type)
             (filter (is_param (lent_place selection.now.place) selection.now.reference.now) params.now.objects)) }
     {
@@ -178,7 +180,7 @@ impl Judging<'_> {
             (at_each (case_in self.old) (lent_rule rule.now) programs.now params.now.cel_type
             selection.now.reference.now.parameter_not_found_action
             (filter (is_param (lent_place selection.now.place) selection.now.reference.now) params.now.objects)) params_of_binding) }
-        ensures pattern { IsErrOf result JudgeError.Pattern → OneMayMatch
+        ensures pattern { IsErrOf result (Fault Pattern) → OneMayMatch
             (at_each (case_in self.old) (lent_rule rule.now) programs.now params.now.cel_type
             selection.now.reference.now.parameter_not_found_action
             (filter (is_param (lent_place selection.now.place) selection.now.reference.now) params.now.objects)) }
@@ -207,7 +209,7 @@ impl Judging<'_> {
             (in_place (case_in self.old) (lent_rule rule.now) programs.now params.now reference.now
             (place_of params.now.namespaced reference.now.namespace (case_in self.old).request.namespace))
             params_of_binding) }
-        ensures pattern { IsErrOf result JudgeError.Pattern → OneMayMatch
+        ensures pattern { IsErrOf result (Fault Pattern) → OneMayMatch
             (in_place (case_in self.old) (lent_rule rule.now) programs.now params.now reference.now
             (place_of params.now.namespaced reference.now.namespace (case_in self.old).request.namespace)) }
     {
@@ -237,7 +239,7 @@ impl Judging<'_> {
         ensures adds { OnOk result (Adds self.old self.new
             (at_params (case_in self.old) (lent_rule rule.now) programs.now (option_copied params.entry) reference.now)
             params_of_binding) }
-        ensures pattern { IsErrOf result JudgeError.Pattern → OneMayMatch
+        ensures pattern { IsErrOf result (Fault Pattern) → OneMayMatch
             (at_params (case_in self.old) (lent_rule rule.now) programs.now (option_copied params.entry) reference.now) }
     {
         match (params, reference) {
@@ -256,7 +258,7 @@ impl Judging<'_> {
         requires ready { IsReadyAt self.old.case.now.set.now (case_in self.old).kind policy.now }
         requires room { HasRoom self.old.findings.charged params_of_binding }
         ensures adds { OnOk result (Adds self.old self.new (of_binding (case_in self.old) policy.now binding.now) params_of_binding) }
-        ensures pattern { IsErrOf result JudgeError.Pattern → OneMayMatch (of_binding (case_in self.old) policy.now binding.now) }
+        ensures pattern { IsErrOf result (Fault Pattern) → OneMayMatch (of_binding (case_in self.old) policy.now binding.now) }
     {
         let case = self.case;
         let spec = policy.policy.spec.get();
@@ -288,7 +290,7 @@ impl Judging<'_> {
         requires few { HasFew policy.now }
         requires room { HasRoom self.old.findings.charged params_of_policy }
         ensures adds { OnOk result (Adds self.old self.new (of_policy (case_in self.old) policy.now) params_of_policy) }
-        ensures pattern { IsErrOf result JudgeError.Pattern → OneMayMatch (of_policy (case_in self.old) policy.now) }
+        ensures pattern { IsErrOf result (Fault Pattern) → OneMayMatch (of_policy (case_in self.old) policy.now) }
     {
         for binding in policy.bindings.as_slice() {
             let rules = &binding.value.spec.get().match_resources;
@@ -306,7 +308,7 @@ impl Judging<'_> {
         requires few { AreFew policies.now }
         requires room { HasRoom self.old.findings.charged params_of_set }
         ensures adds { OnOk result (Adds self.old self.new (of_policies (case_in self.old) policies.now) params_of_set) }
-        ensures pattern { IsErrOf result JudgeError.Pattern → OneMayMatch (of_policies (case_in self.old) policies.now) }
+        ensures pattern { IsErrOf result (Fault Pattern) → OneMayMatch (of_policies (case_in self.old) policies.now) }
     {
         for policy in policies {
             let bound = policy.get();
@@ -323,7 +325,7 @@ impl Judging<'_> {
         requires case { IsCase self.old.case.now }
         requires room { HasRoom self.old.findings.charged params_of_set }
         ensures adds { OnOk result (Adds self.old self.new (evaluations_of (case_in self.old)) params_of_set) }
-        ensures pattern { IsErrOf result JudgeError.Pattern → OneMayMatch (evaluations_of (case_in self.old)) }
+        ensures pattern { IsErrOf result (Fault Pattern) → OneMayMatch (evaluations_of (case_in self.old)) }
     {
         let resource = &self.case.request.admission().resource;
         let group = resource.group.as_str();

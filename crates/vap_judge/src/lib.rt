@@ -12,7 +12,7 @@ mod params;
 mod places;
 mod verdict;
 
-pub use cel_machine::Matchers;
+pub use cel_machine::{Matchers, RunFault};
 pub use judge_error::JudgeError;
-pub use vap_set::{BuildError, Choice, PolicySet};
+pub use vap_set::{BuildError, BuildFault, Choice, PolicySet};
 pub use verdict::judge;

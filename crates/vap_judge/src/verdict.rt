@@ -2,6 +2,8 @@
 
 ghost use Rattle.std.specs.Prelude.{◌≡◌, [], IfOk, IsErrOf};
 ghost use Rattle.std.specs.Option.{option_copied};
+ghost use Rattle.failing.specs.declared.failed.Failed.TheVariants.{Fault};
+ghost use Rattle.cel_machine.specs.declared.fault.RunFault.TheVariants.{Pattern};
 ghost use Rattle.cel_value.specs.declared.cel_type.CelType as type;
 ghost use Rattle.vap_answer.specs.Verdicts.{unfit_verdict};
 ghost use Rattle.vap_fit.specs.Names.{fit_fault_text};
@@ -40,7 +42,7 @@ fn judge_case(
     requires { IsCase case.now }
     ensures verdict { IfOk result (λ verdict. verdict
         ≡ verdict_by case.now.set.now.events (found_by (evaluations_of (case_of case.now)))) }
-    ensures pattern { IsErrOf result JudgeError.Pattern → OneMayMatch (evaluations_of (case_of case.now)) }
+    ensures pattern { IsErrOf result (Fault Pattern) → OneMayMatch (evaluations_of (case_of case.now)) }
 {
     let findings = Findings::new(alloc);
     let mut judging = Judging {
@@ -92,7 +94,7 @@ fn judge_at(
 ) -> Result<Verdict, JudgeError>
     requires { option_copied kind ≡ kind_at (kinds_of set.now) request.now.admission }
     ensures verdict { IfOk result (λ verdict. verdict ≡ verdict_at set.now request.now.admission (option_copied kind.entry)) }
-    ensures pattern { IsErrOf result JudgeError.Pattern → KindMayMatch set.now request.now.admission (option_copied kind.entry) }
+    ensures pattern { IsErrOf result (Fault Pattern) → KindMayMatch set.now request.now.admission (option_copied kind.entry) }
 {
     let opaque = CelType::Opaque;
     let name = request.admission().namespace.as_str();
@@ -120,7 +122,7 @@ pub fn judge(
     ensures exact { IfOk result (λ verdict. verdict ≡ verdict_of set.now request.now) }
     ensures none_passed_over { NoneIsPassedOver set.now request.now.admission }
     ensures priced { ArePriced set.now (kind_at (kinds_of set.now) request.now.admission) }
-    ensures pattern { IsErrOf result JudgeError.Pattern → MayMatch set.now request.now.admission }
+    ensures pattern { IsErrOf result (Fault Pattern) → MayMatch set.now request.now.admission }
 {
     let kinds = set.kinds();
     let admission = request.admission();

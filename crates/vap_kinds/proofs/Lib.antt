@@ -1,1 +1,2 @@
 pub mod WorkedRows
+pub mod Crossing

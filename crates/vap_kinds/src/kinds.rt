@@ -2,9 +2,9 @@
 
 ghost use Rattle.std.specs.Prelude.{◌≡◌, IfOk, OnOk, Result, Some};
 ghost use Rattle.serde_json.specs.View.{view, items_view};
+ghost use Rattle.failing.specs.Failures.{Answers};
 ghost use Rattle.json_members.specs.Parts.{lent};
 ghost use Rattle.cel_value.specs.declared.cel_type.CelType.{CelType as TypeOf};
-ghost use Rattle.vap_schema.specs.Schemas.{Answers as Read};
 ghost use Rattle.vap_schema.specs.declared.schema_fault.SchemaFault.{SchemaFault as SchemaFaultOf};
 ghost use Rattle.vap_kinds.specs.Kinds.{accepted, kind_of, with_kind, with_schema, with_versions, with_spec, with_definitions, kinds_of};
 
@@ -21,7 +21,7 @@ use vap_schema::{Schema, SchemaError};
 
 /// The type that a schema gives, unless the schema was refused.
 fn accepted(read: Result<Schema, SchemaError>) -> Result<Option<CelType>, AllocError>
-    ensures { (want : Result TypeOf SchemaFaultOf) → Read want read → IfOk result (λ t. t ≡ accepted want) }
+    ensures { (want : Result TypeOf SchemaFaultOf) → Answers want read → IfOk result (λ t. t ≡ accepted want) }
 {
     match &read {
         Ok(schema) => Ok(Some(schema.object_type().copy()?)),

@@ -11,8 +11,6 @@ use Rattle.json_members.specs.Reading.{unless}
 use Rattle.vap_select.specs.SelectorForm.{is_selector, selector_of}
 use Rattle.vap_select.specs.declared.match_fault.MatchFault.{MatchFault}
 use Rattle.vap_select.specs.declared.match_fault.MatchFault.TheVariants.{BadOperator, BadScope, EmptyRule}
-use Rattle.vap_select.specs.declared.match_fault.MatchError.{MatchError}
-use Rattle.vap_select.specs.declared.match_fault.MatchError.TheVariants.{Fault, OutOfMemory}
 use Rattle.vap_match.specs.declared.rules.Operation.{Operation}
 use Rattle.vap_match.specs.declared.rules.Operation.TheVariants as operation
 use Rattle.vap_match.specs.declared.rules.Scope.{Scope}
@@ -126,11 +124,6 @@ number_of EmptyRule = 3
 -- a document has this fault, and none of a lesser number
 abbrev pub IsLeast : Data → MatchFault → Type 0
 IsLeast d f = (applies f d ≡ true) × ((g : MatchFault) → number_of g < number_of f → applies g d ≡ false)
-
--- what is told is the least fault, or that memory ran out
-abbrev pub TellsLeast : Data → MatchError → Type 0
-TellsLeast d (Fault f) = IsLeast d f
-TellsLeast d OutOfMemory = Unit {0}
 
 -- ---- the rules
 

@@ -3,13 +3,13 @@
 ghost use Rattle.std.specs.Prelude.{◌≡◌, ◌&&◌, IfOk, IfErr, IfSome, codes, option_map, option_and_then};
 ghost use Rattle.serde_json.specs.Find.{get};
 ghost use Rattle.serde_json.specs.View.{view, items_view};
-ghost use Rattle.vap_select.specs.Answers.{Answers};
+ghost use Rattle.failing.specs.Failures.{Answers, IfFault};
 ghost use Rattle.json_members.specs.Forms.{there_and, absent_or, all_items, has_items, is_list_of, is_some_of};
 ghost use Rattle.json_members.specs.Parts.{each_item};
 ghost use Rattle.vap_select.specs.SelectorForm.{is_selector, selector_of};
 ghost use Rattle.vap_match.specs.RuleForm.{operation_word, scope_word, operation_at, scope_at, is_operation, is_policy};
 ghost use Rattle.vap_match.specs.RuleForm.{has_selectors, has_scope, has_scopes, is_rule, has_rules, least_fault};
-ghost use Rattle.vap_match.specs.RuleForm.{IsLeast, TellsLeast, operation_of, scope_of, rule_of, rules_of, rules_under, read_rules};
+ghost use Rattle.vap_match.specs.RuleForm.{IsLeast, operation_of, scope_of, rule_of, rules_of, rules_under, read_rules};
 
 use crate::rules::{Operation, Rule, Rules, Scope};
 use json_members::{has_items, has_texts, items_in, may_have_texts, texts_in};
@@ -22,7 +22,7 @@ impl Rules {
     /// The rules that a document is, or the least of its faults.
     pub fn from_json(alloc: Global, json: &Json) -> Result<Rules, MatchError>
         ensures exact { Answers (read_rules (view json.now)) result }
-        ensures least { IfErr result (λ error. TellsLeast (view json.now) error) }
+        ensures least { IfErr result (IfFault (IsLeast (view json.now))) }
     {
         match fault_of(json) {
             Some(fault) => Err(MatchError::Fault(fault)),

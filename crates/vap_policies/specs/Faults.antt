@@ -1,12 +1,10 @@
 -- The faults of policies and bindings, and which of them is told.
-use Rattle.std.specs.Prelude.{◌≡◌, ◌<◌, ◌+◌, ℕ, Bool, true, false, List, ◌∷◌, map, Option, option_map, Result, Ok, Err}
+use Rattle.std.specs.Prelude.{◌≡◌, ◌<◌, ◌+◌, ℕ, Bool, true, false, List, ◌∷◌, map, Option, option_map}
 use Rattle.std.specs.List.{find}
 use Rattle.vap_match.specs.RuleForm as rules
 use Rattle.vap_policies.specs.declared.policy_fault.PolicyFault.{PolicyFault}
 use Rattle.vap_policies.specs.declared.policy_fault.PolicyFault.TheVariants.{MissingField, DenyWithWarn, TooMany, BadMessage}
 use Rattle.vap_policies.specs.declared.policy_fault.PolicyFault.TheVariants.{BadParamRef, DuplicateName, Rules}
-use Rattle.vap_policies.specs.declared.policy_fault.PolicyError.{PolicyError}
-use Rattle.vap_policies.specs.declared.policy_fault.PolicyError.TheVariants.{Fault, OutOfMemory}
 
 -- the number of a fault; those of rules stand behind the others, by their own numbers
 abbrev pub number_of : PolicyFault → ℕ
@@ -33,14 +31,3 @@ least_of_rules has = option_map Rules (find (λ f. has (Rules f)) rules.faults)
 -- this fault is there, and none of a lesser number
 abbrev pub IsLeast : (PolicyFault → Bool) → PolicyFault → Type 0
 IsLeast has f = (has f ≡ true) × ((g : PolicyFault) → number_of g < number_of f → has g ≡ false)
-
--- what is told is the least fault, or that memory ran out
-abbrev pub TellsLeast : (PolicyFault → Bool) → PolicyError → Type 0
-TellsLeast has (Fault f) = IsLeast has f
-TellsLeast has OutOfMemory = Unit {0}
-
--- the answer is this one or this fault, or memory ran out
-abbrev pub Answers : {A : Type 0} → Result A PolicyFault → Result A PolicyError → Type 0
-Answers want (Ok a) = want ≡ Ok a
-Answers want (Err (Fault f)) = want ≡ Err f
-Answers want (Err OutOfMemory) = Unit {0}

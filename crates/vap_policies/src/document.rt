@@ -3,8 +3,9 @@
 ghost use Rattle.std.specs.Prelude.{◌≡◌, IfOk, IfErr, IfSome, codes, option_map};
 ghost use Rattle.serde_json.specs.Find.{get};
 ghost use Rattle.serde_json.specs.View.{view, items_view};
+ghost use Rattle.failing.specs.Failures.{Answers, IfFault};
 ghost use Rattle.json_members.specs.Parts.{each_item};
-ghost use Rattle.vap_policies.specs.Faults.{least_of, least_of_rules, IsLeast, TellsLeast, Answers};
+ghost use Rattle.vap_policies.specs.Faults.{least_of, least_of_rules, IsLeast};
 ghost use Rattle.vap_policies.specs.PolicyForm.{applies, has_fault};
 ghost use Rattle.vap_policies.specs.PolicyReading.{param_kind_of, named_of, reason_of, validation_of, annotation_of};
 ghost use Rattle.vap_policies.specs.PolicyReading.{failure_policy_of, premises_of, decisions_of, policy_spec_of, read_spec, read_policy};
@@ -28,7 +29,7 @@ impl Policy {
     /// The policy that an object is, or the least of its faults.
     pub fn from_json(alloc: Global, json: &Json) -> Result<Policy, PolicyError>
         ensures exact { Answers (read_policy (view json.now)) result }
-        ensures least { IfErr result (λ error. TellsLeast (has_fault (view json.now)) error) }
+        ensures least { IfErr result (IfFault (IsLeast (has_fault (view json.now)))) }
     {
         match json.get("spec") {
             Some(found) => read_spec(alloc, found),
@@ -39,7 +40,7 @@ impl Policy {
 
 fn read_spec(alloc: Global, json: &Json) -> Result<Policy, PolicyError>
     ensures exact { Answers (read_spec (view json.now)) result }
-    ensures least { IfErr result (λ error. TellsLeast (applies (view json.now)) error) }
+    ensures least { IfErr result (IfFault (IsLeast (applies (view json.now)))) }
 {
     match fault_of(json) {
         Some(fault) => Err(PolicyError::Fault(fault)),

@@ -3,7 +3,7 @@
 ghost use Rattle.std.specs.Prelude.{◌≡◌};
 ghost use Rattle.vap_policies.specs.Names.{policy_fault_name};
 
-use std::alloc::{AllocError, AllocFailed};
+use failing::Failed;
 use thiserror::Error;
 use vap_match::MatchFault;
 
@@ -51,20 +51,4 @@ impl PolicyFault {
     }
 }
 
-#[derive(Debug, Drop, Error)]
-pub enum PolicyError {
-    #[error("out of memory")]
-    OutOfMemory,
-    #[error("{0}")]
-    Fault(PolicyFault),
-}
-
-impl From<AllocError> for PolicyError {
-    ghost use Rattle.vap_policies.specs.declared.policy_fault.PolicyError.TheVariants.{OutOfMemory};
-
-    ghost from_gives = { λ _ e. e ≡ OutOfMemory };
-
-    fn from(_e: AllocError) -> PolicyError {
-        PolicyError::OutOfMemory
-    }
-}
+pub type PolicyError = Failed<PolicyFault>;

@@ -2,3 +2,4 @@ pub mod Standing
 pub mod Typed
 pub mod Each
 pub mod Unverified
+pub mod Crossing

@@ -2,7 +2,8 @@
 
 ghost use Rattle.std.specs.Prelude.{◌≡◌, ℕ, IfOk, IsErrOf};
 ghost use Rattle.cel_expression.specs.Faulty.{IsUnverified};
-ghost use Rattle.cel_expression.specs.declared.refusal.CompileError.TheVariants.{Unverified};
+ghost use Rattle.failing.specs.declared.failed.Failed.TheVariants.{Fault};
+ghost use Rattle.cel_expression.specs.declared.refusal.CompileFault.TheVariants.{Unverified};
 ghost use Rattle.vap_programs.specs.Expressions.{of_annotations, IsOneUnverified};
 ghost use Rattle.vap_programs.specs.Pairs.{each, annotation_of};
 ghost use Rattle.vap_programs.specs.Scopes.{source};
@@ -24,7 +25,7 @@ fn compile_annotation(
     annotation: &AuditAnnotation,
 ) -> Result<Result<Annotation, PairFault>, CompileError>
     ensures compiled { IfOk result (λ a. a ≡ annotation_of choice.now names.now annotation.now) }
-    ensures unverified { (at : ℕ) → IsErrOf result (Unverified at)
+    ensures unverified { (at : ℕ) → IsErrOf result (Fault (Unverified at))
         → IsUnverified (source choice.now names.now annotation.now.value_expression) at }
 {
     let key = annotation.key.copy()?;
@@ -47,7 +48,7 @@ pub fn compile_annotations(
     annotations: &[AuditAnnotation],
 ) -> Result<Result<Items<Annotation>, PairFault>, CompileError>
     ensures compiled { IfOk result (λ ns. ns ≡ each (annotation_of choice.now names.now) annotations.now) }
-    ensures unverified { (at : ℕ) → IsErrOf result (Unverified at)
+    ensures unverified { (at : ℕ) → IsErrOf result (Fault (Unverified at))
         → IsOneUnverified at (of_annotations choice.now names.now annotations.now) }
 {
     let mut made = Vec::new(alloc);

@@ -2,7 +2,8 @@
 
 ghost use Rattle.std.specs.Prelude.{◌≡◌, ℕ, IfOk, IsErrOf};
 ghost use Rattle.cel_expression.specs.Faulty.{IsUnverified};
-ghost use Rattle.cel_expression.specs.declared.refusal.CompileError.TheVariants.{Unverified};
+ghost use Rattle.failing.specs.declared.failed.Failed.TheVariants.{Fault};
+ghost use Rattle.cel_expression.specs.declared.refusal.CompileFault.TheVariants.{Unverified};
 ghost use Rattle.vap_programs.specs.Expressions.{of_conditions, IsOneUnverified};
 ghost use Rattle.vap_programs.specs.Pairs.{each, condition_of};
 ghost use Rattle.vap_programs.specs.Scopes.{source};
@@ -24,7 +25,7 @@ fn compile_condition(
     condition: &NamedExpression,
 ) -> Result<Result<Condition, PairFault>, CompileError>
     ensures compiled { IfOk result (λ c. c ≡ condition_of choice.now names.now condition.now) }
-    ensures unverified { (at : ℕ) → IsErrOf result (Unverified at)
+    ensures unverified { (at : ℕ) → IsErrOf result (Fault (Unverified at))
         → IsUnverified (source choice.now names.now condition.now.expression) at }
 {
     let name = condition.name.copy()?;
@@ -41,7 +42,7 @@ pub fn compile_conditions(
     conditions: &[NamedExpression],
 ) -> Result<Result<Items<Condition>, PairFault>, CompileError>
     ensures compiled { IfOk result (λ cs. cs ≡ each (condition_of choice.now names.now) conditions.now) }
-    ensures unverified { (at : ℕ) → IsErrOf result (Unverified at)
+    ensures unverified { (at : ℕ) → IsErrOf result (Fault (Unverified at))
         → IsOneUnverified at (of_conditions choice.now names.now conditions.now) }
 {
     let mut made = Vec::new(alloc);

@@ -1,7 +1,8 @@
 //! A policy at a kind.
 
 ghost use Rattle.std.specs.Prelude.{◌≡◌, ℕ, IfOk, IsErrOf};
-ghost use Rattle.cel_expression.specs.declared.refusal.CompileError.TheVariants.{Unverified};
+ghost use Rattle.failing.specs.declared.failed.Failed.TheVariants.{Fault};
+ghost use Rattle.cel_expression.specs.declared.refusal.CompileFault.TheVariants.{Unverified};
 ghost use Rattle.vap_programs.specs.Expressions.{of_decisions, of_behind, expressions_of, IsOneUnverified};
 ghost use Rattle.vap_programs.specs.Scopes.{first_names};
 ghost use Rattle.vap_programs.specs.Pairs.{within_price, decisions_behind, programs_behind, programs_at, programs_with, pair_of};
@@ -42,7 +43,8 @@ fn compile_decisions(
     policy: &PolicySpec,
 ) -> Result<Result<Programs, PairFault>, CompileError>
     ensures compiled { IfOk result (λ ps. ps ≡ decisions_behind choice.now conditions policy.now (scoped_by defined)) }
-    ensures unverified { (at : ℕ) → IsErrOf result (Unverified at) → IsOneUnverified at (of_decisions choice.now defined.names policy.now) }
+    ensures unverified { (at : ℕ) → IsErrOf result (Fault (Unverified at))
+        → IsOneUnverified at (of_decisions choice.now defined.names policy.now) }
 {
     let Defined { variables, names } = defined;
     match compile_checks(alloc, choice, &names, policy.validations.as_slice())? {
@@ -70,7 +72,8 @@ fn compile_behind(
     policy: &PolicySpec,
 ) -> Result<Result<Programs, PairFault>, CompileError>
     ensures compiled { IfOk result (λ ps. ps ≡ programs_behind choice.now names.now policy.now conditions) }
-    ensures unverified { (at : ℕ) → IsErrOf result (Unverified at) → IsOneUnverified at (of_behind choice.now names.now policy.now) }
+    ensures unverified { (at : ℕ) → IsErrOf result (Fault (Unverified at))
+        → IsOneUnverified at (of_behind choice.now names.now policy.now) }
 {
     match compile_variables(alloc, choice, names, policy.variables.as_slice())? {
         Err(fault) => Ok(Err(fault)),
@@ -85,7 +88,8 @@ fn compile_all(
     policy: &PolicySpec,
 ) -> Result<Result<Programs, PairFault>, CompileError>
     ensures compiled { IfOk result (λ ps. ps ≡ programs_at choice.now names.now policy.now) }
-    ensures unverified { (at : ℕ) → IsErrOf result (Unverified at) → IsOneUnverified at (expressions_of choice.now names.now policy.now) }
+    ensures unverified { (at : ℕ) → IsErrOf result (Fault (Unverified at))
+        → IsOneUnverified at (expressions_of choice.now names.now policy.now) }
 {
     match compile_conditions(alloc, choice, names, policy.match_conditions.as_slice())? {
         Err(fault) => Ok(Err(fault)),
@@ -101,7 +105,7 @@ fn compile_with(
     policy: &PolicySpec,
 ) -> Result<Result<Programs, PairFault>, CompileError>
     ensures compiled { IfOk result (λ ps. ps ≡ programs_with choice.now types.now params.now policy.now) }
-    ensures unverified { (at : ℕ) → IsErrOf result (Unverified at)
+    ensures unverified { (at : ℕ) → IsErrOf result (Fault (Unverified at))
         → IsOneUnverified at (expressions_of choice.now (first_names types.now params.now) policy.now) }
 {
     if params.is_unknown() {
@@ -124,7 +128,7 @@ pub fn pair(
     policy: &PolicySpec,
 ) -> Result<Pair, CompileError>
     ensures pair { IfOk result (λ pair. pair ≡ pair_of choice.now types.now params.now policy.now) }
-    ensures unverified { (at : ℕ) → IsErrOf result (Unverified at)
+    ensures unverified { (at : ℕ) → IsErrOf result (Fault (Unverified at))
         → IsOneUnverified at (expressions_of choice.now (first_names types.now params.now) policy.now) }
 {
     match compile_with(alloc, choice, types, params, policy)? {

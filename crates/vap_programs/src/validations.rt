@@ -2,7 +2,8 @@
 
 ghost use Rattle.std.specs.Prelude.{◌≡◌, ℕ, IfOk, IsErrOf};
 ghost use Rattle.std.specs.List.{flat_map};
-ghost use Rattle.cel_expression.specs.declared.refusal.CompileError.TheVariants.{Unverified};
+ghost use Rattle.failing.specs.declared.failed.Failed.TheVariants.{Fault};
+ghost use Rattle.cel_expression.specs.declared.refusal.CompileFault.TheVariants.{Unverified};
 ghost use Rattle.vap_programs.specs.Expressions.{of_check, of_message, IsOneUnverified};
 ghost use Rattle.vap_programs.specs.Pairs.{each, message_of, check_of};
 
@@ -22,7 +23,8 @@ fn compile_message(
     message: &Option<Text>,
 ) -> Result<Result<Option<Compiled>, PairFault>, CompileError>
     ensures compiled { IfOk result (λ m. m ≡ message_of choice.now names.now message.now) }
-    ensures unverified { (at : ℕ) → IsErrOf result (Unverified at) → IsOneUnverified at (of_message choice.now names.now message.now) }
+    ensures unverified { (at : ℕ) → IsErrOf result (Fault (Unverified at))
+        → IsOneUnverified at (of_message choice.now names.now message.now) }
 {
     match message {
         None => Ok(Ok(None)),
@@ -50,7 +52,8 @@ fn compile_check(
     validation: &Validation,
 ) -> Result<Result<Check, PairFault>, CompileError>
     ensures compiled { IfOk result (λ c. c ≡ check_of choice.now names.now validation.now) }
-    ensures unverified { (at : ℕ) → IsErrOf result (Unverified at) → IsOneUnverified at (of_check choice.now names.now validation.now) }
+    ensures unverified { (at : ℕ) → IsErrOf result (Fault (Unverified at))
+        → IsOneUnverified at (of_check choice.now names.now validation.now) }
 {
     let message = copied(&validation.message)?;
     match compile_as(alloc, choice, names, &validation.expression, Wanted::Truth)? {
@@ -76,7 +79,7 @@ pub fn compile_checks(
     validations: &[Validation],
 ) -> Result<Result<Items<Check>, PairFault>, CompileError>
     ensures compiled { IfOk result (λ cs. cs ≡ each (check_of choice.now names.now) validations.now) }
-    ensures unverified { (at : ℕ) → IsErrOf result (Unverified at)
+    ensures unverified { (at : ℕ) → IsErrOf result (Fault (Unverified at))
         → IsOneUnverified at (flat_map (of_check choice.now names.now) validations.now) }
 {
     let mut made = Vec::new(alloc);

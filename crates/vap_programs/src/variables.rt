@@ -1,7 +1,8 @@
 //! Variables, compiled: each sees those before it.
 
 ghost use Rattle.std.specs.Prelude.{◌≡◌, ℕ, [], IfOk, IsErrOf};
-ghost use Rattle.cel_expression.specs.declared.refusal.CompileError.TheVariants.{Unverified};
+ghost use Rattle.failing.specs.declared.failed.Failed.TheVariants.{Fault};
+ghost use Rattle.cel_expression.specs.declared.refusal.CompileFault.TheVariants.{Unverified};
 ghost use Rattle.vap_programs.specs.Expressions.{of_variables, IsOneUnverified};
 ghost use Rattle.vap_programs.specs.Pairs.{scoped_from};
 ghost use Rattle.vap_programs.specs.Defined.{scoped};
@@ -28,7 +29,8 @@ pub fn compile_variables(
     variables: &[NamedExpression],
 ) -> Result<Result<Defined, PairFault>, CompileError>
     ensures compiled { IfOk result (λ d. scoped d ≡ scoped_from choice.now first.now [] variables.now) }
-    ensures unverified { (at : ℕ) → IsErrOf result (Unverified at) → IsOneUnverified at (of_variables choice.now first.now variables.now) }
+    ensures unverified { (at : ℕ) → IsErrOf result (Fault (Unverified at))
+        → IsOneUnverified at (of_variables choice.now first.now variables.now) }
 {
     let mut made = Vec::new(alloc);
     let mut names = first.share()?;

@@ -5,7 +5,8 @@ ghost use Rattle.cel_value.specs.declared.cel_type.CelType.{out-CelType};
 ghost use Rattle.vap_programs.specs.Scopes.{source};
 ghost use Rattle.cel_expression.specs.Expressions.{root_type, type_at, typed_of};
 ghost use Rattle.cel_expression.specs.Faulty.{IsUnverified};
-ghost use Rattle.cel_expression.specs.declared.refusal.CompileError.TheVariants.{Unverified};
+ghost use Rattle.failing.specs.declared.failed.Failed.TheVariants.{Fault};
+ghost use Rattle.cel_expression.specs.declared.refusal.CompileFault.TheVariants.{Unverified};
 ghost use Rattle.vap_programs.specs.Wanted.{is_text, is_truth_level, is_note_level, is_wanted, wrong_type, as_wanted, compiled_as};
 
 use crate::names::NameTypes;
@@ -128,7 +129,7 @@ pub fn compile_as(
 ) -> Result<Result<Compiled, PairFault>, CompileError>
     ensures compiled { IfOk result (λ c. c ≡ compiled_as wanted (source choice.now names.now text.now)) }
     ensures itself { IfOk result (λ c. IfOk c (λ s. s ≡ source choice.now names.now text.now)) }
-    ensures unverified { (at : ℕ) → IsErrOf result (Unverified at) → IsUnverified (source choice.now names.now text.now) at }
+    ensures unverified { (at : ℕ) → IsErrOf result (Fault (Unverified at)) → IsUnverified (source choice.now names.now text.now) at }
 {
     match compile_text(alloc, choice, names, text)? {
         Ok(compiled) => Ok(of_wanted_type(wanted, compiled)),

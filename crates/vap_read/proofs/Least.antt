@@ -4,6 +4,9 @@ use Rattle.std.proofs.Common.{Result, Ok, Err, refl, ap, sym, ◌∙◌, subst, 
 use Rattle.std.specs.Prelude.{is_ok, codes, IfErr, if◌then◌else◌}
 use Rattle.serde_json.specs.Data as json
 use Rattle.serde_json.specs.Data.{Data, Items}
+use Rattle.failing.specs.Failures.{Answers, IfFault}
+use Rattle.failing.specs.declared.failed.Failed.{Failed}
+use Rattle.failing.specs.declared.failed.Failed.TheVariants.{Fault, OutOfMemory}
 use Rattle.json_members.specs.Reading.{unless}
 use Rattle.vap_policies.specs.Faults as policies
 use Rattle.vap_policies.specs.PolicyForm as policy
@@ -12,12 +15,12 @@ use Rattle.vap_policies.specs.declared.policy_fault.PolicyFault.{PolicyFault}
 use Rattle.vap_policies.proofs.Least.{least_found}
 use Rattle.vap_bindings.specs.BindingForm as binding
 use Rattle.vap_bindings.specs.BindingReading.{read_binding}
-use Rattle.vap_read.specs.Faults.{number_of, has_fault, watch_fault, IsLeast, Answers}
+use Rattle.vap_read.specs.Faults.{number_of, has_fault, watch_fault, IsLeast}
 use Rattle.vap_read.specs.Lines.{line_kind, action_in}
 use Rattle.vap_read.specs.Objects.{is_object, is_policy, is_binding, key_of, member_in}
 use Rattle.vap_read.specs.Reading.{made, before, put_all, read_content, with_content, read_object, read_key, read_items, read_all}
 use Rattle.vap_read.specs.Reading.{read_watched, read_list, read_line, read_event}
-use Rattle.vap_read.specs.Told.{IsFirst, IsOfList, IsOfLine, Tells, TellsOf}
+use Rattle.vap_read.specs.Told.{IsFirst, IsOfList, IsOfLine, IsFaultOf}
 use Rattle.vap_read.specs.declared.line.LineKind.{LineKind}
 use Rattle.vap_read.specs.declared.line.LineKind.TheVariants as line
 use Rattle.vap_read.specs.declared.line.Action.{Action}
@@ -29,8 +32,6 @@ use Rattle.vap_read.specs.declared.event.Event.{Event}
 use Rattle.vap_read.specs.declared.event.Event.TheVariants.{Put, Removed, Replaced}
 use Rattle.vap_read.specs.declared.event_fault.EventFault.{EventFault}
 use Rattle.vap_read.specs.declared.event_fault.EventFault.TheVariants.{BadType, BadObject, OfPolicy}
-use Rattle.vap_read.specs.declared.event_fault.EventError.{EventError}
-use Rattle.vap_read.specs.declared.event_fault.EventError.TheVariants.{Fault, OutOfMemory}
 
 abbrev fault_or : {A : Type 0} → EventFault → Result A EventFault → EventFault
 fault_or f (Ok a) = f
@@ -197,12 +198,14 @@ line_least line.Review d f e = sym (ap (fault_or f) e)
 line_least line.Unknown d f e = sym (ap (fault_or f) e)
 
 -- what answers a line of this kind tells the fault of the line
-pub told_of_kind : (k : LineKind) (d : Data) (r : Result Event EventError) → Answers (read_line k d) r
-    → IfErr r (λ error. TellsOf k d error)
+pub told_of_kind : (k : LineKind) (d : Data) (r : Result Event (Failed EventFault)) → Answers (read_line k d) r
+    → IfErr r (IfFault (IsOfLine k d))
 told_of_kind k d (Ok e) answers = tt
 told_of_kind k d (Err (Fault f)) answers = line_least k d f answers
 told_of_kind k d (Err OutOfMemory) answers = tt
 
 -- what answers a line tells its fault
-pub told_of : (d : Data) (r : Result Event EventError) → Answers (read_event d) r → IfErr r (λ error. Tells d error)
-told_of d r answers = told_of_kind (line_kind d) d r answers
+pub told_of : (d : Data) (r : Result Event (Failed EventFault)) → Answers (read_event d) r → IfErr r (IfFault (IsFaultOf d))
+told_of d (Ok e) answers = tt
+told_of d (Err (Fault f)) answers = line_least (line_kind d) d f answers
+told_of d (Err OutOfMemory) answers = tt

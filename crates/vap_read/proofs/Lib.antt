@@ -4,3 +4,4 @@ pub mod KeyOrder
 pub mod Keyed
 pub mod Least
 pub mod WorkedRows
+pub mod Crossing

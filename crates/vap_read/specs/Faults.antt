@@ -1,19 +1,15 @@
 -- The faults of events, and which of them is told.
 use Rattle.std.specs.Prelude.{◌≡◌, ◌<◌, ◌+◌, ℕ, Bool, true, false, not, if◌then◌else◌}
-use Rattle.std.specs.Prelude.{Option, Some, None, Result, Ok, Err}
+use Rattle.std.specs.Prelude.{Option, Some, None}
 use Rattle.serde_json.specs.Data.{Data}
 use Rattle.vap_policies.specs.Faults as policies
 use Rattle.vap_policies.specs.PolicyForm as policy
-use Rattle.vap_policies.specs.declared.policy_fault.PolicyError.{PolicyError}
-use Rattle.vap_policies.specs.declared.policy_fault.PolicyError.TheVariants as refused
 use Rattle.vap_bindings.specs.BindingForm as binding
 use Rattle.vap_read.specs.Objects.{is_object, is_policy, is_binding}
 use Rattle.vap_read.specs.declared.line.Action.{Action}
 use Rattle.vap_read.specs.declared.line.Action.TheVariants.{Put, Remove, Pass}
 use Rattle.vap_read.specs.declared.event_fault.EventFault.{EventFault}
 use Rattle.vap_read.specs.declared.event_fault.EventFault.TheVariants.{BadType, BadObject, OfPolicy}
-use Rattle.vap_read.specs.declared.event_fault.EventError.{EventError}
-use Rattle.vap_read.specs.declared.event_fault.EventError.TheVariants.{Fault, OutOfMemory}
 
 -- the number of a fault; those of policies and bindings stand behind the others, by their own numbers
 abbrev pub number_of : EventFault → ℕ
@@ -42,19 +38,3 @@ watch_fault (Some Pass) d f = false
 -- this fault is there, and none of a lesser number
 abbrev pub IsLeast : (EventFault → Bool) → EventFault → Type 0
 IsLeast has f = (has f ≡ true) × ((g : EventFault) → number_of g < number_of f → has g ≡ false)
-
--- what is told is the least fault of some, or that memory ran out
-abbrev pub TellsLeast : (EventFault → Bool) → EventError → Type 0
-TellsLeast has (Fault f) = IsLeast has f
-TellsLeast has OutOfMemory = Unit {0}
-
--- the answer is this one or this fault, or memory ran out
-abbrev pub Answers : {A : Type 0} → Result A EventFault → Result A EventError → Type 0
-Answers want (Ok a) = want ≡ Ok a
-Answers want (Err (Fault f)) = want ≡ Err f
-Answers want (Err OutOfMemory) = Unit {0}
-
--- the refusal of a policy or a binding, as one of an event
-abbrev pub error_of : PolicyError → EventError
-error_of refused.OutOfMemory = OutOfMemory
-error_of (refused.Fault f) = Fault (OfPolicy f)

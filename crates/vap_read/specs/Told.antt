@@ -10,8 +10,6 @@ use Rattle.vap_read.specs.declared.line.LineKind.{LineKind}
 use Rattle.vap_read.specs.declared.line.LineKind.TheVariants.{WatchEvent, ObjectList, Review, Unknown}
 use Rattle.vap_read.specs.declared.event_fault.EventFault.{EventFault}
 use Rattle.vap_read.specs.declared.event_fault.EventFault.TheVariants.{BadType, BadObject}
-use Rattle.vap_read.specs.declared.event_fault.EventError.{EventError}
-use Rattle.vap_read.specs.declared.event_fault.EventError.TheVariants.{Fault, OutOfMemory}
 
 -- this is the least fault of an item, and all items before it are objects without a fault
 abbrev pub IsFirst : Items → EventFault → Type 0
@@ -30,11 +28,6 @@ IsOfLine ObjectList d f = IsOfList (member_in (codes "items") d) f
 IsOfLine Review d f = f ≡ BadType
 IsOfLine Unknown d f = f ≡ BadType
 
--- what is told is the fault of a line of this kind, or that memory ran out
-abbrev pub TellsOf : LineKind → Data → EventError → Type 0
-TellsOf k d (Fault f) = IsOfLine k d f
-TellsOf k d OutOfMemory = Unit {0}
-
--- what is told is the line's fault, or that memory ran out
-abbrev pub Tells : Data → EventError → Type 0
-Tells d error = TellsOf (line_kind d) d error
+-- this is the line's fault
+abbrev pub IsFaultOf : Data → EventFault → Type 0
+IsFaultOf d f = IsOfLine (line_kind d) d f

@@ -3,9 +3,9 @@
 ghost use Rattle.std.specs.Prelude.{◌≡◌};
 ghost use Rattle.vap_read.specs.Names.{event_fault_name};
 
-use std::alloc::AllocError;
+use failing::Failed;
 use thiserror::Error;
-use vap_policies::{PolicyError, PolicyFault};
+use vap_policies::PolicyFault;
 
 /// The faults by their numbers, from 1 on.
 #[derive(Clone, Copy, Debug, PartialEq, Eq, Error)]
@@ -34,43 +34,14 @@ impl EventFault {
     }
 }
 
-#[derive(Debug, Drop, Error)]
-pub enum EventError {
-    #[error("out of memory")]
-    OutOfMemory,
-    #[error("{0}")]
-    Fault(EventFault),
-}
+impl From<PolicyFault> for EventFault {
+    ghost use Rattle.vap_read.specs.declared.event_fault.EventFault.TheVariants.{OfPolicy};
 
-impl From<AllocError> for EventError {
-    ghost use Rattle.vap_read.specs.declared.event_fault.EventError.TheVariants.{OutOfMemory};
+    ghost from_gives = { λ fault told. told ≡ OfPolicy fault };
 
-    ghost from_gives = { λ _ e. e ≡ OutOfMemory };
-
-    fn from(_e: AllocError) -> EventError {
-        EventError::OutOfMemory
+    fn from(fault: PolicyFault) -> EventFault {
+        EventFault::OfPolicy(fault)
     }
 }
 
-impl From<EventFault> for EventError {
-    ghost use Rattle.vap_read.specs.declared.event_fault.EventError.TheVariants.{Fault};
-
-    ghost from_gives = { λ fault e. e ≡ Fault fault };
-
-    fn from(fault: EventFault) -> EventError {
-        EventError::Fault(fault)
-    }
-}
-
-impl From<PolicyError> for EventError {
-    ghost use Rattle.vap_read.specs.Faults.{error_of};
-
-    ghost from_gives = { λ error e. e ≡ error_of error };
-
-    fn from(error: PolicyError) -> EventError {
-        match error {
-            PolicyError::OutOfMemory => EventError::OutOfMemory,
-            PolicyError::Fault(fault) => EventError::Fault(EventFault::OfPolicy(fault)),
-        }
-    }
-}
+pub type EventError = Failed<EventFault>;

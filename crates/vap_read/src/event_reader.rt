@@ -2,9 +2,9 @@
 
 ghost use Rattle.std.specs.Prelude.{IfErr};
 ghost use Rattle.serde_json.specs.View.{view};
-ghost use Rattle.vap_read.specs.Faults.{Answers};
+ghost use Rattle.failing.specs.Failures.{Answers, IfFault};
 ghost use Rattle.vap_read.specs.Reading.{read_line, read_event};
-ghost use Rattle.vap_read.specs.Told.{Tells, TellsOf};
+ghost use Rattle.vap_read.specs.Told.{IsOfLine, IsFaultOf};
 ghost use Rattle.vap_read.specs.declared.line.LineKind.TheVariants.{WatchEvent, ObjectList};
 
 use crate::event::Event;
@@ -48,7 +48,7 @@ impl EventReader {
     #[tactic(auto, using(crate::proofs::Least::told_of))]
     pub fn read_json(&self, line: Json) -> Result<Event, EventError>
         ensures exact { Answers (read_event (view line)) result }
-        ensures told { IfErr result (λ error. Tells (view line) error) }
+        ensures told { IfErr result (IfFault (IsFaultOf (view line))) }
     {
         match line_kind(&line) {
             LineKind::WatchEvent => self.read_watch_event(line),
@@ -61,7 +61,7 @@ impl EventReader {
     #[tactic(auto, using(crate::proofs::Least::told_of_kind))]
     pub fn read_watch_event(&self, line: Json) -> Result<Event, EventError>
         ensures exact { Answers (read_line WatchEvent (view line)) result }
-        ensures told { IfErr result (λ error. TellsOf WatchEvent (view line) error) }
+        ensures told { IfErr result (IfFault (IsOfLine WatchEvent (view line))) }
     {
         watched(self.alloc, line, &self.metadata)
     }
@@ -70,7 +70,7 @@ impl EventReader {
     #[tactic(auto, using(crate::proofs::Least::told_of_kind))]
     pub fn read_list(&self, line: Json) -> Result<Event, EventError>
         ensures exact { Answers (read_line ObjectList (view line)) result }
-        ensures told { IfErr result (λ error. TellsOf ObjectList (view line) error) }
+        ensures told { IfErr result (IfFault (IsOfLine ObjectList (view line))) }
     {
         listed(self.alloc, taken(line, "items"), &self.metadata)
     }
@@ -80,7 +80,7 @@ impl Event {
     /// The event that one line is, or the fault that is told of it, as [`EventReader::read_json`] reads it.
     pub fn from_json(alloc: Global, line: Json) -> Result<Event, EventError>
         ensures exact { Answers (read_event (view line)) result }
-        ensures told { IfErr result (λ error. Tells (view line) error) }
+        ensures told { IfErr result (IfFault (IsFaultOf (view line))) }
     {
         let reader = EventReader::new(alloc)?;
         reader.read_json(line)

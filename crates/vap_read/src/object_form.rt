@@ -3,9 +3,9 @@
 ghost use Rattle.std.specs.Prelude.{◌≡◌, IfOk, Result, codes, is_ok};
 ghost use Rattle.serde_json.specs.Find.{get};
 ghost use Rattle.serde_json.specs.View.{view};
+ghost use Rattle.failing.specs.Failures.{Answers};
 ghost use Rattle.json_members.specs.Forms.{there_and};
 ghost use Rattle.cel_value.specs.declared.value.Value.{Value as ValueOf};
-ghost use Rattle.vap_fit.specs.Seen.{Answers as Seen};
 ghost use Rattle.vap_fit.specs.declared.fit_fault.FitFault.{FitFault as FitFaultOf};
 ghost use Rattle.vap_schema.specs.FixedTypes.{metadata_type};
 ghost use Rattle.vap_read.specs.Objects.{is_metadata, is_object, key_of, text_under};
@@ -20,7 +20,7 @@ use vap_schema::{FitError, fit};
 
 /// Whether a document was of its type.
 fn is_fitted(fitted: Result<Value, FitError>) -> Result<bool, AllocError>
-    ensures { (want : Result ValueOf FitFaultOf) → Seen want fitted → IfOk result (λ truth. truth ≡ is_ok want) }
+    ensures { (want : Result ValueOf FitFaultOf) → Answers want fitted → IfOk result (λ truth. truth ≡ is_ok want) }
 {
     match &fitted {
         Ok(_) => Ok(true),

@@ -2,9 +2,8 @@
 
 ghost use Rattle.std.specs.Prelude.{◌≡◌, List, Result, Some};
 ghost use Rattle.serde_json.specs.View.{view, items_view};
-ghost use Rattle.vap_policies.specs.Faults.{Answers as Told};
+ghost use Rattle.failing.specs.Failures.{Answers};
 ghost use Rattle.vap_policies.specs.declared.policy_fault.PolicyFault.{PolicyFault as PolicyFaultOf};
-ghost use Rattle.vap_read.specs.Faults.{Answers};
 ghost use Rattle.vap_schema.specs.FixedTypes.{metadata_type};
 ghost use Rattle.vap_read.specs.Objects.{key_of, member_in};
 ghost use Rattle.vap_read.specs.Reading.{made, read_content, with_content, read_object, read_key, read_all};
@@ -116,7 +115,7 @@ fn read_key(alloc: Global, json: &Json, fixed: &CelType) -> Result<Key, EventErr
 }
 
 fn content_of(alloc: Global, json: &Json) -> Result<Content, PolicyError>
-    ensures { Told (read_content (view json.now)) result }
+    ensures { Answers (read_content (view json.now)) result }
 {
     if is_of(json, POLICY_VERSION, "ValidatingAdmissionPolicy") {
         Ok(Content::Policy(Policy::from_json(alloc, json)?))
@@ -141,10 +140,13 @@ fn object_with(
     content: Result<Content, PolicyError>,
     json: Json,
 ) -> Result<Shared<Object>, EventError>
-    ensures { key ≡ key_of (view json) → (want : Result ContentOf PolicyFaultOf) → Told want content
+    ensures { key ≡ key_of (view json) → (want : Result ContentOf PolicyFaultOf) → Answers want content
         → Answers (with_content (view json) want) result }
 {
-    let content = content?;
+    let content = match content {
+        Ok(content) => content,
+        Err(error) => return Err(error.widened()),
+    };
     let object = Object {
         key,
         content,

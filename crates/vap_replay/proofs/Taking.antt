@@ -10,8 +10,10 @@ use Rattle.vap_watch.specs.Given.{Choice, takes}
 use Rattle.vap_watch.specs.Logs.{objects_of, publication}
 use Rattle.vap_watch.specs.Places.{Position, most_events}
 use Rattle.vap_watch.specs.declared.log.Logged.{Logged}
-use Rattle.vap_watch.specs.declared.fault.PublishError.{PublishError}
-use Rattle.vap_watch.specs.declared.fault.PublishError.TheVariants as publishing
+use Rattle.failing.specs.declared.failed.Failed.{Failed}
+use Rattle.failing.specs.declared.failed.Failed.TheVariants as failed
+use Rattle.vap_watch.specs.declared.fault.PublishFault.{PublishFault}
+use Rattle.vap_watch.specs.declared.fault.PublishFault.TheVariants as publishing
 use Rattle.vap_watch.specs.declared.fault.StageFault.{StageFault}
 use Rattle.vap_watch.specs.declared.fault.StageFault.TheVariants as staging
 use Rattle.vap_lines.specs.Counted.{inner_of}
@@ -130,12 +132,12 @@ staged_not event log line staging.TooManyObjects full many number why is =
 staged_not event log line staging.OutOfMemory full many number why is = cc
 
 -- what is not published is not told of the lines alone
-pub published_not : (line : ℕ) (e : PublishError) (number : ℕ) (why : LineFault) → unpublished line e ≡ Line number why
+pub published_not : (line : ℕ) (e : Failed PublishFault) (number : ℕ) (why : LineFault) → unpublished line e ≡ Line number why
     → is_of_the_lines why ≡ false
-published_not line publishing.Unverified number why is =
+published_not line (failed.Fault publishing.Unverified) number why is =
     let same : fault.Unverified ≡ why = cc in
     rw (← same) refl
-published_not line publishing.OutOfMemory number why is = cc
+published_not line failed.OutOfMemory number why is = cc
 
 -- a fault is told of the lines alone or it is not
 pub not_both : (why : LineFault) → is_of_the_lines why ≡ false → is_of_the_lines why ≡ true → ⊥

@@ -12,8 +12,10 @@ use Rattle.vap_audit.specs.declared.entry.Entry.{Entry}
 use Rattle.vap_replay.specs.Replay.{Choices, Sofar, beginning, entry_of}
 use Rattle.vap_lines.specs.declared.lines.LineError.{LineError}
 use Rattle.vap_lines.specs.declared.lines.LineError.TheVariants as reading
-use Rattle.vap_watch.specs.declared.fault.PublishError.{PublishError}
-use Rattle.vap_watch.specs.declared.fault.PublishError.TheVariants as publishing
+use Rattle.failing.specs.declared.failed.Failed.{Failed}
+use Rattle.failing.specs.declared.failed.Failed.TheVariants as failed
+use Rattle.vap_watch.specs.declared.fault.PublishFault.{PublishFault}
+use Rattle.vap_watch.specs.declared.fault.PublishFault.TheVariants as publishing
 use Rattle.vap_watch.specs.declared.fault.StageFault.{StageFault}
 use Rattle.vap_watch.specs.declared.fault.StageFault.TheVariants as staging
 use Rattle.vap_replay.specs.declared.fault.LineFault.{LineFault}
@@ -111,9 +113,9 @@ unstaged line staging.TooManyObjects = Line line TooManyObjects
 unstaged line staging.OutOfMemory = OutOfMemory
 
 -- what a failure to publish the event of a line is to the whole
-abbrev pub unpublished : ℕ → PublishError → ReplayError
-unpublished line publishing.Unverified = Line line Unverified
-unpublished line publishing.OutOfMemory = OutOfMemory
+abbrev pub unpublished : ℕ → Failed PublishFault → ReplayError
+unpublished line (failed.Fault publishing.Unverified) = Line line Unverified
+unpublished line failed.OutOfMemory = OutOfMemory
 
 -- a log has room for an event, and goes on with it alone
 pub record TakesEvent (log : List Logged) (event : Event) (new : List Logged) : Type 0 where

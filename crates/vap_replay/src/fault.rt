@@ -9,7 +9,7 @@ use thiserror::Error;
 use vap_lines::LineError;
 use vap_read::EventFault;
 use vap_request::ReviewFault;
-use vap_watch::{PublishError, StageFault};
+use vap_watch::{PublishError, PublishFault, StageFault};
 
 /// Why a line is refused.
 #[derive(Clone, Copy, Debug, PartialEq, Eq, Error)]
@@ -122,7 +122,7 @@ pub(crate) fn unpublished(line: u64, error: PublishError) -> ReplayError
     ensures { result ≡ unpublished line error }
 {
     match error {
-        PublishError::Unverified => ReplayError::Line {
+        PublishError::Fault(PublishFault::Unverified) => ReplayError::Line {
             line,
             fault: LineFault::Unverified,
         },

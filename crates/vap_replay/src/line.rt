@@ -1,8 +1,8 @@
 //! What a line of a stream is.
 
 ghost use Rattle.std.specs.Prelude.{◌≡◌, ◌≤◌, length, IfOk, Result, false};
+ghost use Rattle.failing.specs.Failures.{Answers};
 ghost use Rattle.vap_lines.specs.Lines.{longest_line};
-ghost use Rattle.vap_read.specs.Faults.{Answers};
 ghost use Rattle.vap_read.specs.declared.event.Event.{Event as EventOf};
 ghost use Rattle.vap_read.specs.declared.event_fault.EventFault.{EventFault as EventFaultOf};
 ghost use Rattle.vap_request.specs.Reading.{read_review as review_of};

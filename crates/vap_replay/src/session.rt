@@ -3,6 +3,8 @@
 ghost use Rattle.std.specs.Prelude.{◌≡◌, ◌≢◌, ◌+◌, ◌<◌, ◌≤◌, ◌^◌, ◌∷◌, ◌++◌, ℕ, [], false, true};
 ghost use Rattle.std.specs.Prelude.{length, take, slice_get, Some, IfErr, IfOk, IsErr, IsErrOf, OnOk, string_bytes};
 ghost use Rattle.std.specs.Io.KnownBytes.{Appends, Keeps};
+ghost use Rattle.failing.specs.declared.failed.Failed.TheVariants.{Fault};
+ghost use Rattle.cel_machine.specs.declared.fault.RunFault.TheVariants.{Pattern};
 ghost use Rattle.vap_lines.specs.Counted.{inner_of};
 ghost use Rattle.vap_lines.specs.Lines.{longest_line};
 ghost use Rattle.vap_audit.specs.Entries.{most_entries};
@@ -25,7 +27,7 @@ use std::io::Write;
 use std::mem;
 use vap_answer::answer_text;
 use vap_audit::{AuditFault, Entry, History, MOST_ENTRIES};
-use vap_judge::{JudgeError, Matchers};
+use vap_judge::{JudgeError, Matchers, RunFault};
 use vap_lines::Counted;
 use vap_read::{Event, EventReader};
 use vap_request::Request;
@@ -422,11 +424,11 @@ fn unjudged(first: u64, error: JudgeError) -> ReplayError
     ensures lines { (number : ℕ) → (why : FaultOf) → result ≡ ReplayError.Line number why → is_of_the_lines why ≡ false }
     ensures unwritten { result ≢ ReplayError.Write }
     ensures pattern { (number : ℕ) → (why : FaultOf) → result ≡ ReplayError.Line number why → (number ≡ first) × (why ≡ LineFault.Pattern) }
-    ensures told { (number : ℕ) → (why : FaultOf) → result ≡ ReplayError.Line number why → error ≡ JudgeError.Pattern }
+    ensures told { (number : ℕ) → (why : FaultOf) → result ≡ ReplayError.Line number why → error ≡ Fault Pattern }
     ensures no_read { result ≢ ReplayError.Read }
 {
     match error {
-        JudgeError::Pattern => ReplayError::Line {
+        JudgeError::Fault(RunFault::Pattern) => ReplayError::Line {
             line: first,
             fault: LineFault::Pattern,
         },

@@ -6,8 +6,6 @@ use Rattle.vap_request.specs.Limits.{is_short_review}
 use Rattle.vap_request.specs.Reviews.{is_review}
 use Rattle.vap_request.specs.declared.review_fault.ReviewFault.{ReviewFault}
 use Rattle.vap_request.specs.declared.review_fault.ReviewFault.TheVariants.{BadReview, OverLimit}
-use Rattle.vap_request.specs.declared.review_fault.ReviewError.{ReviewError}
-use Rattle.vap_request.specs.declared.review_fault.ReviewError.TheVariants.{Fault, OutOfMemory}
 
 -- which faults a review has
 abbrev pub applies : ReviewFault → Data → Bool
@@ -26,8 +24,3 @@ number_of OverLimit = 2
 -- a review has this fault, and none of a lesser number
 abbrev pub IsLeast : Data → ReviewFault → Type 0
 IsLeast d f = (applies f d ≡ true) × ((g : ReviewFault) → number_of g < number_of f → applies g d ≡ false)
-
--- what is told is the least fault, or that memory ran out
-abbrev pub TellsLeast : Data → ReviewError → Type 0
-TellsLeast d (Fault f) = IsLeast d f
-TellsLeast d OutOfMemory = Unit {0}

@@ -1,6 +1,6 @@
 -- Which request a review has.
 use Rattle.std.specs.Prelude.{◌≡◌, ℕ, Bool, false, codes, List, [], ◌∷◌, Option, Some}
-use Rattle.std.specs.Prelude.{unwrap_or, option_and_then, Result, Ok, Err}
+use Rattle.std.specs.Prelude.{unwrap_or, option_and_then, Result}
 use Rattle.plain.specs.declared.text.Keyed.{Keyed}
 use Rattle.serde_json.specs.Data as json
 use Rattle.serde_json.specs.Data.{Data, Members}
@@ -11,8 +11,6 @@ use Rattle.json_members.specs.Parts.{text_of, text_in, items_of, items_in, each_
 use Rattle.json_members.specs.Reading.{unless}
 use Rattle.vap_request.specs.Faults.{least_fault}
 use Rattle.vap_request.specs.declared.review_fault.ReviewFault.{ReviewFault}
-use Rattle.vap_request.specs.declared.review_fault.ReviewError.{ReviewError}
-use Rattle.vap_request.specs.declared.review_fault.ReviewError.TheVariants.{Fault, OutOfMemory}
 use Rattle.vap_request.specs.declared.request.Kind.{Kind}
 use Rattle.vap_request.specs.declared.request.Resource.{Resource}
 use Rattle.vap_request.specs.declared.request.UserInfo.{UserInfo}
@@ -104,9 +102,3 @@ request_of review = record { admission = admission_from review (asked (view revi
 -- the request of a review, or the review's least fault
 abbrev pub read_review : Json → Result Request ReviewFault
 read_review review = unless (request_of review) (least_fault (view review))
-
--- the answer is this one or this fault, or memory ran out
-abbrev pub Answers : Result Request ReviewFault → Result Request ReviewError → Type 0
-Answers want (Ok a) = want ≡ Ok a
-Answers want (Err (Fault f)) = want ≡ Err f
-Answers want (Err OutOfMemory) = Unit {0}

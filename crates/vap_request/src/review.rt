@@ -3,10 +3,11 @@
 ghost use Rattle.std.specs.Prelude.{◌≡◌, IfOk, IfErr, IfSome, None, codes, option_and_then};
 ghost use Rattle.serde_json.specs.Find.{get};
 ghost use Rattle.serde_json.specs.View.{view, members_view};
+ghost use Rattle.failing.specs.Failures.{Answers, IfFault};
 ghost use Rattle.json_members.specs.Parts.{text_of, text_in, items_of, items_in, each_item};
-ghost use Rattle.vap_request.specs.Reading.{Answers, asked, text_at, kind_of, resource_of, lists_under, lists_in};
+ghost use Rattle.vap_request.specs.Reading.{asked, text_at, kind_of, resource_of, lists_under, lists_in};
 ghost use Rattle.vap_request.specs.Reading.{user_info_of, dry_run_of, names_of, target_of, admission_from, request_of, read_review};
-ghost use Rattle.vap_request.specs.Faults.{least_fault, IsLeast, TellsLeast};
+ghost use Rattle.vap_request.specs.Faults.{least_fault, IsLeast};
 
 use crate::form::is_review;
 use crate::limits::is_short_review;
@@ -21,7 +22,7 @@ impl Request {
     /// The request of a review, or the least of the review's faults.
     pub fn from_json(alloc: Global, review: Json) -> Result<Request, ReviewError>
         ensures exact { Answers (read_review review) result }
-        ensures least { IfErr result (λ error. TellsLeast (view review) error) }
+        ensures least { IfErr result (IfFault (IsLeast (view review))) }
     {
         match fault_of(&review) {
             Some(fault) => Err(ReviewError::Fault(fault)),

@@ -3,7 +3,7 @@
 ghost use Rattle.std.specs.Prelude.{◌≡◌};
 ghost use Rattle.vap_request.specs.Names.{review_fault_name};
 
-use std::alloc::AllocError;
+use failing::Failed;
 use thiserror::Error;
 
 #[derive(Clone, Copy, Debug, PartialEq, Eq, Error)]
@@ -28,20 +28,4 @@ impl ReviewFault {
     }
 }
 
-#[derive(Debug, Drop, Error)]
-pub enum ReviewError {
-    #[error("out of memory")]
-    OutOfMemory,
-    #[error("{0}")]
-    Fault(ReviewFault),
-}
-
-impl From<AllocError> for ReviewError {
-    ghost use Rattle.vap_request.specs.declared.review_fault.ReviewError.TheVariants.{OutOfMemory};
-
-    ghost from_gives = { λ _ e. e ≡ OutOfMemory };
-
-    fn from(_e: AllocError) -> ReviewError {
-        ReviewError::OutOfMemory
-    }
-}
+pub type ReviewError = Failed<ReviewFault>;

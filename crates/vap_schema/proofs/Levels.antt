@@ -1,17 +1,18 @@
 -- Schemas inside each other: one level, and the walk over an object's properties.
 use Rattle.std.proofs.Common.{◌≡◌, ℕ, zero, suc, ◌-◌, ◌<◌, Bool, List, [], ◌∷◌, ◌++◌}
 use Rattle.std.proofs.Common.{Result, Ok, Err, Bor, ap, sym, ◌∙◌, subst, refl, arith}
+use Rattle.failing.specs.Failures.{Answers}
+use Rattle.failing.specs.declared.failed.Failed.{Failed}
+use Rattle.failing.specs.declared.failed.Failed.TheVariants.{Fault, OutOfMemory}
 use Rattle.plain.specs.declared.text.Keyed.{Keyed}
 use Rattle.plain.specs.Keys.{IsInKeyOrder, keys_in}
 use Rattle.serde_json.specs.Data.{Data, Members, no_members, member}
 use Rattle.cel_value.specs.declared.cel_type.Field.{Field}
 use Rattle.cel_value.specs.declared.cel_type.CelType.{CelType}
 use Rattle.vap_fit.specs.Seen.{◌>>=◌}
-use Rattle.vap_schema.specs.Schemas.{Inner, Answers, schema_type, nested_type, field_of, fields_of, is_named}
+use Rattle.vap_schema.specs.Schemas.{Inner, schema_type, nested_type, field_of, fields_of, is_named}
 use Rattle.vap_schema.specs.declared.schema_fault.SchemaFault.{SchemaFault}
 use Rattle.vap_schema.specs.declared.schema_fault.SchemaFault.TheVariants.{TooDeep}
-use Rattle.vap_schema.specs.declared.schema_fault.SchemaError.{SchemaError}
-use Rattle.vap_schema.specs.declared.schema_fault.SchemaError.TheVariants.{Fault, OutOfMemory}
 use Rattle.vap_fit.proofs.Parts.{same_ok, both}
 use Rattle.vap_fit.proofs.Rest.{behind, behind-push}
 use Rattle.vap_fit.proofs.Ordered.{IsInOrder, names_in}
@@ -30,7 +31,7 @@ abbrev Fields : Type 0
 Fields = List (Keyed (Field CelType))
 
 pub fields_stop : (inner : Inner) (required : List ℕ → Bool) (k : List ℕ) (d : Data) (ms : Members) (done : Fields)
-    (whole : Result Fields SchemaFault) (e : SchemaError)
+    (whole : Result Fields SchemaFault) (e : Failed SchemaFault)
     → whole ≡ behind done (fields_of inner required (member k d ms)) → Answers (field_of inner (required k) k d) (Err e)
     → Answers whole (Err e)
 unfolding behind

@@ -27,8 +27,6 @@ use Rattle.vap_schema.specs.declared.keywords.TypeWord.{TypeWord}
 use Rattle.vap_schema.specs.declared.keywords.TypeWord.TheVariants as word
 use Rattle.vap_schema.specs.declared.schema_fault.SchemaFault.{SchemaFault}
 use Rattle.vap_schema.specs.declared.schema_fault.SchemaFault.TheVariants.{NoType, BadKeyword, TooDeep}
-use Rattle.vap_schema.specs.declared.schema_fault.SchemaError.{SchemaError}
-use Rattle.vap_schema.specs.declared.schema_fault.SchemaError.TheVariants.{Fault, OutOfMemory}
 
 -- ---- keywords
 
@@ -308,16 +306,6 @@ entry_seen found = option_map (λ v. view v.now) found
 abbrev pub EntryIs : Result (Option Data) SchemaFault → Result (Option (Bor Json)) SchemaFault → Type 0
 EntryIs want (Ok found) = want ≡ Ok (entry_seen found)
 EntryIs want (Err f) = want ≡ Err f
-
--- the answer is this one or this fault, or memory ran out
-abbrev pub Answers : {A : Type 0} → Result A SchemaFault → Result A SchemaError → Type 0
-Answers want (Ok a) = want ≡ Ok a
-Answers want (Err (Fault f)) = want ≡ Err f
-Answers want (Err OutOfMemory) = Unit {0}
-
--- whatever the answer of the part says, the answer of the whole says what a step makes of it
-abbrev pub Carries : {A B : Type 0} → Result A SchemaError → Result B SchemaError → (A → Result B SchemaFault) → Type 0
-Carries part whole step = (want : Result _ SchemaFault) → Answers want part → Answers (want >>= step) whole
 
 -- ---- forms
 

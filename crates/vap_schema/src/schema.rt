@@ -3,7 +3,9 @@
 ghost use Rattle.std.specs.Prelude.{◌≡◌, IfOk, Ok};
 ghost use Rattle.cel_value.specs.declared.cel_type.CelType as T;
 ghost use Rattle.serde_json.specs.View.{view, items_view, members_view};
-ghost use Rattle.vap_schema.specs.Schemas.{Answers, Carries, schema_type, form_type, or_null, entry_type, record_type};
+ghost use Rattle.failing.specs.Failures.{Answers};
+ghost use Rattle.vap_fit.specs.Seen.{Carries};
+ghost use Rattle.vap_schema.specs.Schemas.{schema_type, form_type, or_null, entry_type, record_type};
 ghost use Rattle.vap_schema.specs.Schemas.{fields_of, object_type_of, is_named, IsInTextOrder};
 
 use crate::fixed_types::with_fixed_fields;

@@ -3,7 +3,7 @@
 ghost use Rattle.std.specs.Prelude.{◌≡◌};
 ghost use Rattle.vap_schema.specs.Names.{schema_fault_name};
 
-use std::alloc::{AllocError, AllocFailed};
+use failing::Failed;
 use thiserror::Error;
 
 #[derive(Clone, Copy, Debug, PartialEq, Eq, Error)]
@@ -32,40 +32,14 @@ impl SchemaFault {
     }
 }
 
-#[derive(Debug, Drop, Error)]
-pub enum SchemaError {
-    #[error("out of memory")]
-    OutOfMemory,
-    #[error("{0}")]
-    Fault(SchemaFault),
-}
+pub type SchemaError = Failed<SchemaFault>;
 
-impl From<SchemaFault> for SchemaError {
-    ghost use Rattle.vap_schema.specs.declared.schema_fault.SchemaError.TheVariants.{Fault};
+impl From<SchemaFault> for Failed<SchemaFault> {
+    ghost use Rattle.failing.specs.declared.failed.Failed.TheVariants.{Fault};
 
     ghost from_gives = { λ fault e. e ≡ Fault fault };
 
-    fn from(fault: SchemaFault) -> SchemaError {
-        SchemaError::Fault(fault)
-    }
-}
-
-impl From<AllocError> for SchemaError {
-    ghost use Rattle.vap_schema.specs.declared.schema_fault.SchemaError.TheVariants.{OutOfMemory};
-
-    ghost from_gives = { λ _ e. e ≡ OutOfMemory };
-
-    fn from(_e: AllocError) -> SchemaError {
-        SchemaError::OutOfMemory
-    }
-}
-
-impl<T: Drop> From<AllocFailed<T>> for SchemaError {
-    ghost use Rattle.vap_schema.specs.declared.schema_fault.SchemaError.TheVariants.{OutOfMemory};
-
-    ghost from_gives = { λ _ e. e ≡ OutOfMemory };
-
-    fn from(_e: AllocFailed<T>) -> SchemaError {
-        SchemaError::OutOfMemory
+    fn from(fault: SchemaFault) -> Failed<SchemaFault> {
+        Failed::Fault(fault)
     }
 }

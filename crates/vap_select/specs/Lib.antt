@@ -1,4 +1,3 @@
-pub mod Answers
 pub mod Names
 pub mod Select
 pub mod SelectorForm

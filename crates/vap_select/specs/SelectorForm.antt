@@ -10,8 +10,6 @@ use Rattle.json_members.specs.Forms.{there_and, absent_or, is_text, is_object, i
 use Rattle.json_members.specs.Parts.{text_of, text_in, items_in, each_item, texts_in}
 use Rattle.vap_select.specs.declared.match_fault.MatchFault.{MatchFault}
 use Rattle.vap_select.specs.declared.match_fault.MatchFault.TheVariants.{BadOperator, BadScope, EmptyRule}
-use Rattle.vap_select.specs.declared.match_fault.MatchError.{MatchError}
-use Rattle.vap_select.specs.declared.match_fault.MatchError.TheVariants.{Fault, OutOfMemory}
 use Rattle.vap_select.specs.declared.selector.Operator.{Operator}
 use Rattle.vap_select.specs.declared.selector.Operator.TheVariants.{In, NotIn, Exists, DoesNotExist}
 use Rattle.vap_select.specs.declared.selector.Requirement.{Requirement}
@@ -58,11 +56,6 @@ has_fault d EmptyRule = false
 -- a document has this fault as a selector, and no other
 abbrev pub IsOnly : Data → MatchFault → Type 0
 IsOnly d f = (has_fault d f ≡ true) × ((g : MatchFault) → has_fault d g ≡ true → g ≡ f)
-
--- what is told is the only fault, or that memory ran out
-abbrev pub TellsOnly : Data → MatchError → Type 0
-TellsOnly d (Fault f) = IsOnly d f
-TellsOnly d OutOfMemory = Unit {0}
 
 -- the requirement that a document is
 abbrev pub requirement_of : Data → Requirement

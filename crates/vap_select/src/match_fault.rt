@@ -3,7 +3,7 @@
 ghost use Rattle.std.specs.Prelude.{◌≡◌};
 ghost use Rattle.vap_select.specs.Names.{match_fault_name};
 
-use std::alloc::{AllocError, AllocFailed};
+use failing::Failed;
 use thiserror::Error;
 
 #[derive(Clone, Copy, Debug, PartialEq, Eq, Error)]
@@ -34,20 +34,4 @@ impl MatchFault {
     }
 }
 
-#[derive(Debug, Drop, Error)]
-pub enum MatchError {
-    #[error("out of memory")]
-    OutOfMemory,
-    #[error("{0}")]
-    Fault(MatchFault),
-}
-
-impl From<AllocError> for MatchError {
-    ghost use Rattle.vap_select.specs.declared.match_fault.MatchError.TheVariants.{OutOfMemory};
-
-    ghost from_gives = { λ _ e. e ≡ OutOfMemory };
-
-    fn from(_e: AllocError) -> MatchError {
-        MatchError::OutOfMemory
-    }
-}
+pub type MatchError = Failed<MatchFault>;

@@ -3,11 +3,11 @@
 ghost use Rattle.std.specs.Prelude.{◌≡◌, IfOk, IfErr, codes};
 ghost use Rattle.serde_json.specs.Find.{get};
 ghost use Rattle.serde_json.specs.View.{view, items_view, members_view};
-ghost use Rattle.vap_select.specs.Answers.{Answers};
+ghost use Rattle.failing.specs.Failures.{Answers, IfFault};
 ghost use Rattle.json_members.specs.Forms.{absent_or, all_items, is_list_of};
 ghost use Rattle.json_members.specs.Parts.{each_item, text_of};
 ghost use Rattle.vap_select.specs.SelectorForm.{operator_word, operator_in, has_values_for, is_requirement, is_selector};
-ghost use Rattle.vap_select.specs.SelectorForm.{requirement_of, texts_under, wanted_labels, selector_of, read_selector, TellsOnly};
+ghost use Rattle.vap_select.specs.SelectorForm.{requirement_of, texts_under, wanted_labels, selector_of, read_selector, IsOnly};
 
 use crate::match_fault::{MatchError, MatchFault};
 use crate::selector::{Operator, Requirement, Selector};
@@ -23,7 +23,7 @@ impl Selector {
     #[tactic(auto, using(crate::proofs::OnlyFault::only_fault, crate::proofs::OnlyFault::only))]
     pub fn from_json(alloc: Global, json: &Json) -> Result<Selector, MatchError>
         ensures exact { Answers (read_selector (view json.now)) result }
-        ensures only { IfErr result (λ error. TellsOnly (view json.now) error) }
+        ensures only { IfErr result (IfFault (IsOnly (view json.now))) }
     {
         if is_selector(json) {
             Ok(selector_of(alloc, json)?)

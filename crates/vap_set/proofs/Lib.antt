@@ -15,3 +15,4 @@ pub mod Covered
 pub mod Entries
 pub mod Indexed
 pub mod Chosen
+pub mod Crossing

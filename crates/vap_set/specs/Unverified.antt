@@ -2,8 +2,10 @@
 use Rattle.std.specs.Prelude.{◌≡◌, ℕ, true, List, Option, Some, None}
 use Rattle.std.specs.List.{Any, Contains}
 use Rattle.cel_expression.specs.Source.{Source}
-use Rattle.cel_expression.specs.declared.refusal.CompileError.{CompileError}
-use Rattle.cel_expression.specs.declared.refusal.CompileError.TheVariants as compile_error
+use Rattle.failing.specs.declared.failed.Failed.{Failed}
+use Rattle.failing.specs.declared.failed.Failed.TheVariants.{OutOfMemory, Fault}
+use Rattle.cel_expression.specs.declared.refusal.CompileFault.{CompileFault}
+use Rattle.cel_expression.specs.declared.refusal.CompileFault.TheVariants as compile_fault
 use Rattle.cel_value.specs.declared.cel_type.CelType.{CelType}
 use Rattle.plain.specs.declared.text.Keyed.{Keyed}
 use Rattle.vap_kinds.specs.declared.kind.Kind.{Kind}
@@ -17,14 +19,14 @@ use Rattle.vap_set.specs.Kinds.{params_type, types_at}
 use Rattle.vap_set.specs.Parts.{part_of}
 use Rattle.vap_set.specs.Ready.{type_at}
 use Rattle.vap_set.specs.Sets.{is_looked_at}
-use Rattle.vap_set.specs.declared.build_error.BuildError.{BuildError}
-use Rattle.vap_set.specs.declared.build_error.BuildError.TheVariants as build_error
+use Rattle.vap_set.specs.declared.build_error.BuildFault.{BuildFault}
+use Rattle.vap_set.specs.declared.build_error.BuildFault.TheVariants as build_fault
 use Rattle.vap_set.specs.declared.choice.Choice.{Choice}
 
 -- what a failure to compile a policy of this name is to the whole
-abbrev pub error_of : List ℕ → CompileError → BuildError
-error_of name (compile_error.Unverified at) = build_error.Unverified name
-error_of name compile_error.OutOfMemory = build_error.OutOfMemory
+abbrev pub error_of : List ℕ → Failed CompileFault → Failed BuildFault
+error_of name (Fault (compile_fault.Unverified at)) = Fault (build_fault.Unverified name)
+error_of name OutOfMemory = OutOfMemory
 
 -- the expressions of a policy, where these of its own texts are refused and the objects are of this type
 abbrev pub expressions_at : List (List ℕ) → List Kind → PolicySpec → CelType → List Source

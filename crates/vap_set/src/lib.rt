@@ -32,7 +32,7 @@ mod table;
 mod texts;
 
 pub use bound::{BoundPolicy, KindPair};
-pub use build_error::BuildError;
+pub use build_error::{BuildError, BuildFault};
 pub use choice::Choice;
 pub use kind_params::{KindParams, Param};
 pub use made::{Inputs, MadePair};

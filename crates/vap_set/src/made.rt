@@ -1,7 +1,8 @@
 //! Policies at kinds, kept with what they were compiled of.
 
 ghost use Rattle.std.specs.Prelude.{◌≡◌, ◌↔◌, ℕ, IfOk, IsErrOf, IsTrue};
-ghost use Rattle.cel_expression.specs.declared.refusal.CompileError.TheVariants.{Unverified};
+ghost use Rattle.failing.specs.declared.failed.Failed.TheVariants.{Fault};
+ghost use Rattle.cel_expression.specs.declared.refusal.CompileFault.TheVariants.{Unverified};
 ghost use Rattle.vap_programs.specs.Expressions.{expressions_of, IsOneUnverified};
 ghost use Rattle.vap_programs.specs.Scopes.{first_names};
 ghost use Rattle.vap_set.specs.Kinds.{type_or_opaque, types_at};
@@ -57,7 +58,7 @@ impl Model for MadePair {
 /// Compiles a policy at a kind.
 fn compiled(alloc: Global, inputs: &Inputs) -> Result<Pair, CompileError>
     ensures pair { IfOk result (λ p. p ≡ pair_made inputs.now) }
-    ensures unverified { (at : ℕ) → IsErrOf result (Unverified at) → IsOneUnverified at
+    ensures unverified { (at : ℕ) → IsErrOf result (Fault (Unverified at)) → IsOneUnverified at
         (expressions_of inputs.now.refused (first_names (types_at inputs.now.cel_type) inputs.now.params) inputs.now.policy) }
 {
     let types = types_at(alloc, &inputs.cel_type)?;
@@ -74,7 +75,7 @@ impl MadePair {
     /// Compiles a policy at a kind.
     fn new(alloc: Global, inputs: Inputs, round: u64) -> Result<MadePair, CompileError>
         ensures made { IfOk result (λ m. m ≡ inputs) }
-        ensures unverified { (at : ℕ) → IsErrOf result (Unverified at) → IsOneUnverified at
+        ensures unverified { (at : ℕ) → IsErrOf result (Fault (Unverified at)) → IsOneUnverified at
             (expressions_of inputs.refused (first_names (types_at inputs.cel_type) inputs.params) inputs.policy) }
     {
         let pair = compiled(alloc, &inputs)?;
@@ -142,7 +143,7 @@ pub fn made_of(
     round: u64,
 ) -> Result<Shared<MadePair>, CompileError>
     ensures made { IfOk result (λ m. m ≡ inputs_of refused.now kinds.now policy.now cel_type.now) }
-    ensures unverified { (at : ℕ) → IsErrOf result (Unverified at)
+    ensures unverified { (at : ℕ) → IsErrOf result (Fault (Unverified at))
         → IsOneUnverified at (expressions_at refused.now kinds.now policy.now (type_or_opaque cel_type.now)) }
 {
     match kept {

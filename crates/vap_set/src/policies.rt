@@ -5,12 +5,13 @@ ghost use Rattle.vap_set.specs.Kinds.{type_or_opaque};
 ghost use Rattle.vap_set.specs.Parts.{part_of};
 ghost use Rattle.vap_set.specs.Sets.{bound_of, is_looked_at, kind_pair, other_of, pairs_of};
 ghost use Rattle.vap_set.specs.Unverified.{AreUnverified, error_of, expressions_at, HasUnverified};
-ghost use Rattle.vap_set.specs.declared.build_error.BuildError.TheVariants as build_error;
-ghost use Rattle.cel_expression.specs.declared.refusal.CompileError.TheVariants.{Unverified};
+ghost use Rattle.vap_set.specs.declared.build_error.BuildFault.TheVariants as build_fault;
+ghost use Rattle.failing.specs.declared.failed.Failed.TheVariants.{Fault};
+ghost use Rattle.cel_expression.specs.declared.refusal.CompileFault.TheVariants.{Unverified};
 ghost use Rattle.vap_programs.specs.Expressions.{IsOneUnverified};
 
 use crate::bound::{BoundPolicy, KindPair};
-use crate::build_error::BuildError;
+use crate::build_error::{BuildError, BuildFault};
 use crate::changes::{Kept, not_below};
 use crate::choice::Choice;
 use crate::made::{MadePair, made_of};
@@ -23,7 +24,7 @@ use vap_bindings::Binding;
 use vap_kinds::Kind;
 use vap_objects::bindings_of;
 use vap_policies::{Policy, PolicySpec};
-use vap_programs::CompileError;
+use vap_programs::{CompileError, CompileFault};
 
 fn kind_pair(
     alloc: Global,
@@ -35,7 +36,7 @@ fn kind_pair(
     round: u64,
 ) -> Result<KindPair, CompileError>
     ensures pair { IfOk result (λ p. p ≡ kind_pair refused.now kinds.now policy.now kind.now) }
-    ensures unverified { (at : ℕ) → IsErrOf result (Unverified at)
+    ensures unverified { (at : ℕ) → IsErrOf result (Fault (Unverified at))
         → IsOneUnverified at (expressions_at refused.now kinds.now policy.now (type_or_opaque kind.now.object_type)) }
 {
     let made = made_of(alloc, refused, kinds, policy, &kind.object_type, old, round)?;
@@ -63,7 +64,7 @@ fn pairs_of(
     kept: &Kept<'_>,
 ) -> Result<Items<KindPair>, CompileError>
     ensures pairs { IfOk result (λ pairs. pairs ≡ pairs_of refused.now kinds.now policy.now) }
-    ensures unverified { (at : ℕ) → IsErrOf result (Unverified at) → HasUnverified refused.now kinds.now policy.now }
+    ensures unverified { (at : ℕ) → IsErrOf result (Fault (Unverified at)) → HasUnverified refused.now kinds.now policy.now }
 {
     let mut pairs = Vec::new(alloc);
     for kind in kinds {
@@ -84,7 +85,7 @@ fn other_of(
     round: u64,
 ) -> Result<Shared<MadePair>, CompileError>
     ensures other { IfOk result (λ m. m ≡ other_of refused.now kinds.now policy.now) }
-    ensures unverified { (at : ℕ) → IsErrOf result (Unverified at) → HasUnverified refused.now kinds.now policy.now }
+    ensures unverified { (at : ℕ) → IsErrOf result (Fault (Unverified at)) → HasUnverified refused.now kinds.now policy.now }
 {
     made_of(alloc, refused, kinds, policy, &None, old, round)
 }
@@ -99,7 +100,7 @@ fn bound_of(
     policy: &Keyed<Shared<PolicyTexts>>,
 ) -> Result<BoundPolicy, CompileError>
     ensures bound { IfOk result (λ p. p ≡ bound_of choice.now kinds.now bindings.now policy.now) }
-    ensures unverified { (at : ℕ) → IsErrOf result (Unverified at)
+    ensures unverified { (at : ℕ) → IsErrOf result (Fault (Unverified at))
         → HasUnverified (part_of choice.now policy.now.value.spec) kinds.now policy.now.value.spec }
 {
     let own = policy.value.get();
@@ -151,9 +152,10 @@ fn unbuilt(
     ensures { IfOk result (λ told. told ≡ error_of policy.now.key error) }
 {
     match error {
-        CompileError::Unverified { .. } => Ok(BuildError::Unverified {
-            policy: policy.key.copy()?,
-        }),
+        CompileError::Fault(CompileFault::Unverified { .. }) => {
+            let policy = policy.key.copy()?;
+            Ok(BuildError::Fault(BuildFault::Unverified { policy }))
+        }
         CompileError::OutOfMemory => Ok(BuildError::OutOfMemory),
     }
 }
@@ -168,7 +170,7 @@ pub fn bound_policies(
     policies: &[Keyed<Shared<PolicyTexts>>],
 ) -> Result<Items<Shared<BoundPolicy>>, BuildError>
     ensures bound { IfOk result (λ bound. bound ≡ map (bound_of choice.now kinds.now bindings.now) policies.now) }
-    ensures unverified { (name : List ℕ) → IsErrOf result (build_error.Unverified name)
+    ensures unverified { (name : List ℕ) → IsErrOf result (Fault (build_fault.Unverified name))
         → AreUnverified choice.now kinds.now name policies.now }
 {
     let mut bound = Vec::new(alloc);

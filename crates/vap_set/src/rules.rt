@@ -1,12 +1,13 @@
 //! What a set holds of policies, bindings and definitions.
 
 ghost use Rattle.std.specs.Prelude.{◌≡◌, ◌≤◌, ℕ, List, length, IfOk, IsErrOf};
+ghost use Rattle.failing.specs.declared.failed.Failed.TheVariants.{Fault};
 ghost use Rattle.vap_objects.specs.Listed.{kinds_in, policies_in};
 ghost use Rattle.vap_set.specs.Patterns.{IsChoiceFor, of_policies};
 ghost use Rattle.vap_set.specs.Ready.{AreFew};
 ghost use Rattle.vap_set.specs.Sets.{policies_by};
 ghost use Rattle.vap_set.specs.Unverified.{IsUnverifiedIn};
-ghost use Rattle.vap_set.specs.declared.build_error.BuildError.TheVariants.{Unverified};
+ghost use Rattle.vap_set.specs.declared.build_error.BuildFault.TheVariants.{Unverified};
 
 use crate::build_error::BuildError;
 use crate::changes::Kept;
@@ -46,7 +47,7 @@ pub fn rules_of(
     ensures policies { IfOk result (λ r. r.policies ≡ policies_by r.choice objects.now) }
     ensures few { IfOk result (λ r. AreFew r.policies) }
     ensures choice { IfOk result (λ r. IsChoiceFor (of_policies (policies_in objects.now.objects)) r.choice.refused) }
-    ensures unverified { (name : List ℕ) → IsErrOf result (Unverified name) → IsUnverifiedIn objects.now name }
+    ensures unverified { (name : List ℕ) → IsErrOf result (Fault (Unverified name)) → IsUnverifiedIn objects.now name }
 {
     let bindings = objects.bindings(alloc)?;
     let own = policy_texts(alloc, kept, named)?;

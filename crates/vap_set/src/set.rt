@@ -3,6 +3,7 @@
 ghost use Rattle.std.specs.Prelude.{◌≡◌, ℕ, true, List, Some, IfOk, IsErrOf};
 ghost use Rattle.std.specs.List.{All};
 ghost use Rattle.std.specs.Option.{option_copied};
+ghost use Rattle.failing.specs.declared.failed.Failed.TheVariants.{Fault};
 ghost use Rattle.vap_objects.specs.After.{nothing};
 ghost use Rattle.vap_objects.specs.Classes.{all_miss, is_rule};
 ghost use Rattle.vap_objects.specs.Listed.{kinds_in, policies_in};
@@ -15,7 +16,7 @@ ghost use Rattle.vap_set.specs.Sets.{choice_in, holdings_of, kinds_of, namespace
 ghost use Rattle.vap_set.specs.Sets.{IsOfObjects, IsReport};
 ghost use Rattle.vap_set.specs.Unverified.{IsUnverifiedIn};
 ghost use Rattle.vap_set.specs.Whole.{AreWhole};
-ghost use Rattle.vap_set.specs.declared.build_error.BuildError.TheVariants.{Unverified};
+ghost use Rattle.vap_set.specs.declared.build_error.BuildFault.TheVariants.{Unverified};
 
 use crate::bound::BoundPolicy;
 use crate::build_error::BuildError;
@@ -114,7 +115,7 @@ impl PolicySet {
     pub fn build(alloc: Global, objects: &Objects) -> Result<PolicySet, BuildError>
         ensures is { IfOk result (λ set. set ≡ holdings_of objects.now set.choice) }
         ensures choice { IfOk result (λ set. IsChoiceFor (of_policies (policies_in objects.now.objects)) set.choice.refused) }
-        ensures unverified { (name : List ℕ) → IsErrOf result (Unverified name) → IsUnverifiedIn objects.now name }
+        ensures unverified { (name : List ℕ) → IsErrOf result (Fault (Unverified name)) → IsUnverifiedIn objects.now name }
     {
         let none = Vec::new(alloc);
         let patterns = Shared::new(alloc, Patterns::new(alloc))?;
@@ -145,7 +146,7 @@ impl PolicySet {
         requires before { IsBefore self.now events.now objects.now }
         ensures is { IfOk result (λ set. set ≡ holdings_of objects.now set.choice) }
         ensures choice { IfOk result (λ set. IsChoiceFor (of_policies (policies_in objects.now.objects)) set.choice.refused) }
-        ensures unverified { (name : List ℕ) → IsErrOf result (Unverified name) → IsUnverifiedIn objects.now name }
+        ensures unverified { (name : List ℕ) → IsErrOf result (Fault (Unverified name)) → IsUnverifiedIn objects.now name }
     {
         if all_miss_rules(events) {
             Ok(self.with_others(alloc, objects, events)?)
@@ -187,7 +188,7 @@ impl PolicySet {
         requires before { IsBefore self.now events.now objects.now }
         ensures is { IfOk result (λ set. set ≡ holdings_of objects.now set.choice) }
         ensures choice { IfOk result (λ set. IsChoiceFor (of_policies (policies_in objects.now.objects)) set.choice.refused) }
-        ensures unverified { (name : List ℕ) → IsErrOf result (Unverified name) → IsUnverifiedIn objects.now name }
+        ensures unverified { (name : List ℕ) → IsErrOf result (Fault (Unverified name)) → IsUnverifiedIn objects.now name }
     {
         let rules = self.rules.get();
         let changes = Changes::of(alloc, &rules.definitions.get().entries, events)?;
@@ -233,7 +234,7 @@ impl PolicySet {
         requires namespaces { parts.now.namespaces ≡ namespaces_in objects.now.objects }
         ensures is { IfOk result (λ set. set ≡ holdings_of objects.now set.choice) }
         ensures choice { IfOk result (λ set. IsChoiceFor (of_policies (policies_in objects.now.objects)) set.choice.refused) }
-        ensures unverified { (name : List ℕ) → IsErrOf result (Unverified name) → IsUnverifiedIn objects.now name }
+        ensures unverified { (name : List ℕ) → IsErrOf result (Fault (Unverified name)) → IsUnverifiedIn objects.now name }
     {
         let named = objects.policies(alloc)?;
         let kinds = parts.definitions.get().kinds.as_slice();

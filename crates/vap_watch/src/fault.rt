@@ -2,9 +2,9 @@
 
 ghost use Rattle.std.specs.Prelude.{◌≡◌};
 
-use std::alloc::AllocError;
+use failing::Failed;
 use thiserror::Error;
-use vap_judge::BuildError;
+use vap_judge::BuildFault;
 
 /// The faults of staging by their numbers, from 1 on, and out of memory.
 #[derive(Clone, Copy, Debug, PartialEq, Eq, Error)]
@@ -17,34 +17,23 @@ pub enum StageFault {
     OutOfMemory,
 }
 
+/// Why nothing is published.
 #[derive(Clone, Copy, Debug, PartialEq, Eq, Error)]
-pub enum PublishError {
+pub enum PublishFault {
     /// The verifier refused an image that was compiled for a policy.
     #[error("an expression's code is not accepted")]
     Unverified,
-    #[error("out of memory")]
-    OutOfMemory,
 }
 
-impl From<AllocError> for PublishError {
-    ghost use Rattle.vap_watch.specs.declared.fault.PublishError.TheVariants.{OutOfMemory};
+impl From<BuildFault> for PublishFault {
+    ghost use Rattle.vap_watch.specs.declared.fault.PublishFault.TheVariants.{Unverified};
 
-    ghost from_gives = { λ _ e. e ≡ OutOfMemory };
+    ghost from_gives = { λ _ fault. fault ≡ Unverified };
 
-    fn from(_error: AllocError) -> PublishError {
-        PublishError::OutOfMemory
+    fn from(_fault: BuildFault) -> PublishFault {
+        PublishFault::Unverified
     }
 }
 
-impl From<BuildError> for PublishError {
-    ghost use Rattle.vap_watch.specs.Faults.{unbuilt};
-
-    ghost from_gives = { λ error e. e ≡ unbuilt error };
-
-    fn from(error: BuildError) -> PublishError {
-        match error {
-            BuildError::Unverified { .. } => PublishError::Unverified,
-            BuildError::OutOfMemory => PublishError::OutOfMemory,
-        }
-    }
-}
+/// Why nothing is published.
+pub type PublishError = Failed<PublishFault>;

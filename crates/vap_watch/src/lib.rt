@@ -11,7 +11,7 @@ mod log;
 mod snapshot;
 mod writer;
 
-pub use fault::{PublishError, StageFault};
+pub use fault::{PublishError, PublishFault, StageFault};
 pub use log::{Log, Logged};
 pub use snapshot::{Snapshot, revision_of};
 pub use writer::{MOST_EVENTS, Writer, open};

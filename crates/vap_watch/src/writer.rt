@@ -1,8 +1,10 @@
 //! Staging and publishing.
 
 ghost use Rattle.std.specs.Prelude.{◌≡◌, ◌≢◌, ◌<◌, ◌↔◌, ◌++◌, ◌∷◌, [], false, length, IfErr, IfOk, IsErrOf, OnErr, OnOk};
+ghost use Rattle.failing.specs.declared.failed.Failed.TheVariants.{Fault};
 ghost use Rattle.vap_watch.specs.Given.{AreUnverified, takes};
 ghost use Rattle.vap_watch.specs.Places.{HasRoomFor, IsNext, Publishes, at, events_at, most_events, objects_at};
+ghost use Rattle.vap_watch.specs.declared.fault.PublishFault.TheVariants.{Unverified};
 
 use crate::fault::{PublishError, StageFault};
 use crate::snapshot::{Snapshot, revision_of};
@@ -92,7 +94,7 @@ impl Writer {
         ensures all { OnOk result (Publishes self.old self.new) }
         ensures revision { IfOk result (λ revision. revision ≡ length self.new.published) }
         ensures err { OnErr result (self.new ≡ self.old) }
-        ensures unverified { IsErrOf result PublishError.Unverified → AreUnverified (objects_at self.old) }
+        ensures unverified { IsErrOf result (Fault Unverified) → AreUnverified (objects_at self.old) }
     {
         if self.staged.is_empty() {
             return Ok(revision_of(&self.published));
@@ -107,10 +109,13 @@ impl Writer {
     fn next(&self) -> Result<Snapshot, PublishError>
         requires { self.now.staged ≢ [] }
         ensures next { IfOk result (λ snapshot. IsNext self.now snapshot) }
-        ensures unverified { IsErrOf result PublishError.Unverified → AreUnverified (objects_at self.now) }
+        ensures unverified { IsErrOf result (Fault Unverified) → AreUnverified (objects_at self.now) }
     {
         let before = self.published.set();
-        let set = before.advance(self.alloc, &self.objects, self.staged.as_slice())?;
+        let set = match before.advance(self.alloc, &self.objects, self.staged.as_slice()) {
+            Ok(set) => set,
+            Err(error) => return Err(error.widened()),
+        };
         let log = self
             .published
             .log()

@@ -2,7 +2,7 @@
 
 use crate::matching::objects::after;
 use std::alloc::{AllocError, Global};
-use vap_set::{BuildError, Misconfigured, PolicySet};
+use vap_set::{BuildError, BuildFault, Misconfigured, PolicySet};
 
 /// The items of the report on the set of the objects that lines leave.
 pub fn report(alloc: Global, row: &str) -> Result<String, AllocError> {
@@ -13,7 +13,10 @@ pub fn report(alloc: Global, row: &str) -> Result<String, AllocError> {
 fn told(alloc: Global, built: Result<PolicySet, BuildError>) -> Result<String, AllocError> {
     match &built {
         Ok(set) => reported(alloc, set),
-        Err(BuildError::Unverified { .. }) => String::from_str(alloc, "unverified"),
+        Err(BuildError::Fault(BuildFault::Unverified { .. })) => String::from_str(
+            alloc,
+            "unverified",
+        ),
         Err(BuildError::OutOfMemory) => Err(AllocError),
     }
 }

@@ -3,7 +3,7 @@
 //! A question is a pattern, " on " and a text.
 
 use calls_notation::{Asked, unknown, unreadable};
-use cel_patterns::{Matchers, Patterns, Unbuilt};
+use cel_patterns::{Matchers, PatternFault, Patterns, Unbuilt};
 use std::alloc::{AllocError, Global};
 
 /// The answer to a call of patterns.
@@ -27,8 +27,8 @@ fn found_by(
     match matchers.finds(alloc, pattern, text) {
         Ok(true) => Ok("found"),
         Ok(false) => Ok("absent"),
-        Err(Unbuilt::NoPattern) => Ok("no pattern"),
-        Err(Unbuilt::TooLarge) => Ok("too large"),
+        Err(Unbuilt::Fault(PatternFault::NoPattern)) => Ok("no pattern"),
+        Err(Unbuilt::Fault(PatternFault::TooLarge)) => Ok("too large"),
         Err(Unbuilt::OutOfMemory) => Err(AllocError),
     }
 }

@@ -33,7 +33,7 @@ fn at_two(
 ) -> Result<String, AllocError> {
     match operator.type_of_two(alloc, left, right) {
         Ok(answer) => shown_type(alloc, &answer),
-        Err(Untyped::Rule(rule)) => broken(alloc, rule),
+        Err(Untyped::Fault(rule)) => broken(alloc, rule),
         Err(Untyped::OutOfMemory) => Err(AllocError),
     }
 }

@@ -1,7 +1,7 @@
 //! Runs of programs.
 
 use calls_notation::{parts_of, shown, value_at};
-use cel_machine::{Matchers, Run, RunFault, Slots, run, slots_fit};
+use cel_machine::{Matchers, Run, RunError, RunFault, Slots, run, slots_fit};
 use cel_value::{CelError, Value};
 use cel_verify::Program;
 use serde_json::Value as Json;
@@ -86,8 +86,8 @@ fn run_with(
     let mut matchers = Matchers::new(alloc);
     match &run(alloc, program, &slots, &mut matchers) {
         Ok(ended) => run_text(alloc, program, ended),
-        Err(RunFault::Pattern) => String::from_str(alloc, "Pattern"),
-        Err(RunFault::OutOfMemory) => Err(AllocError),
+        Err(RunError::Fault(RunFault::Pattern)) => String::from_str(alloc, "Pattern"),
+        Err(RunError::OutOfMemory) => Err(AllocError),
     }
 }
 

@@ -1,7 +1,8 @@
 use Rattle.std.proofs.Common.{◌≡◌, rules, ap, subst}
 use Rattle.std.specs.Prelude.{Err}
 use Rattle.cel_check.specs.Typing.{types_in}
-use Rattle.cel_expression.specs.declared.refusal.CompileError.TheVariants.{Unverified}
+use Rattle.failing.specs.declared.failed.Failed.TheVariants.{Fault}
+use Rattle.cel_expression.specs.declared.refusal.CompileFault.TheVariants.{Unverified}
 use Rattle.cel_expression.specs.Expressions.{accepted_of}
 use Rattle.cel_expression.specs.Faulty.{IsFaulty}
 use Rattle.cel_expression.specs.Source.{Source}
@@ -14,7 +15,7 @@ returns-clause-unverified c =
     let tree = c.in-Ok.accepted.typed.tree in
     let source : Source = record { choice = c.args.choice.now; names = c.args.names.now; text = c.args.text.now } in
     let rated : IsRated (types_in c.args.names.now) (accepted_of source) c.in-Ok.accepted = search rules in
-    let same : c.in-Err-compiled_by.error ≡ Unverified at = cc in
+    let same : c.in-Err-compiled_by.error ≡ Fault (Unverified at) = cc in
     record {
       tree = tree;
       is = rated.tree;

@@ -10,5 +10,5 @@ returns-in-Ok-clause-image c = rw c.in-Ok.ensures.accepted.0 c.in_ok-image.ensur
 pub returns-clause-unverified : goal.returns-clause-unverified
 returns-clause-unverified c =
     λ at is.
-    refused_image c.args.typed.now.tree c.in_ok-image.image _ c.in-Err.error at c.from.result c.in_ok-image.ensures.compiled
-    c.in-Err.ensures.accepted c.from.ensures cc
+    refused_image c.args.typed.now.tree c.in_ok-image.image _ c.in-Err.error at c.widened.result c.in_ok-image.ensures.compiled
+    c.in-Err.ensures.accepted c.widened.ensures cc

@@ -1,7 +1,7 @@
-use Rattle.std.proofs.Common.{refl, sym, ◌∙◌}
+use Rattle.std.proofs.Common.{sym, ◌∙◌}
 use Rattle.std.proofs.lemmas.Result.{err_from_is_err_and}
 use Rattle.cel_parse.proofs.FewTokens.{few_of}
-use Rattle.cel_parse.proofs.Parsed.{cut_fails, tree_fails, macro_fails, expansion_fails, expression_is}
+use Rattle.cel_parse.proofs.Parsed.{tree_fails, macro_fails, expansion_fails, expression_is}
 use Rattle.cel_parse.proofs.parser.read.Goals as goal
 
 pub tree_of-requires : goal.tree_of-requires
@@ -10,7 +10,7 @@ tree_of-requires c = record { few = few_of c.in_ok-cut.ensures.cut c.as_slice.en
 pub returns-in_err-cut : goal.returns-in_err-cut
 returns-in_err-cut c =
     let p = err_from_is_err_and c.from_residual.result c.from_residual.ensures.1 in
-    rw (p.1, p.2) (cut_fails c.args.text.now c.in_err-cut.field-0.0 _ refl (λ g q. c.in_err-cut.ensures.fault g (cc)))
+    rw (p.1, p.2) c.in_err-cut.ensures.fault
 
 pub returns-in_err-boxed : goal.returns-in_err-boxed
 returns-in_err-boxed c =

@@ -1,7 +1,7 @@
 use Rattle.std.proofs.Common.{◌≡◌, true, ◌&&◌, sym, subst, rules}
 use Rattle.std.proofs.lemmas.Result.{err_from_is_err_and}
+use Rattle.failing.specs.Failures.{Fails}
 use Rattle.cel_verify.specs.Sound.{every, jumps_of, is_wanted, is_target}
-use Rattle.cel_verify.specs.Walked.{Refuses}
 use Rattle.cel_verify.proofs.Walking.{rule_is, advances}
 use Rattle.cel_verify.proofs.walk.advance.Goals as goal
 
@@ -12,7 +12,7 @@ returns-in_err-there c =
     let r = c.in_err-there.field-0.0 in
     let p = err_from_is_err_and c.from_residual.result c.from_residual.ensures.1 in
     rw (p.1, p.2, c.in-Some.is)
-    (subst (Refuses r)
+    (subst (Fails r)
     (sym (rule_is image c.args.at c.args.instr c.in-Some.types c.args.opens.now c.requires.there (search rules) aims (search rules)))
     c.in_err-there.ensures)
 

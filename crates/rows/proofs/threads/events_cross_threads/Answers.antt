@@ -1,5 +1,5 @@
 use denote.Param.Send.{sendable}
-use Rattle.rows.proofs.EventsCross.{event_send, event_sync}
+use Rattle.vap_read.proofs.Crossing.{event_send, event_sync}
 use Rattle.rows.proofs.threads.events_cross_threads.Goals as goal
 
 pub crosses_threads-requires-send-T : goal.crosses_threads-requires-send-T

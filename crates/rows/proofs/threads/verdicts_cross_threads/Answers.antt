@@ -1,5 +1,5 @@
 use denote.Param.Send.{sendable}
-use Rattle.rows.proofs.VerdictsCross.{verdict_send, verdict_sync}
+use Rattle.vap_answer.proofs.Crossing.{verdict_send, verdict_sync}
 use Rattle.rows.proofs.threads.verdicts_cross_threads.Goals as goal
 
 pub crosses_threads-requires-send-T : goal.crosses_threads-requires-send-T

@@ -7,5 +7,5 @@ returns-in-Ok-Ok-clause-made c = record { choice = c.in_ok-choice.choice; is = s
 pub returns-in-Ok-Err-clause-made : goal.returns-in-Ok-Err-clause-made
 returns-in-Ok-Err-clause-made c = record { choice = c.in_ok-choice.choice; is = search rules }
 
-pub returns-in-Err-Unverified-clause-made : goal.returns-in-Err-Unverified-clause-made
-returns-in-Err-Unverified-clause-made c = record { choice = c.in_ok-choice.choice; is = search rules }
+pub returns-in-Err-Fault-Unverified-clause-made : goal.returns-in-Err-Fault-Unverified-clause-made
+returns-in-Err-Fault-Unverified-clause-made c = record { choice = c.in_ok-choice.choice; is = search rules }

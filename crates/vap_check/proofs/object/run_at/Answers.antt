@@ -1,6 +1,10 @@
-use Rattle.std.proofs.Common.{ap}
+use Rattle.std.proofs.Common.{ap, ◌∙◌}
 use Rattle.std.specs.Prelude.{Err}
+use Rattle.failing.specs.declared.failed.Failed.TheVariants.{Fault}
+use Rattle.vap_cli.proofs.Only.{only_pattern}
 use Rattle.vap_check.proofs.object.run_at.Goals as goal
 
-pub returns-in-Err-Pattern : goal.returns-in-Err-Pattern
-returns-in-Err-Pattern c = c.in-Err-Pattern.ensures.pattern (ap Err c.in-Err-Pattern.field-0-is)
+pub returns-in-Err-Fault-Pattern : goal.returns-in-Err-Fault-Pattern
+returns-in-Err-Fault-Pattern c =
+    let arm = c.in-Err-Fault-Pattern in
+    arm.ensures.pattern (ap Err (arm.field-0-is ∙ ap Fault (only_pattern arm.field-0-0)))

@@ -1,5 +1,7 @@
 use Rattle.std.proofs.Common.{◌≡◌, [], sym, ap, rules, ◌∙◌}
 use Rattle.std.specs.Prelude.{Ok, Err}
+use Rattle.failing.specs.declared.failed.Failed.TheVariants.{Fault}
+use Rattle.vap_cli.proofs.Only.{only_pattern}
 use Rattle.vap_cli.proofs.Outcomes.{no_slots, runs_to}
 use Rattle.vap_cli.proofs.evaluation.answer_of.Goals as goal
 
@@ -17,5 +19,7 @@ returns-in-Ok-outcome c =
     let none = no_slots _ _ _ _ c.new-slots.ensures lent made in
     λ may. runs_to _ _ _ _ _ none c.in-Ok.ensures.run (c.in-Ok-outcome.is ∙ ap Ok (sym c.in-Ok-outcome.value-is))
 
-pub returns-in-Err-Pattern : goal.returns-in-Err-Pattern
-returns-in-Err-Pattern c = λ may. (may, c.in-Err-Pattern.ensures.pattern (ap Err c.in-Err-Pattern.field-0-is))
+pub returns-in-Err-Fault-Pattern : goal.returns-in-Err-Fault-Pattern
+returns-in-Err-Fault-Pattern c =
+    let at = c.in-Err-Fault-Pattern in
+    λ may. (may, at.ensures.pattern (ap Err (at.field-0-is ∙ ap Fault (only_pattern at.field-0-0))))

@@ -4,6 +4,7 @@ use Rattle.std.specs.Prelude.{IsTrue}
 use Rattle.std.specs.List.{list_all}
 use Rattle.std.proofs.lemmas.List.Elements.{All-nil, All-push, All-same}
 use Rattle.std.proofs.lemmas.Result.{err_from_is_err_and}
+use Rattle.failing.specs.Failures.{Answers}
 use Rattle.plain.specs.declared.text.Keyed.{Keyed}
 use Rattle.serde_json.specs.View.{view, items_view, members_view}
 use Rattle.serde_json.proofs.Views.{items_len-items_view, members_len-members_view}
@@ -15,7 +16,7 @@ use Rattle.vap_fit.specs.InStep.{first_under}
 use Rattle.cel_value.specs.Fits.{fits, HasItsField}
 use Rattle.vap_fit.specs.Entries.{entry_fits}
 use Rattle.vap_fit.specs.Paths.{path_text}
-use Rattle.vap_fit.specs.Seen.{Answers, seen_under, seen_entry, seen_entries, seen_member, seen_members, reader_of, readers_of}
+use Rattle.vap_fit.specs.Seen.{seen_under, seen_entry, seen_entries, seen_member, seen_members, reader_of, readers_of}
 use Rattle.vap_fit.proofs.Rest.{behind, behind-none, behind-all}
 use Rattle.vap_fit.proofs.Turns.{path_text-Field, path_text-Item, all_push, items_stop, items_go, items_end, entries_stop, entries_go}
 use Rattle.vap_fit.proofs.Lengths.{list_over, list_read, list_fits, map_over, map_read, map_fits}

@@ -1,11 +1,13 @@
-use Rattle.std.proofs.Common.{List, ◌++◌, sym, ap, ◌∙◌, subst}
+use Rattle.std.proofs.Common.{◌≡◌, Err, List, ◌++◌, sym, ap, ◌∙◌, subst}
+use Rattle.failing.specs.declared.failed.Failed.TheVariants.{Fault}
 use Rattle.vap_read.specs.declared.event.Event.{Event}
 use Rattle.vap_set.specs.Reuse.{IsBefore}
-use Rattle.vap_watch.specs.Given.{PolicySet}
+use Rattle.vap_watch.specs.Given.{PolicySet, AreUnverified}
 use Rattle.vap_watch.specs.Logs.{objects_after, objects_of, publication}
-use Rattle.vap_watch.specs.Places.{IsNext, Position}
+use Rattle.vap_watch.specs.Places.{IsNext, Position, objects_at}
+use Rattle.vap_watch.specs.declared.fault.PublishFault.TheVariants.{Unverified}
 use Rattle.vap_watch.specs.declared.log.Logged.{Logged}
-use Rattle.vap_watch.proofs.Publication.{set_before}
+use Rattle.vap_watch.proofs.Publication.{set_before, unbuilt_told}
 use Rattle.vap_watch.proofs.writer.Writer.next.Goals as goal
 
 -- the published set is that before what is staged
@@ -32,3 +34,13 @@ returns-clause-next c =
           ∙ ap (λ (es : List Event). log ++ publication choice es) c.as_slice-2.ensures.value;
     }
     )
+
+-- what is not built is not published
+pub returns-in-Err-clause-unverified : goal.returns-in-Err-clause-unverified
+returns-in-Err-clause-unverified c =
+    λ is.
+    let told : c.widened.result ≡ Fault Unverified = cc in
+    let same = c.self.invariant.0 ∙ ap (λ (p : Position). objects_at p) c.self.view_is in
+    subst AreUnverified same
+    (unbuilt_told c.self.inside.objects c.in-Err.error c.widened.result c.widened.ensures
+    (λ name failed. c.in-Err.ensures.unverified name (ap Err failed)) told)

@@ -1,2 +1,0 @@
-pub mod EventsCross
-pub mod VerdictsCross

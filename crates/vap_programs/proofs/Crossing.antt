@@ -1,0 +1,18 @@
+-- Policies at kinds may go to another thread, type by type: each search ends at what was shown before it.
+use denote.Param.Send.{IsSend, IsSync, sendable}
+use Rattle.std.proofs.Crossing.{crosses}
+use Rattle.cel_expression.proofs.Crossing.{compiled_send, compiled_sync}
+use Rattle.vap_programs.specs.contracts.programs.Programs as programs
+use Rattle.vap_programs.specs.contracts.programs.Pair as pair
+
+pub programs_send : IsSend programs.the_field.row
+programs_send = search (compiled_send, compiled_sync, sendable, crosses) depth 60 fits 200000
+
+pub programs_sync : IsSync programs.the_field.row
+programs_sync = search (compiled_send, compiled_sync, sendable, crosses) depth 60 fits 200000
+
+pub pair_send : IsSend pair.the_field.row
+pair_send = search (programs_send, programs_sync, sendable, crosses) depth 60 fits 200000
+
+pub pair_sync : IsSync pair.the_field.row
+pair_sync = search (programs_send, programs_sync, sendable, crosses) depth 60 fits 200000

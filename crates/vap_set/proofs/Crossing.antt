@@ -1,0 +1,123 @@
+-- Sets may go to another thread, type by type: each search ends at what was shown before it.
+use denote.Param.Send.{IsSend, IsSync, sendable}
+use Rattle.std.proofs.Crossing.{crosses}
+use Rattle.std.proofs.MapsCrossing.{crosses as map_crosses}
+use Rattle.cel_expression.proofs.Crossing.{value_send, value_sync}
+use Rattle.vap_bindings.proofs.Crossing.{binding_send, binding_sync}
+use Rattle.vap_kinds.proofs.Crossing.{kind_send, kind_sync, type_send, type_sync}
+use Rattle.vap_policies.proofs.Crossing.{policy_send, policy_sync, spec_send, spec_sync}
+use Rattle.vap_programs.proofs.Crossing.{pair_send, pair_sync}
+use Rattle.vap_read.proofs.Crossing.{map_send, map_sync, object_send, object_sync}
+use Rattle.cel_patterns.specs.contracts.patterns.Patterns as patterns
+use Rattle.vap_programs.specs.contracts.names.ParamsType as params_type
+use Rattle.vap_set.specs.contracts.choice.Choice as choice
+use Rattle.vap_set.specs.contracts.texts.PolicyTexts as policy_texts
+use Rattle.vap_set.specs.contracts.made.Inputs as inputs
+use Rattle.vap_set.specs.contracts.made.MadePair as made
+use Rattle.vap_set.specs.contracts.bound.KindPair as kind_pair
+use Rattle.vap_set.specs.contracts.bound.BoundPolicy as bound
+use Rattle.vap_set.specs.contracts.index.Entry as entry
+use Rattle.vap_set.specs.contracts.index.Index as index
+use Rattle.vap_set.specs.contracts.kind_params.Param as param
+use Rattle.vap_set.specs.contracts.kind_params.KindParams as kind_params
+use Rattle.vap_set.specs.contracts.definitions.Definitions as definitions
+use Rattle.vap_set.specs.contracts.rules.Rules as set_rules
+use Rattle.vap_set.specs.contracts.set.PolicySet as policy_set
+
+pub patterns_send : IsSend patterns.the_field.row
+patterns_send = search (map_crosses, sendable, crosses) depth 60 fits 200000
+
+pub patterns_sync : IsSync patterns.the_field.row
+patterns_sync = search (map_crosses, sendable, crosses) depth 60 fits 200000
+
+pub choice_send : IsSend choice.the_field.row
+choice_send = search (sendable, crosses) depth 60 fits 200000
+
+pub choice_sync : IsSync choice.the_field.row
+choice_sync = search (sendable, crosses) depth 60 fits 200000
+
+pub params_type_send : IsSend params_type.the_field.row
+params_type_send = search (type_send, type_sync, sendable, crosses) depth 60 fits 200000
+
+pub params_type_sync : IsSync params_type.the_field.row
+params_type_sync = search (type_send, type_sync, sendable, crosses) depth 60 fits 200000
+
+pub inputs_send : IsSend inputs.the_field.row
+inputs_send =
+    search (type_send, type_sync, params_type_send, params_type_sync, spec_send, spec_sync, sendable, crosses) depth 60 fits 200000
+
+pub inputs_sync : IsSync inputs.the_field.row
+inputs_sync =
+    search (type_send, type_sync, params_type_send, params_type_sync, spec_send, spec_sync, sendable, crosses) depth 60 fits 200000
+
+pub made_send : IsSend made.the_field.row
+made_send = search (inputs_send, inputs_sync, pair_send, pair_sync, sendable, crosses) depth 60 fits 200000
+
+pub made_sync : IsSync made.the_field.row
+made_sync = search (inputs_send, inputs_sync, pair_send, pair_sync, sendable, crosses) depth 60 fits 200000
+
+pub kind_pair_send : IsSend kind_pair.the_field.row
+kind_pair_send = search (made_send, made_sync, sendable, crosses) depth 60 fits 200000
+
+pub kind_pair_sync : IsSync kind_pair.the_field.row
+kind_pair_sync = search (made_send, made_sync, sendable, crosses) depth 60 fits 200000
+
+pub texts_send : IsSend policy_texts.the_field.row
+texts_send = search (policy_send, policy_sync, sendable, crosses) depth 60 fits 200000
+
+pub texts_sync : IsSync policy_texts.the_field.row
+texts_sync = search (policy_send, policy_sync, sendable, crosses) depth 60 fits 200000
+
+pub bound_send : IsSend bound.the_field.row
+bound_send =
+    search (policy_send, texts_send, texts_sync, binding_send, kind_pair_send, made_send, made_sync, sendable, crosses) depth 60 fits 200000
+
+pub bound_sync : IsSync bound.the_field.row
+bound_sync =
+    search (policy_sync, texts_send, texts_sync, binding_sync, kind_pair_sync, made_send, made_sync, sendable, crosses) depth 60 fits 200000
+
+pub entry_send : IsSend entry.the_field.row
+entry_send = search (bound_send, bound_sync, sendable, crosses) depth 60 fits 200000
+
+pub entry_sync : IsSync entry.the_field.row
+entry_sync = search (bound_send, bound_sync, sendable, crosses) depth 60 fits 200000
+
+pub index_send : IsSend index.the_field.row
+index_send = search (bound_send, bound_sync, entry_send, entry_sync, sendable, crosses) depth 60 fits 200000
+
+pub index_sync : IsSync index.the_field.row
+index_sync = search (bound_send, bound_sync, entry_send, entry_sync, sendable, crosses) depth 60 fits 200000
+
+pub param_send : IsSend param.the_field.row
+param_send = search (value_send, value_sync, object_send, object_sync, sendable, crosses) depth 60 fits 200000
+
+pub param_sync : IsSync param.the_field.row
+param_sync = search (value_send, value_sync, object_send, object_sync, sendable, crosses) depth 60 fits 200000
+
+pub params_send : IsSend kind_params.the_field.row
+params_send = search (type_send, type_sync, param_send, param_sync, sendable, crosses) depth 60 fits 200000
+
+pub params_sync : IsSync kind_params.the_field.row
+params_sync = search (type_send, type_sync, param_send, param_sync, sendable, crosses) depth 60 fits 200000
+
+pub definitions_send : IsSend definitions.the_field.row
+definitions_send = search (kind_send, map_send, sendable, crosses) depth 60 fits 200000
+
+pub definitions_sync : IsSync definitions.the_field.row
+definitions_sync = search (kind_sync, map_sync, sendable, crosses) depth 60 fits 200000
+
+pub rules_send : IsSend set_rules.the_field.row
+rules_send =
+    search (choice_send, choice_sync, definitions_send, definitions_sync, patterns_send, patterns_sync, index_send, sendable, crosses)
+    depth 60 fits 200000
+
+pub rules_sync : IsSync set_rules.the_field.row
+rules_sync =
+    search (choice_send, choice_sync, definitions_send, definitions_sync, patterns_send, patterns_sync, index_sync, sendable, crosses)
+    depth 60 fits 200000
+
+pub set_send : IsSend policy_set.the_field.row
+set_send = search (rules_send, rules_sync, params_send, params_sync, map_send, map_sync, sendable, crosses) depth 60 fits 200000
+
+pub set_sync : IsSync policy_set.the_field.row
+set_sync = search (rules_send, rules_sync, params_send, params_sync, map_send, map_sync, sendable, crosses) depth 60 fits 200000
