@@ -4,9 +4,11 @@
 The last line is 'N passed, M failed'.
 """
 import json
+import os
 import resource
 import subprocess
 import sys
+from concurrent.futures import ThreadPoolExecutor
 from pathlib import Path
 
 TOP = Path(__file__).resolve().parent.parent
@@ -15,6 +17,7 @@ LONG = " + ".join(["1"] * 99) + " " * 15_000  # about 16 KB, 99 deep
 LONG_LIST = "[" + ", ".join(["1"] * 5_000) + "].x"
 RULE = TOP / "examples/rule.json"
 STREAM = TOP / "examples/stream.jsonl"
+TRUE_IMAGE = bytes.fromhex("564150490100000000000000010101000000000200000002000000000013")
 RULE_LINES = b"estimate 904\nvalue true\ncharged 14\n"
 
 # The words, the status, the standard output where it is fixed, and what standard error holds.
@@ -40,6 +43,7 @@ ROWS = [
     (["replay", "--audit", STREAM], 0, None, b""),
     (["replay", "no/such/file"], 3, b"", b"cannot be opened"),
     (["replay", "/"], 3, b"", b"could not be read"),
+    (["replay", "/dev/zero"], 1, b"", b"line 1: TooLong"),
     (["eval", LONG], 0, b"99\n", b""),
     (["eval", LONG_LIST], 1, None, b"^"),
     (["eval", "1 +\n\ttrue"], 1, b"refused: NoOverload at 2\n", b"1 +\n  ^\n"),
@@ -51,6 +55,18 @@ ROWS = [
     (["check", TOP / "examples"], 3, b"", b"vap: "),
     (["check", "-"], 1, b"refused: BadJson\n", b"schema"),
     (["check", "--help"], 0, None, b""),
+    (["image"], 2, b"", b"Usage"),
+    (["image", "encode"], 2, b"", b"EXPR"),
+    (["image", "encode", "-1"], 2, b"", b"goes after `--`"),
+    (["image", "encode", "true"], 0, TRUE_IMAGE, b""),
+    (["image", "encode", "1 +"], 1, b"refused: Unexpected at 3\n", b"1 +\n   ^\n"),
+    (["image", "encode", "--help"], 0, None, b""),
+    (["image", "decode"], 2, b"", b"FILE"),
+    (["image", "decode", "-"], 1, b"refused: Truncated\n", b""),
+    (["image", "decode", TOP / "examples/nothing.bin"], 3, b"", b"opened"),
+    (["image", "decode", TOP / "examples"], 3, b"", b"vap: "),
+    (["image", "decode", RULE], 1, b"refused: BadTable\n", b""),
+    (["image", "decode", "--help"], 0, None, b""),
 ]
 
 # Where the items of the rule's schema stand in its file, and a file of three properties, the last two without a type.
@@ -117,13 +133,44 @@ def unmet_where_deep(expression, out):
     return f"{expression} in a small stack: status {ran.returncode}, {ran.stdout!r}"
 
 
-def unmet_where_a_policy_is_deep():
-    """Why a stream with a deep policy is not answered in a small stack, or None. The policy denies one review of four."""
-    ran = in_small_stack(["replay", "-"], DEEP_STREAM)
+def unmet_where_a_policy_is_deep(workers):
+    """Why a stream with a deep policy is not answered in a small stack by so many workers, or None. The policy denies one review of
+    four."""
+    ran = in_small_stack(["replay", "--workers", str(workers), "-"], DEEP_STREAM)
     denied = [json.loads(line)["uid"] for line in ran.stdout.splitlines() if not json.loads(line)["allowed"]]
     if (ran.returncode, denied) == (0, ["many"]):
         return None
-    return f"a deep policy in a small stack: status {ran.returncode}, denied {denied}"
+    return f"a deep policy in a small stack, {workers} workers: status {ran.returncode}, denied {denied}"
+
+
+def unmet_stream(stream, out, said):
+    """Why a stream is not refused so, with these answers before it, or None."""
+    ran = subprocess.run([PROGRAM, "replay", "-"], input=stream, capture_output=True, timeout=60)
+    if (ran.returncode, ran.stdout, ran.stderr) == (1, out, said):
+        return None
+    return f"{stream[-200:]}: status {ran.returncode}, {ran.stdout!r}, {ran.stderr!r}; wanted 1, {out!r}, {said!r}"
+
+
+def broken_streams():
+    """Streams with one line that is cut at some byte, is no UTF-8 or nests too deep, each with its number and with what is before it."""
+    lines = STREAM.read_bytes().splitlines(keepends=True)
+    for number, line in enumerate(lines, 1):
+        before, line, behind = b"".join(lines[: number - 1]), line.rstrip(), b"\n" + b"".join(lines[number:])
+        broken = [line[:cut] for cut in range(1, len(line))]
+        broken += [line[:20] + b"\xff" + line[20:], b"[" * 128 + b"]" * 128, b"\xff"]
+        yield from ((number, before, before + line + behind) for line in broken)
+
+
+def unmet_where_broken():
+    """Why a stream with a line that is no JSON is not refused there, each, or None. The answers before that line stay, and there are no
+    others."""
+    answers = {}
+    for _, before, _ in broken_streams():
+        if before not in answers:
+            answers[before] = subprocess.run([PROGRAM, "replay", "-"], input=before, capture_output=True, timeout=60).stdout
+    rows = [(stream, answers[before], b"line %d: BadJson\n" % number) for number, before, stream in broken_streams()]
+    with ThreadPoolExecutor(os.cpu_count()) as pool:
+        return list(pool.map(lambda row: unmet_stream(*row), rows))
 
 
 def unmet_when_full(words, stream, status):
@@ -141,13 +188,16 @@ def main():
         unmet_when_full(["eval", "1"], "stdout", 3),
         unmet_when_full(["eval", "1 +"], "stdout", 3),
         unmet_when_full(["check", RULE], "stdout", 3),
+        unmet_when_full(["image", "encode", "true"], "stdout", 3),
+        unmet_when_full(["image", "decode", RULE], "stdout", 3),
         unmet_when_full(["eval", "1 +"], "stderr", 1),
         unmet_when_full(["--help"], "stdout", 3),
         unmet_when_full(["replay", STREAM], "stdout", 3),
         unmet_when_full(["nothing"], "stderr", 2),
         unmet_when_full(["eval", "-1"], "stderr", 2),
     ]
-    whys += [unmet_where_deep(*row) for row in DEEP] + [unmet_where_a_policy_is_deep()]
+    whys += [unmet_where_deep(*row) for row in DEEP] + [unmet_where_a_policy_is_deep(workers) for workers in (1, 16)]
+    whys += unmet_where_broken()
     for why in filter(None, whys):
         print(why)
     failed = sum(why is not None for why in whys)

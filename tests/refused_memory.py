@@ -2,9 +2,11 @@
 """Runs what `rt ci` built with its first allocation refused, then with its second, and so on to the last that it makes.
 
 The program is run on the first expression, on one with loops and on vectors of each answer, and then must give its right answer, or end
-with status 4 and nothing on standard output; and so are `check` and `replay` on their examples, which may have written
-whole lines of their answer before. The programs that make calls are run on each of their lines, tests/vectors/*_calls-*.jsonl, that
-has `"refused"`, and must give its right answer, or end with another status than 0 and write nothing else.
+with status 4 and nothing on standard output; and so are `check` and `replay` on their examples, `replay` on the lines of
+replay-policies.jsonl that have `"refused"`, and `image encode` and `image decode` on the expressions and images of
+language_calls-bytes.jsonl, all of which may have written whole lines of their answer before. The programs that make calls are run on
+each of their lines, tests/vectors/*_calls-*.jsonl, that has `"refused"`, and must give its right answer, or end with another status
+than 0 and write nothing else.
 
 Then the allocations for the lines of what is lent are counted: that ten runs more of the same expressions take as many, of
 as many bytes, where the slots hold much as where they hold little. The last line is 'N passed, M failed', each refused allocation
@@ -21,11 +23,19 @@ from pathlib import Path
 
 TOP = Path(__file__).resolve().parent.parent
 PROGRAM = TOP / "crates/vap/out/vap"
+POLICIES = TOP / "tests/vectors/replay-policies.jsonl"
+IMAGES = TOP / "tests/vectors/language_calls-bytes.jsonl"
 LENT = TOP / "tests/vectors/language_calls-lent.jsonl"
 FIRST = "1 + 2 * 3 == 7 && !(4 < 3)"
 LOOPS = "[[1, 2], [3]].map(r, r.filter(c, {'a': c}.exists(k, k == 'a') && c != 2))"
+COMMANDS = [
+    ["check", TOP / "examples/rule.json"],
+    ["replay", "--audit", TOP / "examples/stream.jsonl"],
+]
 VECTORS = 50
 MOST = 100_000
+# A case is tried in so many parts, side by side: the first, the fifth, .. of its allocations, then the second, the sixth, ..
+PARTS = 4
 OVER = 99  # the status that the preloaded library gives where no allocation was refused
 
 
@@ -59,13 +69,25 @@ def spread(lines):
 
 
 def commands():
-    """The other commands on their examples: where memory is refused, what is written up to there is whole lines of the answer."""
-    for words in (["check", TOP / "examples/rule.json"], ["replay", "--audit", TOP / "examples/stream.jsonl"]):
-        ran = subprocess.run([PROGRAM, *words], stdin=subprocess.DEVNULL, capture_output=True, timeout=60, check=True)
-        is_right = lambda out, whole=ran.stdout: out == whole
-        is_begun = lambda out, whole=ran.stdout: whole.startswith(out) and (not out or out.endswith(b"\n"))
-        is_well = lambda status, out, well=(0, ran.stdout), is_begun=is_begun: (status, out) == well or status == 4 and is_begun(out)
-        yield str(words[0]), [PROGRAM, *words], b"", is_right, is_well
+    """The other commands: where memory is refused, what is written up to there is whole lines of the answer."""
+    yield from (of_command(words, b"") for words in COMMANDS)
+    for line in map(json.loads, POLICIES.read_text(encoding="utf-8").split("\n")[:-1]):
+        if line.get("refused"):
+            yield of_command(["replay", "--audit", "-"], line["file"].encode())
+    for line in map(json.loads, IMAGES.read_text(encoding="utf-8").split("\n")[:-1]):
+        if line["answer"].startswith("Done") and line["call"] == "commands.encode":
+            yield of_command(["image", "encode", line["input"]], b"")
+        if line["answer"].startswith("Done") and line["call"] == "commands.decode":
+            yield of_command(["image", "decode", "-"], bytes.fromhex(line["input"]))
+
+
+def of_command(words, given):
+    """The case of a command that is answered well where memory is not refused."""
+    ran = subprocess.run([PROGRAM, *words], input=given, capture_output=True, timeout=60, check=True)
+    is_right = lambda out: out == ran.stdout
+    is_begun = lambda out: ran.stdout.startswith(out) and (not out or out.endswith(b"\n"))
+    is_well = lambda status, out: (status, out) == (0, ran.stdout) or status == 4 and is_begun(out)
+    return str(words[0]), [PROGRAM, *words], given, is_right, is_well
 
 
 def calls():
@@ -116,19 +138,25 @@ def cases():
     yield from calls()
 
 
-def sweep(library, name, words, given, is_right, is_well):
-    """How many of a case's allocations were refused, and what went wrong."""
+def sweep(library, case, first):
+    """How many of a case's allocations were refused, from this one on in steps of `PARTS`, and what went wrong."""
+    name, words, given, is_right, is_well = case
     whys = []
-    for number in range(1, MOST):
+    for tried, number in enumerate(range(first, MOST, PARTS)):
         environment = {"LD_PRELOAD": str(library), "REFUSED": str(number)}
         ran = subprocess.run(words, env=environment, input=given, capture_output=True, timeout=60)
         if ran.returncode == OVER:
             if not is_right(ran.stdout):
                 whys.append(f"{name!r} with all its memory: {ran.stdout!r}")
-            return number - 1, whys
+            return tried, whys
         if not is_well(ran.returncode, ran.stdout):
             whys.append(f"{name!r} with allocation {number} refused: {ran.stdout!r}, status {ran.returncode}")
-    return MOST, whys + [f"{name!r}: it has not ended at {MOST} allocations"]
+    return 0, whys + [f"{name!r}: it has not ended at {MOST} allocations"]
+
+
+def swept(library, case, pool):
+    """The parts of a case's sweep."""
+    return [pool.submit(sweep, library, case, first) for first in range(1, PARTS + 1)]
 
 
 def counted(library, lines):
@@ -161,16 +189,17 @@ def main():
     try:
         library = preloaded(folder)
         with ThreadPoolExecutor(os.cpu_count()) as pool:
-            swept = list(pool.map(lambda case: sweep(library, *case), cases()))
+            parts = [swept(library, case, pool) for case in cases()]
+            found = [[part.result() for part in case] for case in parts]
         copied = lent_is_copied(library)
     finally:
         shutil.rmtree(folder)
-    refused = sum(count for count, _ in swept)
-    whys = [why for _, found in swept for why in found]
-    whys += ["a case makes no allocation" for count, _ in swept if not count] + copied
+    refused = sum(count for case in found for count, _ in case)
+    whys = [why for case in found for _, wrong in case for why in wrong]
+    whys += ["a case makes no allocation" for case in found if not any(count for count, _ in case)] + copied
     for why in whys:
         print(why)
-    print(f"refused memory: {len(swept)} cases, {refused} allocations")
+    print(f"refused memory: {len(found)} cases, {refused} allocations")
     print(f"{refused + 1 - len(whys)} passed, {len(whys)} failed")
     return 1 if whys else 0
 

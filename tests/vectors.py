@@ -2,10 +2,10 @@
 """Runs the program on each line of tests/vectors/*.jsonl and names each line that is not met.
 
 The first word of a file's name is the command that its lines are for. Lines of `replay` are run with one worker, with
-two and with 16, and their streams are given to `stream_calls` too: after each event the set that a writer advances must be as
+two, with three and with 16, and their streams are given to `stream_calls` too: after each event the set that a writer advances must be as
 one that is built anew, in its report and in its answers to all reviews of the stream. Lines of `language_calls`,
 `cluster_calls` and `stream_calls` are for the programs of these names, which make the calls that lines ask for: all lines of a
-file in one run. So are those of `fit`, for `language_calls`. With names of files, it runs those alone. The last line is
+file in one run. So are those of `fit` and `image`, for `language_calls`. With names of files, it runs those alone. The last line is
 'N passed, M failed'.
 """
 import json
@@ -33,7 +33,7 @@ def replay_words(line):
 COMMANDS = {
     "eval": (lambda line: ["eval", "--", line["expression"]], lambda line: b"", [[]]),
     "check": (lambda line: ["check", "-"], file_of, [[]]),
-    "replay": (replay_words, file_of, [[], ["--workers", "2"], ["--workers", "16"]]),
+    "replay": (replay_words, file_of, [[], ["--workers", "2"], ["--workers", "3"], ["--workers", "16"]]),
 }
 
 
@@ -74,13 +74,28 @@ def asked_in(line):
     return {key: line[key] for key in ("call", "with", "input") if key in line}
 
 
+def image_answer(line):
+    """What a line of `image` comes to: the fault of its bytes or of its image, or the bounds, and where there are no slots a run."""
+    fault = next((line[key] for key in ("decode", "verify") if line[key] != "ok"), None)
+    if fault is not None:
+        return fault
+    bounds = "steps {step_bound}, cost {cost_bound}, operands {max_depth}".format(**line)
+    return bounds + ("; {outcome}, charged {charged}, steps {steps}".format(**line) if "outcome" in line else "")
+
+
 # The programs that make calls, and what each is given for a line.
 ASKED = {
     "language_calls": ("language_calls", asked_in),
     "cluster_calls": ("cluster_calls", asked_in),
     "stream_calls": ("stream_calls", asked_in),
     "fit": ("language_calls", lambda line: {"call": "schemas.row", "input": line["line"]}),
+    "image": ("language_calls", lambda line: {"call": "bytes.decoded", "input": line["hex"]}),
 }
+
+
+def wanted_of(line):
+    """The answer that a line of calls wants."""
+    return line["answer"] if "answer" in line else image_answer(line)
 
 
 def program(name):
@@ -105,8 +120,8 @@ def unmet_calls(command, texts):
     except (KeyError, OSError, ValueError, subprocess.TimeoutExpired) as error:
         return [f"it cannot be run: {error!r}"] * len(texts)
     return [
-        None if answer == line["answer"] else f"{call}: {answer!r}; wanted {line['answer']!r}"
-        for line, call, answer in zip(lines, asked, answers)
+        None if answer == wanted else f"{call}: {answer!r}; wanted {wanted!r}"
+        for wanted, call, answer in zip(map(wanted_of, lines), asked, answers)
     ]
 
 

@@ -5,6 +5,7 @@ use Rattle.std.proofs.lemmas.Bool.{cases_lt}
 use Rattle.cel_value.specs.declared.cel_type.CelType.{CelType}
 use Rattle.cel_check.specs.declared.tree.TypedTree.{TypedTree}
 use Rattle.cel_check.specs.Meaning.{by_turns}
+use Rattle.cel_code.specs.LoopNumbers.{loop_number}
 use Rattle.cel_code.specs.declared.instr.Instr.{Instr}
 use Rattle.cel_code.specs.declared.instr.Instr.TheVariants.{Const, AndTest, OrTest, Cond, Jump, Item, When}
 use Rattle.cel_code.specs.declared.instr.Instr.TheVariants as instr
@@ -151,7 +152,7 @@ module _ (code : Code) where
               inl (target_left _ _ x (all_go (layout_of a) at m below x (omega arith)
               (go a from m h at same below s le less instr' has x j)))
           | inr more ↦ elim (cases_lt s (m + 1)) [
-            | inl less ↦ inr (sym (here s m instr' (instr.Loop l to) has i.begins (omega arith) x j), refl)
+            | inl less ↦ inr (sym (here s m instr' (instr.Loop (loop_number l) to) has i.begins (omega arith) x j), refl)
             | inr behind ↦ elim (cases_lt s (m + 2)) [
               | inl less ↦ absurd (here s (m + 1) instr' Item has i.item (omega arith) x j)
               | inr inside ↦ elim (cases_lt s n) [
@@ -177,7 +178,7 @@ module _ (code : Code) where
               (target_left first second x
               (all_go (layout_of a) at m below x (omega arith) (go a from m h at same below s le less instr' has x j))))
           | inr more ↦ elim (cases_lt s (m + 1)) [
-            | inl less ↦ inr (sym (here s m instr' (instr.Loop loop.Map to) has i.begins (omega arith) x j), refl)
+            | inl less ↦ inr (sym (here s m instr' (instr.Loop (loop_number loop.Map) to) has i.begins (omega arith) x j), refl)
             | inr behind ↦ elim (cases_lt s (m + 2)) [
               | inl less ↦ absurd (here s (m + 1) instr' Item has i.item (omega arith) x j)
               | inr inside ↦ elim (cases_lt s k) [

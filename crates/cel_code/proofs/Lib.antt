@@ -1,6 +1,7 @@
 pub mod Numbering
 pub mod Texts
 pub mod OneRun
+pub mod LoopNumbers
 pub mod Elements
 pub mod SameCode
 pub mod KeptCode
@@ -24,3 +25,4 @@ pub mod Unique
 pub mod Written
 pub mod Leaving
 pub mod Taking
+pub mod Crossing

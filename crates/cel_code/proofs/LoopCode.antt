@@ -3,6 +3,7 @@ use Rattle.std.proofs.Common.{◌≡◌, ℕ, ◌+◌, ◌<◌, ◌≤◌, lengt
 use Rattle.std.proofs.Math.ListN.{length-set}
 use Rattle.cel_check.specs.declared.tree.TypedTree.{TypedTree, out-TypedTree}
 use Rattle.cel_check.specs.declared.tree.Form.TheVariants as form
+use Rattle.cel_code.specs.LoopNumbers.{loop_number}
 use Rattle.cel_code.specs.declared.instr.Instr.{Instr}
 use Rattle.cel_code.specs.declared.instr.Instr.TheVariants.{Item, When}
 use Rattle.cel_code.specs.Placed.{Code, with_instr, patched, Has, Stands, Same, Keeps, Emits, looped, mapped, OpensLoop}
@@ -24,22 +25,24 @@ same_front c d m i k le = same_on c d _ 0 m (narrow c d 0 (length c.instrs) 0 m 
 
 -- a loop's beginning
 abbrev pub begun : Code → Loop → Code
-begun c l = with_instr (with_instr c (instr.Loop l 0)) Item
+begun c l = with_instr (with_instr c (instr.Loop (loop_number l) 0)) Item
 
 begun_long : (c : Code) (l : Loop) → length (begun c l).instrs ≡ length c.instrs + 2
-begun_long c l = omega (arith, length_put c (instr.Loop l 0), length_put (with_instr c (instr.Loop l 0)) Item)
+begun_long c l = omega (arith, length_put c (instr.Loop (loop_number l) 0), length_put (with_instr c (instr.Loop (loop_number l) 0)) Item)
 
 keeps_begun : (c : Code) (l : Loop) → Keeps c (begun c l)
-keeps_begun c l = keeps_on c (with_instr c (instr.Loop l 0)) _ (keeps_put c _) (keeps_put (with_instr c (instr.Loop l 0)) Item)
+keeps_begun c l =
+    let begins = with_instr c (instr.Loop (loop_number l) 0) in
+    keeps_on c begins _ (keeps_put c _) (keeps_put begins Item)
 
 -- what is kept behind it, and where the loop leads
 opens : (c d : Code) (l : Loop) (to : ℕ) → Keeps (begun c l) d
-    → OpensLoop (patched d (length c.instrs) (instr.Loop l to)) (length c.instrs) l to
+    → OpensLoop (patched d (length c.instrs) (instr.Loop (loop_number l) to)) (length c.instrs) l to
 opens c d l to k =
     let m = length c.instrs in
-    let i = instr.Loop l to in
-    let c1 = with_instr c (instr.Loop l 0) in
-    let l1 = length_put c (instr.Loop l 0) in
+    let i = instr.Loop (loop_number l) to in
+    let c1 = with_instr c (instr.Loop (loop_number l) 0) in
+    let l1 = length_put c (instr.Loop (loop_number l) 0) in
     let l2 = begun_long c l in
     let within : m < length d.instrs = omega (arith, l2, k.grows) in
     let last : Has (begun c l) (m + 1) Item = subst (λ k. Has (begun c l) k Item) l1 (has_put c1 Item) in
@@ -52,12 +55,12 @@ opens c d l to k =
 
 pub emits_loop : (old c1 c2 c3 new : Code) (e a b : TypedTree) (l : Loop) (start exit : ℕ) → (out-TypedTree e).form ≡ form.Loop l a b
     → Emits old c1 a → start ≡ length c1.instrs → c2 ≡ begun c1 l → Emits c2 c3 b → exit ≡ length c3.instrs + 1
-    → new ≡ patched (with_instr c3 instr.Next) start (instr.Loop l exit) → Emits old new e
+    → new ≡ patched (with_instr c3 instr.Next) start (instr.Loop (loop_number l) exit) → Emits old new e
 emits_loop old c1 c2 c3 new e a b l start exit is ea em e2 eb et e4 =
     let m = length c1.instrs in
     let n = length c3.instrs in
     let eb : Emits (begun c1 l) c3 b = rw (sym e2) eb in
-    let i = instr.Loop l (n + 1) in
+    let i = instr.Loop (loop_number l) (n + 1) in
     let c4 = with_instr c3 instr.Next in
     let l2 = begun_long c1 l in
     let l4 = length_put c3 instr.Next in
@@ -83,14 +86,15 @@ emits_loop old c1 c2 c3 new e a b l start exit is ea em e2 eb et e4 =
 
 pub emits_map_where : (old c1 c2 c3 c4 c5 new : Code) (e a p b : TypedTree) (start exit : ℕ) → (out-TypedTree e).form ≡ form.MapWhere a p b
     → Emits old c1 a → start ≡ length c1.instrs → c2 ≡ begun c1 loop.Map → Emits c2 c3 p → c4 ≡ with_instr c3 When → Emits c4 c5 b
-    → exit ≡ length c5.instrs + 1 → new ≡ patched (with_instr c5 instr.Next) start (instr.Loop loop.Map exit) → Emits old new e
+    → exit ≡ length c5.instrs + 1 → new ≡ patched (with_instr c5 instr.Next) start (instr.Loop (loop_number loop.Map) exit)
+    → Emits old new e
 emits_map_where old c1 c2 c3 c4 c5 new e a p b start exit is ea em e2 ep e4 eb et e6 =
     let m = length c1.instrs in
     let k = length c3.instrs in
     let n = length c5.instrs in
     let ep : Emits (begun c1 loop.Map) c3 p = rw (sym e2) ep in
     let eb : Emits (with_instr c3 When) c5 b = rw (sym e4) eb in
-    let i = instr.Loop loop.Map (n + 1) in
+    let i = instr.Loop (loop_number loop.Map) (n + 1) in
     let w = with_instr c3 When in
     let c6 = with_instr c5 instr.Next in
     let l2 = begun_long c1 loop.Map in

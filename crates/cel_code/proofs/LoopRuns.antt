@@ -2,6 +2,7 @@
 use Rattle.std.proofs.Common.{◌≡◌, ℕ, ◌+◌, true, false, List, [], ◌∷◌, Option, Some, None, refl, sym, ap, ◌∙◌, subst, arith}
 use Rattle.std.specs.Prelude.{Result, Ok, Err}
 use Rattle.cel_value.specs.declared.value.Value.{Value}
+use Rattle.cel_code.specs.LoopNumbers.{loop_number}
 use Rattle.cel_code.specs.declared.instr.Instr.TheVariants.{Item, When}
 use Rattle.cel_code.specs.declared.image.Image.{Image}
 use Rattle.cel_operators.specs.Outcomes.{Outcome, Env, Side, of_branch}
@@ -14,9 +15,10 @@ use Rattle.cel_check.specs.declared.accumulator.Accumulator.{Accumulator}
 use Rattle.cel_check.specs.Loops.{inside, nothing_yet, Turn, Closes, GoesOn, turn, turn_where, result_of, behind_turn, over_items}
 use Rattle.cel_check.specs.Loops.{charged_behind, cost_of_items, over_range, cost_over}
 use Rattle.cel_check.specs.Meaning.{Valuation, loop_turns, where_turns}
-use Rattle.cel_code.specs.Machine.{opened, gone_on, turned, tested, Frame, State, on, Goes, step}
+use Rattle.cel_code.specs.Machine.{opened, opened_by, gone_on, turned, tested, Frame, State, on, Goes, step}
 use Rattle.cel_code.specs.Placed.{code_in, Has}
 use Rattle.cel_code.specs.declared.instr.Instr.TheVariants as instr
+use Rattle.cel_code.proofs.LoopNumbers.{loop_kind-loop_number}
 use Rattle.cel_code.proofs.Stretches.{Leads, leads_on, costs, one_step, GivesFrom, gives_on, acts, Gives, at_instr}
 
 -- a body without an outcome has no turn
@@ -145,13 +147,15 @@ module _ (image : Image) (slots : List Outcome) where
             (cost_of_items turns charges (v ∷ vs) nothing_yet) _ (leads_on image slots s _ _ c 1 h (one_step image slots _ _ 1 e))
             (items_run vs v v nothing_yet) refl
 
-        pub range_runs : (o : Option Outcome) (from c : ℕ) → Has (code_in image) m (instr.Loop l to)
+        pub range_runs : (o : Option Outcome) (from c : ℕ) → Has (code_in image) m (instr.Loop (loop_number l) to)
             → Gives image slots frames from stack m o c
             → Gives image slots frames from stack to (over_range (taken Ranged o) (λ vs. over_items l turns vs nothing_yet))
             (c + 1 + cost_over (taken Ranged o) (λ vs. cost_of_items turns charges vs nothing_yet))
         range_runs None from c h x = tt
         range_runs (Some y) from c h x =
-            opened_runs (taken Ranged (Some y)) (on from stack frames) y c x (at_instr image slots frames m (instr.Loop l to) (y ∷ stack) h)
+            opened_runs (taken Ranged (Some y)) (on from stack frames) y c x
+            (at_instr image slots frames m (instr.Loop (loop_number l) to) (y ∷ stack) h
+            ∙ ap (λ o. opened_by o (taken Ranged (Some y)) to m stack frames) (loop_kind-loop_number l))
 
     -- the turns of `map` with a predicate
     module _ (m k n to : ℕ) (stack : List Outcome) (hw : Has (code_in image) k When) (hn : Has (code_in image) n instr.Next) where

@@ -3,6 +3,7 @@ use Rattle.std.proofs.Common.{◌≡◌, ℕ, ◌+◌, List, [], ◌∷◌, leng
 use Rattle.std.specs.Prelude.{slice_get}
 use Rattle.cel_value.specs.declared.value.Value.{Value}
 use Rattle.cel_check.specs.declared.tree.TypedTree.{TypedTree}
+use Rattle.cel_code.specs.LoopNumbers.{loop_number}
 use Rattle.cel_code.specs.declared.instr.Instr.TheVariants.{Local, AndTest, OrTest, End}
 use Rattle.cel_code.specs.declared.image.Image.{Image}
 use Rattle.cel_operators.specs.Outcomes.{Outcome, Env, unless_false, unless_true, of_branch, outside}
@@ -117,7 +118,7 @@ module _ (image : Image) (slots : List Outcome) where
         (tree_runs a from m frames stack h))
     tree_runs e from to frames stack (looped l a b m n f h i k j next) =
         let env = env_in frames in
-        let begins : Has (code_in image) m (instr.Loop l (n + 1)) = rw (sym next) i.begins in
+        let begins : Has (code_in image) m (instr.Loop (loop_number l) (n + 1)) = rw (sym next) i.begins in
         let charges : Value → ℕ = λ v. cost_of b (inside v env) in
         gives_as image slots frames from (n + 1) to stack _ _ _ _ next (value_level e _ env f)
         (cost_level e _ env f
@@ -131,7 +132,7 @@ module _ (image : Image) (slots : List Outcome) where
         (value_of a env) from (cost_of a env) begins (tree_runs a from m frames stack h))
     tree_runs e from to frames stack (mapped a p b m k n f h i hp hw hb hn next) =
         let env = env_in frames in
-        let begins : Has (code_in image) m (instr.Loop loop.Map (n + 1)) = rw (sym next) i.begins in
+        let begins : Has (code_in image) m (instr.Loop (loop_number loop.Map) (n + 1)) = rw (sym next) i.begins in
         let charges : Value → ℕ = λ v. where_charge (value_of p) (cost_of p) (cost_of b) env v in
         gives_as image slots frames from (n + 1) to stack _ _ _ _ next (value_level e _ env f)
         (cost_level e _ env f

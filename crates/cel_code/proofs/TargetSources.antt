@@ -3,6 +3,7 @@ use Rattle.std.proofs.Common.{◌≡◌, ℕ, ◌+◌, true, false, List, [], �
 use Rattle.cel_value.specs.declared.cel_type.CelType.{CelType}
 use Rattle.cel_check.specs.declared.tree.TypedTree.{TypedTree}
 use Rattle.cel_check.specs.Meaning.{by_turns}
+use Rattle.cel_code.specs.LoopNumbers.{loop_number}
 use Rattle.cel_code.specs.declared.instr.Instr.TheVariants.{AndTest, OrTest, Cond, Jump}
 use Rattle.cel_code.specs.declared.instr.Instr.TheVariants as instr
 use Rattle.cel_parse.specs.declared.expr.Loop.TheVariants as loop
@@ -29,9 +30,10 @@ module _ (code : Code) where
   come_end e from to (with_text op a text m f h i after) q = let no_join : false ≡ true = rw (laid e _ f.is) at q in cc
   come_end e from to (conditional c a b m n f h i k j l) q = record { from = n; instr = Jump to; stands = j.is; jumps = refl }
   come_end e from to (local d f h next) q = let no_join : false ≡ true = rw (laid e _ f.is) at q in cc
-  come_end e from to (looped l a b m n f h i k j next) q = record { from = m; instr = instr.Loop l to; stands = i.begins.is; jumps = refl }
+  come_end e from to (looped l a b m n f h i k j next) q =
+      record { from = m; instr = instr.Loop (loop_number l) to; stands = i.begins.is; jumps = refl }
   come_end e from to (mapped a p b m k n f h i hp hw hb hn next) q =
-      record { from = m; instr = instr.Loop loop.Map to; stands = i.begins.is; jumps = refl }
+      record { from = m; instr = instr.Loop (loop_number loop.Map) to; stands = i.begins.is; jumps = refl }
 
   pub all_come : (l : Layout) (at to : ℕ) (below : List CelType) (x : ℕ) → at + l.size ≡ to
       → (IsTarget (l.within at below) x → IsJumpedTo code.instrs x) → (l.joins ≡ true → IsJumpedTo code.instrs to)

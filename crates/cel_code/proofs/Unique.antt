@@ -10,6 +10,7 @@ use Rattle.cel_check.specs.Meaning.{by_turns}
 use Rattle.cel_check.specs.declared.tree.TypedTree.{TypedTree, out-TypedTree}
 use Rattle.cel_check.specs.declared.tree.Form.{Form}
 use Rattle.cel_check.specs.declared.tree.Form.TheVariants as form
+use Rattle.cel_code.specs.LoopNumbers.{loop_number}
 use Rattle.cel_code.specs.declared.image.Image.{Image}
 use Rattle.cel_code.specs.declared.instr.Instr.{Instr}
 use Rattle.cel_code.specs.declared.instr.Instr.TheVariants.{Const, Slot, Local, Op, AndTest, OrTest, And, Or, Cond, Jump, When}
@@ -171,7 +172,7 @@ module _ (c d : Code) where
   -- a loop begins alike in both
   opened : (m : ℕ) (l : Loop) (to to' : ℕ) → OpensLoop c m l to → OpensLoop d m l to' → to ≡ to' → Alike m (m + 2)
   opened m l to to' p q same =
-      let first = one m _ _ p.begins q.begins (ap (instr.Loop l) same) in
+      let first = one m _ _ p.begins q.begins (ap (instr.Loop (loop_number l)) same) in
       let two : m + 1 + 1 ≡ m + 2 = omega arith in
       subst (Alike m) two (on m (m + 1) (m + 1 + 1) first (one (m + 1) _ _ p.item q.item refl))
 

@@ -88,7 +88,7 @@ looping = record {
   constants = [];
   targets = [];
   result = type.Bool;
-  code = Loop loop.Exists 4 ∷ Item ∷ Local 0 ∷ instr.Next ∷ When ∷ [];
+  code = Loop 1 4 ∷ Item ∷ Local 0 ∷ instr.Next ∷ When ∷ [];
 }
 
 -- the loop at its first item, with this many left
@@ -124,6 +124,10 @@ goes_on_row = refl
 closes_row : step looping [] (on 3 (Ok the_true ∷ []) (at_first ∷ [])) ≡ Goes 0 (on 4 (Ok the_true ∷ []) [])
 unfolding looping
 closes_row = rw (out-Bool true) refl
+
+no_kind_row : step (record looping { code = Loop 5 4 ∷ [] }) [] (on 0 (Err Overflow ∷ []) []) ≡ Stuck
+unfolding looping
+no_kind_row = refl
 
 no_map_row : step looping [] (on 4 (Ok the_true ∷ []) (at_first ∷ [])) ≡ Stuck
 unfolding looping

@@ -2,6 +2,7 @@ pub mod Compiled
 pub mod Correct
 pub mod Drafts
 pub mod Jumps
+pub mod LoopNumbers
 pub mod Machine
 pub mod Matches
 pub mod Placed

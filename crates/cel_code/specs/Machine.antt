@@ -10,6 +10,7 @@ use Rattle.cel_code.specs.declared.image.Image.{Image}
 use Rattle.cel_operators.specs.Outcomes.{Outcome, Side, and_of, or_of, both_sides}
 use Rattle.cel_operators.specs.Wants.{side_of, taken}
 use Rattle.cel_operators.specs.declared.operands.Want.TheVariants.{Ranged}
+use Rattle.cel_code.specs.LoopNumbers.{loop_kind}
 use Rattle.cel_check.specs.Loops.{Turn, Closes, GoesOn, nothing_yet, turn, result_of}
 use Rattle.cel_check.specs.declared.accumulator.Accumulator.{Accumulator}
 use Rattle.cel_parse.specs.declared.expr.Loop.{Loop}
@@ -159,6 +160,11 @@ opened l (Some (Err e)) exit at stack frames = Goes 1 (on exit (Err e ∷ stack)
 opened l (Some (Ok [])) exit at stack frames = Goes 1 (on exit (result_of l nothing_yet ∷ stack) frames)
 opened l (Some (Ok (v ∷ vs))) exit at stack frames = Goes 1 (on (at + 1) stack (frame at exit l v vs ∷ frames))
 
+-- a loop of the kind of a number, if there is one
+abbrev pub opened_by : Option Loop → Option (Result (List Value) CelError) → ℕ → ℕ → List Outcome → List Frame → Next
+opened_by None range exit at stack frames = Stuck
+opened_by (Some l) range exit at stack frames = opened l range exit at stack frames
+
 -- the next item
 abbrev pub item_taken : Frame → List Value → ℕ → List Outcome → List Frame → Next
 item_taken f [] at stack frames = Stuck
@@ -202,7 +208,7 @@ act inputs And at (y ∷ x ∷ stack) frames = joined (join and_of (side_of (Som
 act inputs Or at (y ∷ x ∷ stack) frames = joined (join or_of (side_of (Some x)) (side_of (Some y))) at stack frames
 act inputs (Cond if_false if_error) at (x ∷ stack) frames = branch (side_of (Some x)) if_false if_error at stack frames
 act inputs (Jump to) at stack frames = Goes 0 (on to stack frames)
-act inputs (instr.Loop l exit) at (x ∷ stack) frames = opened l (taken Ranged (Some x)) exit at stack frames
+act inputs (instr.Loop n exit) at (x ∷ stack) frames = opened_by (loop_kind n) (taken Ranged (Some x)) exit at stack frames
 act inputs Item at stack (f ∷ frames) = item_taken f f.left at stack frames
 act inputs When at (x ∷ stack) (f ∷ frames) = tested_in f.mode f x at stack frames
 act inputs instr.Next at (x ∷ stack) (f ∷ frames) = turned f (turn f.mode f.item f.gathered (Some x)) stack frames

@@ -15,6 +15,7 @@ use Rattle.cel_code.specs.declared.instr.Instr.TheVariants as instr
 use Rattle.cel_code.specs.declared.image.Image.{Image}
 use Rattle.cel_parse.specs.declared.expr.Loop.{Loop}
 use Rattle.cel_parse.specs.declared.expr.Loop.TheVariants as loop
+use Rattle.cel_code.specs.LoopNumbers.{loop_number}
 use Rattle.cel_check.specs.Meaning.{IsForm, by_turns}
 use Rattle.cel_operators.specs.Operators.{code_of}
 
@@ -60,7 +61,7 @@ pub record HasText (code : Code) (at : ℕ) (op : TextOperator) (text : List ℕ
 
 -- a loop begins at a place, whose body takes an item first, and leads to another place
 pub record OpensLoop (code : Code) (at : ℕ) (l : Loop) (exit : ℕ) : Type 0 where
-  pub begins : Has code at (instr.Loop l exit)
+  pub begins : Has code at (instr.Loop (loop_number l) exit)
   pub item : Has code (at + 1) Item
 
 mutual

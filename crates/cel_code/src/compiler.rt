@@ -3,6 +3,7 @@ ghost use Rattle.cel_value.specs.declared.cel_type.CelType.{CelType};
 ghost use Rattle.cel_value.specs.declared.value.Value as value;
 ghost use Rattle.cel_code.specs.declared.image.Image.{Image};
 ghost use Rattle.cel_check.specs.Meaning.{IsForm, type_of, by_turns};
+ghost use Rattle.cel_code.specs.LoopNumbers.{loop_number as number_of_loop};
 ghost use Rattle.cel_code.specs.Placed.{with_instr, patched, Interns, Emits, EmitsEach};
 ghost use Rattle.cel_check.specs.declared.tree.Form.TheVariants as form;
 ghost use Rattle.cel_code.specs.declared.instr.Instr.TheVariants as instr;
@@ -14,6 +15,7 @@ ghost use Rattle.cel_code.specs.Jumps.{TargetsAreJumps};
 use crate::constants::Constants;
 use crate::image::{Image, Target};
 use crate::instr::Instr;
+use crate::loop_numbers::loop_number;
 use cel_check::{Form, Typed, TypedTree};
 use cel_parse::{Entry, Loop};
 use cel_value::{CelType, Value, copy_types};
@@ -116,12 +118,13 @@ impl Draft {
     /// A loop begins, which does not know yet where it leads. Answers where it begins.
     fn open_loop(&mut self, mode: Loop) -> Result<usize, AllocError>
         ensures code { IfOk result (λ at.
-            drafted self.new ≡ with_instr (with_instr (drafted self.old) (instr.Loop mode 0)) instr.Item) }
+            drafted self.new ≡ with_instr (with_instr (drafted self.old) (instr.Loop (number_of_loop mode) 0)) instr.Item) }
         ensures place { IfOk result (λ at. at ≡ length self.old.code) }
         ensures grows { OnOk result (Grows self.old self.new 2 [] []) }
     {
         let start = self.len();
-        self.put(Instr::Loop(mode, 0))?;
+        let number = loop_number(mode);
+        self.put(Instr::Loop(number, 0))?;
         self.put(Instr::Item)?;
         Ok(start)
     }
@@ -130,12 +133,14 @@ impl Draft {
     fn close_loop(&mut self, start: usize, mode: Loop) -> Result<(), AllocError>
         requires { start < length self.old.code }
         ensures code { OnOk result
-            (drafted self.new ≡ patched (with_instr (drafted self.old) instr.Next) start (instr.Loop mode (length self.old.code + 1))) }
+            (drafted self.new ≡ patched (with_instr (drafted self.old) instr.Next) start
+            (instr.Loop (number_of_loop mode) (length self.old.code + 1))) }
         ensures grows { OnOk result (Grows self.old self.new 1 [] []) }
     {
         self.put(Instr::Next)?;
         let exit = self.len();
-        self.patch(start, Instr::Loop(mode, exit));
+        let number = loop_number(mode);
+        self.patch(start, Instr::Loop(number, exit));
         Ok(())
     }
 

@@ -8,7 +8,9 @@ mod constants;
 mod image;
 mod instr;
 mod key;
+mod loop_numbers;
 
 pub use compiler::compile;
 pub use image::{Image, Target};
 pub use instr::Instr;
+pub use loop_numbers::{loop_kind, loop_number};

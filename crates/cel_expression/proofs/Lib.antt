@@ -1,4 +1,5 @@
 mod Within
+mod OfImage
 mod Runs
 mod Faults
 mod Matches

@@ -8,6 +8,7 @@ ghost use Rattle.cel_code.specs.Correct.{Computes, Preserves};
 ghost use Rattle.cel_estimate.specs.Estimate.{budget};
 ghost use Rattle.cel_expression.specs.Expressions.{accepted_of, compiled_of, estimate_at, run_of, type_at};
 ghost use Rattle.cel_expression.specs.Faulty.{IsFaulty, IsUnverified};
+ghost use Rattle.cel_expression.specs.Images.{IsImageOf};
 ghost use Rattle.cel_expression.specs.Patterns.{MayMatch};
 ghost use Rattle.cel_expression.specs.Stages.{IsRated};
 ghost use Rattle.cel_expression.specs.declared.refusal.CompileFault.TheVariants.{Unverified};
@@ -160,7 +161,8 @@ impl Compiled {
 
     /// The program, for its slots.
     pub fn program(&self) -> &Program
-        ensures { result.now.slots ≡ types_in self.now.names }
+        ensures slots { result.now.slots ≡ types_in self.now.names }
+        ensures image { IsImageOf self.now result.now }
     {
         self.program.get()
     }

@@ -17,6 +17,7 @@ use crate::stack::Stack;
 use crate::step::Move;
 use crate::turns::{Turned, nothing_yet, result_of};
 use cel_apply::truth;
+use cel_code::loop_kind;
 use cel_parse::Loop;
 use cel_value::{CelError, Value};
 use std::alloc::{AllocError, Global};
@@ -65,10 +66,10 @@ fn copied<'a>(
     Ok(position.go_on(1))
 }
 
-/// A loop over what is on top: it is opened, or its error or the result of no items goes where it leads.
+/// A loop of the kind of a number over what is on top: it is opened, or its error or the result of no items goes where it leads.
 pub fn open_loop<'a>(
     alloc: Global,
-    mode: Loop,
+    number: usize,
     exit: usize,
     position: &mut Position,
     stack: &mut Stack<'a>,
@@ -77,12 +78,15 @@ pub fn open_loop<'a>(
     requires at { position.old.at + 1 < 2 ^ 64 }
     requires room { HasRoom stack.old }
     requires frame_room { HasFrameRoom frames.old }
-    ensures acts { Follows (loop_of mode exit stack.old.items position.old.at frames.old.items)
+    ensures acts { Follows (loop_of number exit stack.old.items position.old.at frames.old.items)
         result position.new stack.new.items frames.new.items }
     ensures room { stack.new.room ≡ stack.old.room }
     ensures frame_room { frames.new.room ≡ frames.old.room }
 {
     let Some(x) = stack.pop() else {
+        return Move::IsStuckHere;
+    };
+    let Some(mode) = loop_kind(number) else {
         return Move::IsStuckHere;
     };
     match ranged(x) {

@@ -81,7 +81,7 @@ pub fn step<'a>(
         Instr::Or => join(stack, false, position),
         Instr::Cond(if_false, if_error) => branch(stack, if_false, if_error, position),
         Instr::Jump(to) => position.go_to(to, 0),
-        Instr::Loop(mode, exit) => open_loop(alloc, mode, exit, position, stack, frames),
+        Instr::Loop(number, exit) => open_loop(alloc, number, exit, position, stack, frames),
         Instr::Item => item(position, frames),
         Instr::When => when(position, stack, frames),
         Instr::Next => return told(next(alloc, position, stack, frames)),

@@ -5,4 +5,4 @@ pub mod Asked
 pub mod Choices
 pub mod Only
 pub mod Copies
-pub mod Sent
+pub mod Crossing

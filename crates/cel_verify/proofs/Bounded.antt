@@ -14,11 +14,12 @@ use Rattle.cel_code.specs.declared.instr.Instr.TheVariants.{Const, Op, WithText,
 use Rattle.cel_code.specs.declared.instr.Instr.TheVariants.{Jump, End, Slot, Local, Item, When, Next}
 use Rattle.cel_code.specs.declared.instr.Instr.TheVariants as instr
 use Rattle.cel_code.specs.declared.image.Image.{Image}
+use Rattle.cel_code.specs.LoopNumbers.{loop_kind}
 use Rattle.cel_operators.specs.Wants.{is_there, is_truth}
 use Rattle.cel_verify.specs.declared.fault.VerifyRule.TheVariants.{TooDeep, WrongKind, OverBudget}
 use Rattle.cel_verify.specs.Bodies.{same_body}
 use Rattle.cel_verify.specs.StackTypes.{StackTypes, all_assignable}
-use Rattle.cel_verify.specs.Sound.{Falls, Open, some_of, every, jumps_of, is_jumped, is_target, is_placed, enters, loop_rule}
+use Rattle.cel_verify.specs.Sound.{Falls, Open, some_of, every, jumps_of, is_jumped, is_target, is_placed, enters, kind_rule}
 use Rattle.cel_verify.specs.Sound.{typed_rule, entry_in, entry_or, fallen, opening, still_open, below_all}
 use Rattle.cel_verify.specs.Sound.{IsWalked, max_depth, max_loops}
 use Rattle.cel_verify.specs.Paths.{IsIn}
@@ -68,10 +69,10 @@ enters_long o ts es h e =
     omega (arith, ap (length {A = CelType}) same)
 
 -- a loop leaves as much as it takes
-loop_long : (l : Loop) (o : Option StackTypes) (ts es : StackTypes) (m : Option StackTypes) → loop_rule l o ts ≡ Ok m
+loop_long : (k : Option Loop) (o : Option StackTypes) (ts es : StackTypes) (m : Option StackTypes) → kind_rule k o ts ≡ Ok m
     → o ≡ Some es → length es ≤ length ts
-loop_long l o ts es m h e =
-    let r = loop_ruled l o ts m h in
+loop_long k o ts es m h e =
+    let r = loop_ruled k o ts m h in
     let same : r.after ≡ es = same_Some r.after es (sym r.after_is ∙ e) in
     let long = same_long (r.empty ∷ r.rest) r.after r.goes in
     omega (arith, ap (length {A = CelType}) same, ap (length {A = CelType}) r.is)
@@ -112,7 +113,7 @@ jump_long image Or opens ts es m to h j e = absurd j
 jump_long image End opens ts es m to h j e = absurd j
 jump_long image (instr.Loop l exit) opens ts es m to h j e =
     let o = entry_in image.targets exit in
-    ⊎_elim (λ q. loop_long l o ts es m h (ap (entry_in image.targets) (sym q) ∙ e)) (λ x. absurd x) j
+    ⊎_elim (λ q. loop_long (loop_kind l) o ts es m h (ap (entry_in image.targets) (sym q) ∙ e)) (λ x. absurd x) j
 jump_long image (Local d) opens ts es m to h j e = absurd j
 jump_long image Item opens ts es m to h j e = absurd j
 jump_long image When opens ts es m to h j e = absurd j

@@ -28,3 +28,4 @@ pub mod Exact
 pub mod Measuring
 pub mod Openings
 pub mod Summing
+pub mod Crossing

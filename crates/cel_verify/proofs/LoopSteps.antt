@@ -22,9 +22,11 @@ use Rattle.cel_operators.proofs.Taking.{Taken, taken_fits}
 use Rattle.cel_code.specs.declared.instr.Instr.TheVariants.{Local, Item, When, Next}
 use Rattle.cel_code.specs.declared.instr.Instr.TheVariants as instr
 use Rattle.cel_code.specs.declared.image.Image.{Image}
-use Rattle.cel_code.specs.Machine.{Inputs, Frame, on, Goes, slot, item_of, frame, opened, item_taken, turned, tested, tested_in, act}
+use Rattle.cel_code.specs.LoopNumbers.{loop_kind}
+use Rattle.cel_code.specs.Machine.{Next as Step, Inputs, Frame, on, Goes, slot, item_of, frame, opened, opened_by, item_taken, turned}
+use Rattle.cel_code.specs.Machine.{tested, tested_in, act}
 use Rattle.cel_verify.specs.StackTypes.{StackTypes, all_assignable, Fits, AllFit}
-use Rattle.cel_verify.specs.Sound.{Open, in_innermost, is_map, no_items, span_of, local_rule, loop_rule, item_rule, when_rule}
+use Rattle.cel_verify.specs.Sound.{Open, in_innermost, is_map, no_items, span_of, local_rule, kind_rule, item_rule, when_rule}
 use Rattle.cel_verify.specs.Sound.{closing_rule, next_rule, typed_rule, entry_in, below_all, IsWalked}
 use Rattle.cel_verify.specs.Paths.{most_items, items_on_top, times_at}
 use Rattle.cel_verify.specs.Typed.{types_at, opens_at, waits, waits_at, LoopStands, FrameFits, FramesFit}
@@ -217,7 +219,7 @@ module _ (image : Image) (sound : IsWalked image) where
   next_goes inputs at (t ∷ []) (x ∷ stack) (f ∷ fs) (o ∷ os) m h eo k b e = next_on at t x stack f fs o os m h eo k.0 k.1 e
 
   -- LOOP: the range's error or the result of no items behind the loop, or the first item
-  module _ (at : ℕ) (l : Loop) (exit : ℕ) (t : CelType) (us : StackTypes) (x : Outcome) (stack : List Outcome) (frames : List Frame)
+  module _ (at l exit : ℕ) (t : CelType) (us : StackTypes) (x : Outcome) (stack : List Outcome) (frames : List Frame)
       (h : Here image at (instr.Loop l exit) (t ∷ us) (x ∷ stack) frames) (r : Looped image at l exit)
       (top_is : r.top ≡ t) (rest_is : r.rest ≡ us) where
     -- the loop that is opened
@@ -239,9 +241,9 @@ module _ (image : Image) (sound : IsWalked image) where
 
     body_types : types_at image (at + 1) ≡ Some []
     body_types =
-        let rule : loop_rule l (entry_in image.targets exit) (t ∷ us) ≡ Ok (Some []) =
-        subst (λ a. loop_rule l (entry_in image.targets exit) (a ∷ us) ≡ Ok (Some [])) top_is
-        (subst (λ ss. loop_rule l (entry_in image.targets exit) (r.top ∷ ss) ≡ Ok (Some [])) rest_is r.rule) in
+        let rule : kind_rule (loop_kind l) (entry_in image.targets exit) (t ∷ us) ≡ Ok (Some []) =
+        subst (λ a. kind_rule (loop_kind l) (entry_in image.targets exit) (a ∷ us) ≡ Ok (Some [])) top_is
+        (subst (λ ss. kind_rule (loop_kind l) (entry_in image.targets exit) (r.top ∷ ss) ≡ Ok (Some [])) rest_is r.rule) in
         let n = fall_label image sound at (instr.Loop l exit) (t ∷ us) (x ∷ stack) frames h [] rule in
         n.1 ∙ ap Some (no_types n.0 n.2)
 
@@ -263,7 +265,7 @@ module _ (image : Image) (sound : IsWalked image) where
           rest = s.1;
           after = s.2;
           below = s.4;
-          empty = λ u e. subst (λ v. assignable v s.0 ≡ true) (same_ok (loop_type l no_items type.Never) r.empty u r.empty_is e) s.3;
+          empty = λ u e. subst (λ v. assignable v s.0 ≡ true) (same_ok (loop_type r.kind no_items type.Never) r.empty u r.empty_is e) s.3;
         }
 
     -- behind the loop, with its result
@@ -275,14 +277,14 @@ module _ (image : Image) (sound : IsWalked image) where
         (omega arith) r.after_is (all_wider (y ∷ stack) (r.empty ∷ r.rest) r.after (below_all opens) r.goes (fy, below))
 
     abbrev opened_frame : Value → List Value → Frame
-    opened_frame v vs = frame at exit l v vs
+    opened_frame v vs = frame at exit r.kind v vs
 
     frame_fits : (v : Value) (vs : List Value) → length (v ∷ vs) ≤ r.span.max → list_all (λ w. fits w r.span.item) (v ∷ vs) ≡ true
         → FrameFits image 0 (opened_frame v vs) own opens
     frame_fits v vs long all =
         let stands = loop_stands in
         let first = and_parts (fits v r.span.item) (list_all (λ w. fits w r.span.item) vs) all in
-        let result = empty_fits l r.empty r.empty_is in
+        let result = empty_fits r.kind r.empty r.empty_is in
         let takes = stands.empty r.empty r.empty_is in
         record {
           start = refl;
@@ -293,7 +295,7 @@ module _ (image : Image) (sound : IsWalked image) where
           some = omega arith;
           room = omega arith;
           stands = stands;
-          result = wider r.empty stands.top (Some (result_of l nothing_yet)) takes result;
+          result = wider r.empty stands.top (Some (result_of r.kind nothing_yet)) takes result;
         }
 
     -- a route through the body counts for each item
@@ -333,13 +335,13 @@ module _ (image : Image) (sound : IsWalked image) where
         )
 
     ranged_on : (o : Option (Result (List Value) CelError)) → Taken Ranged r.span o
-        → GoesOn image (on at (x ∷ stack) frames) (opened l o exit at stack frames)
+        → GoesOn image (on at (x ∷ stack) frames) (opened r.kind o exit at stack frames)
     ranged_on None k = absurd k
     ranged_on (Some (Err c)) k = led (Err c) refl
-    ranged_on (Some (Ok [])) k = led (result_of l nothing_yet) (empty_fits l r.empty r.empty_is)
+    ranged_on (Some (Ok [])) k = led (result_of r.kind nothing_yet) (empty_fits r.kind r.empty r.empty_is)
     ranged_on (Some (Ok (v ∷ vs))) k = opens_on v vs k.0 k.1
 
-  pub loop_goes : (inputs : Inputs) (at : ℕ) (l : Loop) (exit : ℕ) (ts : StackTypes) (stack : List Outcome) (frames : List Frame)
+  pub loop_goes : (inputs : Inputs) (at l exit : ℕ) (ts : StackTypes) (stack : List Outcome) (frames : List Frame)
       → Here image at (instr.Loop l exit) ts stack frames
       → GoesOn image (on at stack frames) (act inputs (instr.Loop l exit) at stack frames)
   loop_goes inputs at l exit ts stack frames h =
@@ -355,4 +357,6 @@ module _ (image : Image) (sound : IsWalked image) where
           let parts = cons_parts r.top t r.rest us e in
           let limit = ap (limit_of Ranged) (sym parts.0) ∙ r.ranged in
           let range = taken_fits Ranged t (Some x) r.span limit h.fits.0 in
-          ranged_on at l exit t us x stack frames h r parts.0 parts.1 (taken Ranged (Some x)) range
+          let goes = ranged_on at l exit t us x stack frames h r parts.0 parts.1 (taken Ranged (Some x)) range in
+          let at_kind : Option Loop → Step = λ k. opened_by k (taken Ranged (Some x)) exit at stack frames in
+          subst (λ k. GoesOn image (on at (x ∷ stack) frames) (at_kind k)) (sym r.kind_is) goes

@@ -16,10 +16,11 @@ use Rattle.cel_code.specs.declared.instr.Instr.{Instr}
 use Rattle.cel_code.specs.declared.instr.Instr.TheVariants.{Item, Next}
 use Rattle.cel_code.specs.declared.instr.Instr.TheVariants as instr
 use Rattle.cel_code.specs.declared.image.Image.{Image}
+use Rattle.cel_code.specs.LoopNumbers.{loop_kind}
 use Rattle.cel_verify.specs.StackTypes.{StackTypes, all_assignable}
 use Rattle.cel_verify.specs.Bodies.{leads_behind, last_behind, innermost, same_loop, same_body, is_item, is_next}
 use Rattle.cel_verify.specs.Sound.{Open, every, enters, is_target, is_placed, in_innermost, empty_rule, no_items, range_rule}
-use Rattle.cel_verify.specs.Sound.{loop_rule, entry_in, with_loop, opening, still_open, IsWalked}
+use Rattle.cel_verify.specs.Sound.{kind_rule, entry_in, with_loop, opening, still_open, IsWalked}
 use Rattle.cel_verify.specs.Paths.{is_loop}
 use Rattle.cel_verify.specs.Typed.{types_at, opens_at, waits, waits_at}
 use Rattle.cel_verify.proofs.Falling.{one_needs, entered_ok, enters_is, get_some, cons_parts}
@@ -79,8 +80,8 @@ last_leads code at zero s e = absurd (none-some s e)
 last_leads code at (suc n) s e = leads_by code at n s (leads_behind (slice_get code n) at) refl e (λ q. last_leads code at n s q)
 
 loop_of : (o : Option Instr) (at : ℕ) → leads_behind o at ≡ true
-    → (l : Loop) × (exit : ℕ) × (o ≡ Some (instr.Loop l exit)) × (at < exit)
-loop_of (Some (instr.Loop l exit)) at h = (l, exit, refl, omega (arith, ltb-true at exit h))
+    → (n : ℕ) × (exit : ℕ) × (o ≡ Some (instr.Loop n exit)) × (at < exit)
+loop_of (Some (instr.Loop n exit)) at h = (n, exit, refl, omega (arith, ltb-true at exit h))
 loop_of _ at h = absurd (true≢false (sym h))
 
 pub same_loop_is : (a b : Option ℕ) → same_loop a b ≡ true → a ≡ b
@@ -98,7 +99,9 @@ item_is (Some Item) h = refl
 item_is _ h = absurd (true≢false (sym h))
 
 -- what the rule of a LOOP says of the types there
-pub record LoopRule (l : Loop) (es : Option StackTypes) (ts : StackTypes) : Type 0 where
+pub record LoopRule (k : Option Loop) (es : Option StackTypes) (ts : StackTypes) : Type 0 where
+  pub kind : Loop
+  pub kind_is : k ≡ Some kind
   pub top : CelType
   pub rest : StackTypes
   pub is : ts ≡ top ∷ rest
@@ -107,9 +110,9 @@ pub record LoopRule (l : Loop) (es : Option StackTypes) (ts : StackTypes) : Type
   pub after : StackTypes
   pub after_is : es ≡ Some after
   pub empty : CelType
-  pub empty_is : loop_type l no_items type.Never ≡ Ok empty
+  pub empty_is : loop_type kind no_items type.Never ≡ Ok empty
   pub goes : all_assignable (empty ∷ rest) after ≡ true
-  pub rule : loop_rule l es (top ∷ rest) ≡ Ok (Some [])
+  pub rule : kind_rule k es (top ∷ rest) ≡ Ok (Some [])
 
 empty_ruled : (es : Option StackTypes) (ts : StackTypes) (r : Result CelType TypeRule) (m : Option StackTypes)
     → empty_rule es ts r ≡ Ok m
@@ -128,13 +131,16 @@ range_ruled : (l : Loop) (o : Option Span) (es : Option StackTypes) (ts : StackT
 range_ruled l None es ts m e = cc
 range_ruled l (Some span) es ts m e = (span, refl, e, refl)
 
-pub loop_ruled : (l : Loop) (es : Option StackTypes) (ts : StackTypes) (m : Option StackTypes) → loop_rule l es ts ≡ Ok m
-    → LoopRule l es ts
-loop_ruled l es [] m e = cc
-loop_ruled l es (t ∷ ts) m e =
+pub loop_ruled : (k : Option Loop) (es : Option StackTypes) (ts : StackTypes) (m : Option StackTypes) → kind_rule k es ts ≡ Ok m
+    → LoopRule k es ts
+loop_ruled None es ts m e = cc
+loop_ruled (Some l) es [] m e = cc
+loop_ruled (Some l) es (t ∷ ts) m e =
     let r = range_ruled l (limit_of Ranged t) es ts m e in
     let q = empty_ruled es ts (loop_type l no_items type.Never) m r.2 in
     record {
+      kind = l;
+      kind_is = refl;
       top = t;
       rest = ts;
       is = refl;
@@ -149,7 +155,9 @@ loop_ruled l es (t ∷ ts) m e =
     }
 
 -- a LOOP whose rule holds
-pub record Looped (image : Image) (s : ℕ) (l : Loop) (exit : ℕ) : Type 0 where
+pub record Looped (image : Image) (s n exit : ℕ) : Type 0 where
+  pub kind : Loop
+  pub kind_is : loop_kind n ≡ Some kind
   pub top : CelType
   pub rest : StackTypes
   pub types : types_at image s ≡ Some (top ∷ rest)
@@ -158,24 +166,24 @@ pub record Looped (image : Image) (s : ℕ) (l : Loop) (exit : ℕ) : Type 0 whe
   pub after : StackTypes
   pub after_is : entry_in image.targets exit ≡ Some after
   pub empty : CelType
-  pub empty_is : loop_type l no_items type.Never ≡ Ok empty
+  pub empty_is : loop_type kind no_items type.Never ≡ Ok empty
   pub goes : all_assignable (empty ∷ rest) after ≡ true
-  pub rule : loop_rule l (entry_in image.targets exit) (top ∷ rest) ≡ Ok (Some [])
+  pub rule : kind_rule (loop_kind n) (entry_in image.targets exit) (top ∷ rest) ≡ Ok (Some [])
   pub item : slice_get image.code (s + 1) ≡ Some Item
   pub next : slice_get image.code (exit - 1) ≡ Some Next
   pub far : s + 2 < exit
   pub inside : exit < length image.code
   pub same : innermost image.code s ≡ innermost image.code exit
 
-pub looped : (image : Image) (sound : IsWalked image) (s : ℕ) (l : Loop) (exit : ℕ)
-    → slice_get image.code s ≡ Some (instr.Loop l exit) → Looped image s l exit
-looped image sound s l exit h =
-    let lt = slice_get_within image.code s (instr.Loop l exit) h in
-    let p = parts_at image sound s (instr.Loop l exit) lt h in
+pub looped : (image : Image) (sound : IsWalked image) (s n exit : ℕ) → slice_get image.code s ≡ Some (instr.Loop n exit)
+    → Looped image s n exit
+looped image sound s n exit h =
+    let lt = slice_get_within image.code s (instr.Loop n exit) h in
+    let p = parts_at image sound s (instr.Loop n exit) lt h in
     let es = entry_in image.targets exit in
-    let m = entered_ok (entry_in image.targets (s + 1)) (loop_rule l es p.here) (sound.each s lt).next p.typed in
-    let r = loop_ruled l es p.here m.0 m.1 in
-    let placed = is_placed image s (instr.Loop l exit) (opens_at image s) in
+    let m = entered_ok (entry_in image.targets (s + 1)) (kind_rule (loop_kind n) es p.here) (sound.each s lt).next p.typed in
+    let r = loop_ruled (loop_kind n) es p.here m.0 m.1 in
+    let placed = is_placed image s (instr.Loop n exit) (opens_at image s) in
     let nest = and_parts placed (every (same_body image.code s) (exit ∷ [])) p.nested in
     let next = is_next (slice_get image.code (exit - 1)) in
     let a = and_parts (is_item (slice_get image.code (s + 1))) (next && nat_lt (s + 2) exit) nest.0 in
@@ -183,6 +191,8 @@ looped image sound s l exit h =
     let ahead = is_ahead image s exit (every_in (is_target image s) (exit ∷ []) exit p.targets (inl refl)) in
     let body = every_in (same_body image.code s) (exit ∷ []) exit nest.1 (inl refl) in
     record {
+      kind = r.kind;
+      kind_is = r.kind_is;
       top = r.top;
       rest = r.rest;
       types = p.is ∙ ap Some r.is;
@@ -202,18 +212,18 @@ looped image sound s l exit h =
     }
 
 -- the loop that a LOOP opens
-abbrev pub open_of : (image : Image) (s : ℕ) (l : Loop) (exit : ℕ) → Looped image s l exit → Open
-open_of image s l exit h =
-    record { start = s; exit = exit; mode = l; item = h.span.item; max = h.span.max; below = h.rest; after = h.after }
+abbrev pub open_of : (image : Image) (s n exit : ℕ) → Looped image s n exit → Open
+open_of image s n exit h =
+    record { start = s; exit = exit; mode = h.kind; item = h.span.item; max = h.span.max; below = h.rest; after = h.after }
 
-pub opened_is : (image : Image) (s : ℕ) (l : Loop) (exit : ℕ) (h : Looped image s l exit)
-    → slice_get image.code s ≡ Some (instr.Loop l exit) → (os : List Open)
-    → opening image s (slice_get image.code s) (types_at image s) os ≡ open_of image s l exit h ∷ os
-opened_is image s l exit h hi os =
+pub opened_is : (image : Image) (s n exit : ℕ) (h : Looped image s n exit) → slice_get image.code s ≡ Some (instr.Loop n exit)
+    → (os : List Open) → opening image s (slice_get image.code s) (types_at image s) os ≡ open_of image s n exit h ∷ os
+opened_is image s n exit h hi os =
     ap (λ i. opening image s i (types_at image s) os) hi
-    ∙ ap (λ ts. opening image s (Some (instr.Loop l exit)) ts os) h.types
-    ∙ ap (λ r. with_loop s exit l h.rest r (entry_in image.targets exit) os) h.ranged
-    ∙ ap (λ a. with_loop s exit l h.rest (Some h.span) a os) h.after_is
+    ∙ ap (λ ts. opening image s (Some (instr.Loop n exit)) ts os) h.types
+    ∙ ap (λ k. with_loop s exit k h.rest (limit_of Ranged h.top) (entry_in image.targets exit) os) h.kind_is
+    ∙ ap (λ r. with_loop s exit (Some h.kind) h.rest r (entry_in image.targets exit) os) h.ranged
+    ∙ ap (λ a. with_loop s exit (Some h.kind) h.rest (Some h.span) a os) h.after_is
 
 no_loop_opens : (image : Image) (at : ℕ) (i : Instr) (ts : Option StackTypes) (os : List Open) → is_loop i ≡ false
     → opening image at (Some i) ts os ≡ os
@@ -231,7 +241,8 @@ opens_in image (Some s) = opening image s (slice_get image.code s) (types_at ima
 
 -- the innermost of the open loops at an instruction
 pub record OpenAt (image : Image) (at : ℕ) (o : Open) (os : List Open) : Type 0 where
-  pub begins : slice_get image.code o.start ≡ Some (instr.Loop o.mode o.exit)
+  pub number : ℕ
+  pub begins : slice_get image.code o.start ≡ Some (instr.Loop number o.exit)
   pub after : o.start < at
   pub before : at < o.exit
   pub next : slice_get image.code (o.exit - 1) ≡ Some Next
@@ -248,7 +259,7 @@ module _ (image : Image) (sound : IsWalked image) where
       let is = opened_is image s w.0 w.1 r w.2 os in
       ap (still_open k) is ∙ ap (λ b. cond b (o ∷ os) (still_open k os)) (lt-ltb k w.1 w.3) ∙ sym is
 
-  drops : (k s : ℕ) (l : Loop) (exit : ℕ) → slice_get image.code s ≡ Some (instr.Loop l exit) → exit ≤ k
+  drops : (k s l exit : ℕ) → slice_get image.code s ≡ Some (instr.Loop l exit) → exit ≤ k
       → still_open k (opens_in image (Some s)) ≡ still_open k (opens_at image s)
   drops k s l exit hi le =
       let r = looped image sound s l exit hi in
@@ -271,17 +282,17 @@ module _ (image : Image) (sound : IsWalked image) where
   Known at = (k : ℕ) → k ≤ at → ByBody k
 
   -- behind a LOOP its own loop is the innermost
-  leads_next : (at : ℕ) (l : Loop) (exit : ℕ) → slice_get image.code at ≡ Some (instr.Loop l exit)
+  leads_next : (at l exit : ℕ) → slice_get image.code at ≡ Some (instr.Loop l exit)
       → leads_behind (slice_get image.code at) (suc at) ≡ true
   leads_next at l exit hi =
       let r = looped image sound at l exit hi in
       ap (λ i. leads_behind i (suc at)) hi ∙ lt-ltb (suc at) exit (omega (arith, r.far))
 
-  pub opens_behind : (at : ℕ) (l : Loop) (exit : ℕ) → slice_get image.code at ≡ Some (instr.Loop l exit)
+  pub opens_behind : (at l exit : ℕ) → slice_get image.code at ≡ Some (instr.Loop l exit)
       → opens_at image (suc at) ≡ opens_in image (Some at)
   opens_behind at l exit hi = stays (suc at) at (leads_next at l exit hi)
 
-  behind_loop : (at : ℕ) (l : Loop) (exit : ℕ) → slice_get image.code at ≡ Some (instr.Loop l exit) → ByBody (suc at)
+  behind_loop : (at l exit : ℕ) → slice_get image.code at ≡ Some (instr.Loop l exit) → ByBody (suc at)
   behind_loop at l exit hi =
       let own : innermost image.code (suc at) ≡ Some at =
       ap (λ b. cond b (Some at) (last_behind image.code (suc at) at)) (leads_next at l exit hi) in
@@ -368,7 +379,7 @@ module _ (image : Image) (sound : IsWalked image) where
           sym e ∙ opens_are at le ∙ ap (opens_in image) q ∙ opened_is image s w.0 w.1 r w.2 (opens_at image s) in
           let same = cons_parts o own os (opens_at image s) is in
           subst (λ p. OpenAt image at p os) (sym same.0)
-          (record { begins = w.2; after = b.before; before = w.3; next = r.next; outer = same.1 })
+          (record { number = w.0; begins = w.2; after = b.before; before = w.3; next = r.next; outer = same.1 })
 
   -- where no NEXT stands, all loops stay open
   pub still_all : (at : ℕ) → at ≤ length image.code → slice_get image.code at ≢ Some Next

@@ -1,7 +1,7 @@
 -- What an instruction's rule makes of the types and of the open loops.
 use Rattle.std.proofs.Common.{◌≡◌, ◌≢◌, ℕ, suc, ◌+◌, ◌-◌, ◌<◌, ◌≤◌, Bool, true, false, cond, not, ◌&&◌, ◌||◌, min, List, [], ◌∷◌}
 use Rattle.std.proofs.Common.{◌++◌, length}
-use Rattle.std.proofs.Common.{Option, Some, None, refl, sym, ap, ◌∙◌, inl, inr, ⊎_elim, arith, length-append, true≢false}
+use Rattle.std.proofs.Common.{Option, Some, None, refl, sym, ap, subst, ◌∙◌, inl, inr, ⊎_elim, arith, length-append, true≢false}
 use Rattle.std.specs.Borrow.{Bor}
 use Rattle.std.specs.Prelude.{Result, Ok, Err, MatchResult, MatchOption, option_copied, slice_get, nat_le, nat_lt, nat_eq, reverse}
 use Rattle.std.specs.Slice.{IsItemAt}
@@ -20,6 +20,7 @@ use Rattle.cel_operators.specs.declared.operands.Want.TheVariants.{Ranged}
 use Rattle.cel_code.specs.declared.instr.Instr.{Instr}
 use Rattle.cel_code.specs.declared.instr.Instr.TheVariants as instr
 use Rattle.cel_code.specs.declared.image.Image.{Image}
+use Rattle.cel_code.specs.LoopNumbers.{loop_kind}
 use Rattle.cel_verify.specs.declared.fault.VerifyRule.{VerifyRule}
 use Rattle.cel_verify.specs.declared.fault.VerifyRule.TheVariants.{WrongKind, TooDeep, OverBudget}
 use Rattle.cel_verify.specs.declared.open_loop.Open.{Open}
@@ -27,7 +28,7 @@ use Rattle.failing.specs.declared.failed.Failed.{Failed}
 use Rattle.failing.specs.declared.failed.Failed.TheVariants.{Fault, OutOfMemory}
 use Rattle.cel_verify.specs.StackTypes.{StackTypes, all_assignable}
 use Rattle.cel_verify.specs.Sound.{Falls, needs, below_all, typed_rule, entry_in, entry_or, opening, with_loop}
-use Rattle.cel_verify.specs.Sound.{enters, empty_rule, range_rule, loop_rule, next_rule, no_items, still_open, in_innermost}
+use Rattle.cel_verify.specs.Sound.{enters, empty_rule, range_rule, loop_rule, kind_rule, next_rule, no_items, still_open, in_innermost}
 use Rattle.cel_verify.specs.Sound.{max_depth, max_loops}
 use Rattle.cel_verify.specs.Paths.{is_loop}
 use Rattle.cel_verify.specs.Walked.{arrived, Arrives, typed_here, Passes, TakesNone, IsRange, Awaits, Begins, ceiling}
@@ -36,11 +37,11 @@ use Rattle.cel_verify.specs.Walked.{entered, shallow}
 -- an instruction that begins no loop opens none
 pub opening_plain : (image : Image) (at : ℕ) (i : Instr) (types : Option StackTypes) (opens : List Open) → is_loop i ≡ false
     → opening image at (Some i) types opens ≡ opens
-opening_plain image at (instr.Loop l exit) types opens h = absurd (true≢false h)
+opening_plain image at (instr.Loop n exit) types opens h = absurd (true≢false h)
 opening_plain image at _ types opens h = refl
 
-pub plain_is : (i : Instr) → ((l : Loop) (exit : ℕ) → i ≡ instr.Loop l exit → ⊥) → is_loop i ≡ false
-plain_is (instr.Loop l exit) h = absurd (h l exit refl)
+pub plain_is : (i : Instr) → ((n exit : ℕ) → i ≡ instr.Loop n exit → ⊥) → is_loop i ≡ false
+plain_is (instr.Loop n exit) h = absurd (h n exit refl)
 plain_is _ h = refl
 
 -- a condition that is met
@@ -81,12 +82,17 @@ loop_told : (l : Loop) (es : Option StackTypes) (ts : StackTypes) (k : VerifyRul
 loop_told l es [] k e = λ q. cc
 loop_told l es (t ∷ ts) k e = range_told l (limit_of Ranged t) es ts k e
 
-pub refused_loop : (image : Image) (at : ℕ) (l : Loop) (exit : ℕ) (ts : StackTypes) (opens : List Open) (r : Failed VerifyRule)
-    → Fails r (loop_rule l (entry_in image.targets exit) ts) → Fails r (typed_here image at (instr.Loop l exit) ts opens)
-refused_loop image at l exit ts opens (Fault k) h =
-    let alike = told_alike (entry_in image.targets (at + 1)) k (loop_told l (entry_in image.targets exit) ts k h) in
-    told_typed image at (instr.Loop l exit) ts opens k k h alike
-refused_loop image at l exit ts opens OutOfMemory h = tt
+kind_told : (k : Option Loop) (es : Option StackTypes) (ts : StackTypes) (broken : VerifyRule) → kind_rule k es ts ≡ Err broken
+    → broken ≢ OverBudget
+kind_told None es ts broken e = λ q. cc
+kind_told (Some l) es ts broken e = loop_told l es ts broken e
+
+pub refused_loop : (image : Image) (at n exit : ℕ) (ts : StackTypes) (opens : List Open) (r : Failed VerifyRule)
+    → Fails r (kind_rule (loop_kind n) (entry_in image.targets exit) ts) → Fails r (typed_here image at (instr.Loop n exit) ts opens)
+refused_loop image at n exit ts opens (Fault k) h =
+    let alike = told_alike (entry_in image.targets (at + 1)) k (kind_told (loop_kind n) (entry_in image.targets exit) ts k h) in
+    told_typed image at (instr.Loop n exit) ts opens k k h alike
+refused_loop image at n exit ts opens OutOfMemory h = tt
 
 -- an instruction whose own rule holds
 module _ (image : Image) (at : ℕ) (i : Instr) (ts : StackTypes) (opens behind : List Open) (next : Option StackTypes)
@@ -117,33 +123,40 @@ passes_on image at i ts opens next plain et (Err r) h =
     passes image at i ts opens opens next (opening_plain image at i (Some ts) opens plain) et (Err r) opens h
 
 -- the same, where a loop is opened
-pub passes_in : (image : Image) (at : ℕ) (l : Loop) (exit : ℕ) (ts : StackTypes) (opens left : List Open) (o : Open)
-    → Begins image at l exit ts o → (result : Result (Option StackTypes) (Failed VerifyRule))
+pub passes_in : (image : Image) (at n exit : ℕ) (ts : StackTypes) (opens left : List Open) (o : Open)
+    → Begins image at n exit ts o → (result : Result (Option StackTypes) (Failed VerifyRule))
     → MatchResult result (λ there. Arrives image (at + 1) (o ∷ opens) (Some []) there × (left ≡ o ∷ opens))
     (λ r. Fails r (arrived image (at + 1) (o ∷ opens) (Ok (Some []))))
-    → MatchResult result (λ there. Passes image at (instr.Loop l exit) ts opens there left)
-    (λ r. Fails r (typed_here image at (instr.Loop l exit) ts opens))
-passes_in image at l exit ts opens left o b result h =
-    passes image at (instr.Loop l exit) ts opens (o ∷ opens) (Some []) (b.opens opens) b.holds result left h
+    → MatchResult result (λ there. Passes image at (instr.Loop n exit) ts opens there left)
+    (λ r. Fails r (typed_here image at (instr.Loop n exit) ts opens))
+passes_in image at n exit ts opens left o b result h =
+    passes image at (instr.Loop n exit) ts opens (o ∷ opens) (Some []) (b.opens opens) b.holds result left h
 
 -- the loop that begins over a range
-pub begun : (image : Image) (at : ℕ) (l : Loop) (exit : ℕ) (ts below after : StackTypes) (span : Span) → IsRange ts span below
-    → Awaits image l exit below after
-    → Begins image at l exit ts
+pub begun : (image : Image) (at n : ℕ) (l : Loop) (exit : ℕ) (ts below after : StackTypes) (span : Span) → Some l ≡ loop_kind n
+    → IsRange ts span below → Awaits image l exit below after
+    → Begins image at n exit ts
     (record { start = at; exit = exit; mode = l; item = span.item; max = span.max; below = below; after = after })
-begun image at l exit ts below after span r a =
+begun image at n l exit ts below after span kind r a =
     let entry = entry_in image.targets exit in
     record {
       holds =
-          ap (loop_rule l entry) r.is
+          ap (λ k. kind_rule k entry ts) (sym kind)
+          ∙ ap (loop_rule l entry) r.is
           ∙ ap (λ s. range_rule l s entry below) r.ranged
           ∙ ap (λ e. empty_rule e below (loop_type l no_items type.Never)) a.entry
           ∙ a.holds;
       opens = λ opens.
-          ap (λ us. opening image at (Some (instr.Loop l exit)) (Some us) opens) r.is
-          ∙ ap (λ s. with_loop at exit l below s entry opens) r.ranged
-          ∙ ap (λ e. with_loop at exit l below (Some span) e opens) a.entry;
+          ap (λ us. opening image at (Some (instr.Loop n exit)) (Some us) opens) r.is
+          ∙ ap (λ k. with_loop at exit k below (limit_of Ranged r.top) entry opens) (sym kind)
+          ∙ ap (λ s. with_loop at exit (Some l) below s entry opens) r.ranged
+          ∙ ap (λ e. with_loop at exit (Some l) below (Some span) e opens) a.entry;
     }
+
+-- a loop that does not begin, of the kind of a number
+pub of_kind : (n : ℕ) (l : Loop) (entry : Option StackTypes) (ts : StackTypes) (r : Failed VerifyRule) → Some l ≡ loop_kind n
+    → Fails r (loop_rule l entry ts) → Fails r (kind_rule (loop_kind n) entry ts)
+of_kind n l entry ts r kind h = subst (λ k. Fails r (kind_rule k entry ts)) kind h
 
 -- a loop that may not begin over a range
 pub not_begun : (image : Image) (l : Loop) (exit : ℕ) (ts below : StackTypes) (span : Span) (r : Failed VerifyRule) → IsRange ts span below

@@ -2,7 +2,6 @@
 use Rattle.std.proofs.Common.{◌≡◌, ℕ, zero, suc, ◌+◌, ◌*◌, ◌<◌, ◌≤◌, List, [], ◌∷◌, length, Some}
 use Rattle.std.proofs.Common.{refl, ap, ◌∙◌, subst, inl, inr, arith, mul-le-mul_left}
 use Rattle.std.specs.Prelude.{slice_get}
-use Rattle.cel_parse.specs.declared.expr.Loop.{Loop}
 use Rattle.cel_code.specs.declared.instr.Instr.{Instr}
 use Rattle.cel_code.specs.declared.instr.Instr.TheVariants.{Item}
 use Rattle.cel_code.specs.declared.instr.Instr.TheVariants as instr
@@ -83,7 +82,7 @@ module _ (image : Image) (sound : IsWalked image) where
       let sum = item_sum n (cost (at + 1)) (steps (at + 1)) own in
       subst (λ m. steps at ≤ suc n * m) c (omega arith)
 
-  loop_few : (n at : ℕ) (l : Loop) (exit : ℕ) → slice_get image.code at ≡ Some (instr.Loop l exit) → at < length image.code
+  loop_few : (n at l exit : ℕ) → slice_get image.code at ≡ Some (instr.Loop l exit) → at < length image.code
       → Further n at → steps at ≤ suc n * (1 + cost at)
   loop_few n at l exit h lt more =
       let r = looped image sound at l exit h in

@@ -3,7 +3,6 @@ use Rattle.std.proofs.Common.{◌≡◌, ℕ, true, false, List, [], ◌∷◌, 
 use Rattle.std.specs.Prelude.{Ok, Err, pos}
 use Rattle.cel_value.specs.declared.value.Value as value
 use Rattle.cel_value.specs.declared.cel_type.CelType as type
-use Rattle.cel_parse.specs.declared.expr.Loop.TheVariants as loop
 use Rattle.cel_code.specs.declared.instr.Instr.{Instr}
 use Rattle.cel_code.specs.declared.instr.Instr.TheVariants.{Const, Op, WithText, AndTest, And, Jump, End}
 use Rattle.cel_code.specs.declared.instr.Instr.TheVariants as instr
@@ -34,6 +33,11 @@ mixed = refl
 -- there is no such constant
 unnamed : rule_at (whole (Const 2 ∷ End ∷ [])) 0 (Some (Const 2)) (label_at (whole (Const 2 ∷ End ∷ [])) 0) ≡ Err BadConstant
 unnamed = refl
+
+-- there is no such kind of loop
+unkind : rule_at (whole (Const 0 ∷ instr.Loop 5 5 ∷ instr.Item ∷ Const 1 ∷ instr.Next ∷ End ∷ [])) 1 (Some (instr.Loop 5 5))
+    (label_at (whole (Const 0 ∷ instr.Loop 5 5 ∷ instr.Item ∷ Const 1 ∷ instr.Next ∷ End ∷ [])) 1) ≡ Err BadConstant
+unkind = refl
 
 -- a constant that is no text
 untexted : rule_at (whole (Const 1 ∷ WithText Matches 1 ∷ End ∷ [])) 1 (Some (WithText Matches 1))
@@ -98,7 +102,7 @@ over_three =
       constants = value.Bool true ∷ [];
       targets = record { at = 5; types = type.Bool ∷ [] } ∷ [];
       result = type.Bool;
-      code = instr.Slot 0 ∷ instr.Loop loop.All 5 ∷ instr.Item ∷ Const 0 ∷ instr.Next ∷ End ∷ [];
+      code = instr.Slot 0 ∷ instr.Loop 0 5 ∷ instr.Item ∷ Const 0 ∷ instr.Next ∷ End ∷ [];
     }
 
 loop_steps : path_steps over_three ≡ 12
@@ -110,15 +114,15 @@ unfolding value.out-Value denote.Hole.Carrier.out type.out-CelType
 loop_cost = rw (assignable-refl type.Bool) refl
 
 -- a jump into a loop's body
-into_body : is_nested (whole (Jump 3 ∷ instr.Loop loop.All 5 ∷ instr.Item ∷ Const 1 ∷ instr.Next ∷ End ∷ [])) 0 (Jump 3) [] ≡ false
+into_body : is_nested (whole (Jump 3 ∷ instr.Loop 0 5 ∷ instr.Item ∷ Const 1 ∷ instr.Next ∷ End ∷ [])) 0 (Jump 3) [] ≡ false
 into_body = refl
 
 -- an inner loop that ends behind the outer one
 abbrev across : List Instr
 across =
-    Const 0 ∷ instr.Loop loop.Map 6 ∷ instr.Item ∷ instr.Loop loop.Map 7 ∷ instr.Item ∷ instr.Next ∷ instr.Next ∷ End ∷ []
+    Const 0 ∷ instr.Loop 3 6 ∷ instr.Item ∷ instr.Loop 3 7 ∷ instr.Item ∷ instr.Next ∷ instr.Next ∷ End ∷ []
 
-across_bodies : is_nested (whole across) 3 (instr.Loop loop.Map 7) [] ≡ false
+across_bodies : is_nested (whole across) 3 (instr.Loop 3 7) [] ≡ false
 across_bodies = refl
 
 -- `true && text + text`, whose right side has a limit past the greatest

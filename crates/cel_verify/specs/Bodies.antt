@@ -5,7 +5,7 @@ use Rattle.cel_code.specs.declared.instr.Instr.TheVariants.{Loop, Item, Next}
 
 -- a loop that leads behind an instruction
 abbrev pub leads_behind : Option Instr → ℕ → Bool
-leads_behind (Some (Loop l exit)) at = nat_lt at exit
+leads_behind (Some (Loop n exit)) at = nat_lt at exit
 leads_behind _ at = false
 
 -- the last of so many first instructions that is a loop which leads behind an instruction

@@ -10,7 +10,6 @@ use Rattle.cel_code.specs.Machine.{taken_off, constant_text}
 use Rattle.cel_operators.specs.Wants.{limit_of}
 use Rattle.cel_operators.specs.declared.limit.Span.{Span}
 use Rattle.cel_operators.specs.declared.operands.Want.TheVariants.{Ranged}
-use Rattle.cel_parse.specs.declared.expr.Loop.{Loop}
 use Rattle.cel_code.specs.declared.instr.Instr.{Instr}
 use Rattle.cel_code.specs.declared.instr.Instr.TheVariants.{Op, WithText, AndTest, OrTest, Cond, Jump, End, Slot, Local, Item, Next}
 use Rattle.cel_code.specs.declared.instr.Instr.TheVariants as instr
@@ -51,7 +50,7 @@ charge_of constants (instr.Map n) ts = mapped_charge (taken_off (n + n) [] ts)
 charge_of constants (AndTest to) ts = 1
 charge_of constants (OrTest to) ts = 1
 charge_of constants (Cond if_false if_error) ts = 1
-charge_of constants (instr.Loop l exit) ts = 1
+charge_of constants (instr.Loop n exit) ts = 1
 charge_of constants Item ts = 1
 charge_of constants _ ts = 0
 
@@ -66,7 +65,7 @@ goes_to (AndTest to) at = to ∷ (at + 1) ∷ []
 goes_to (OrTest to) at = to ∷ (at + 1) ∷ []
 goes_to (Cond if_false if_error) at = (at + 1) ∷ if_false ∷ if_error ∷ []
 goes_to (Jump to) at = to ∷ []
-goes_to (instr.Loop l exit) at = exit ∷ []
+goes_to (instr.Loop n exit) at = exit ∷ []
 goes_to Next at = []
 goes_to End at = []
 goes_to _ at = (at + 1) ∷ []
@@ -96,7 +95,7 @@ IsIn t (u ∷ us) = (t ≡ u) ⊎ IsIn t us
 
 -- an instruction that begins a loop
 abbrev pub is_loop : Instr → Bool
-is_loop (instr.Loop l exit) = true
+is_loop (instr.Loop n exit) = true
 is_loop _ = false
 
 -- a forward route from an instruction to the end of its body, and the sum of its weights; a loop counts a route through its
@@ -105,7 +104,7 @@ pub data Route (weigh times : ℕ → ℕ) (code : List Instr) : ℕ → ℕ →
   Stops : {at sum : ℕ} (i : Instr) → slice_get code at ≡ Some i → goes_to i at ≡ [] → sum ≡ weigh at → Route weigh times code at sum
   Via : {at sum : ℕ} (i : Instr) (to rest : ℕ) → slice_get code at ≡ Some i → is_loop i ≡ false → IsIn to (goes_to i at) → at < to
       → Route weigh times code to rest → sum ≡ weigh at + rest → Route weigh times code at sum
-  Rounds : {at sum : ℕ} (l : Loop) (exit body rest : ℕ) → slice_get code at ≡ Some (instr.Loop l exit) → at < exit
+  Rounds : {at sum : ℕ} (n exit body rest : ℕ) → slice_get code at ≡ Some (instr.Loop n exit) → at < exit
       → Route weigh times code (at + 1) body → Route weigh times code exit rest → sum ≡ weigh at + (times at * body + rest)
       → Route weigh times code at sum
 

@@ -19,6 +19,7 @@ use Rattle.cel_operators.specs.declared.operator.Operator.{Operator}
 use Rattle.cel_code.specs.declared.instr.Instr.{Instr}
 use Rattle.cel_code.specs.declared.instr.Instr.TheVariants.{Const, Op, WithText, AndTest, OrTest, And, Or, Cond, Jump, End, Slot, Local}
 use Rattle.cel_code.specs.declared.instr.Instr.TheVariants.{Item, When, Next}
+use Rattle.cel_code.specs.LoopNumbers.{loop_kind}
 use Rattle.cel_code.specs.Machine.{taken_off, constant_text}
 use Rattle.cel_operators.specs.Maps.{entries_type}
 use Rattle.cel_operators.specs.TextOperators.{row_with}
@@ -63,7 +64,7 @@ jumps_of (AndTest to) = to ∷ []
 jumps_of (OrTest to) = to ∷ []
 jumps_of (Cond if_false if_error) = if_false ∷ if_error ∷ []
 jumps_of (Jump to) = to ∷ []
-jumps_of (instr.Loop l exit) = exit ∷ []
+jumps_of (instr.Loop n exit) = exit ∷ []
 jumps_of _ = []
 
 -- each of these passes
@@ -76,12 +77,13 @@ abbrev pub some_of : (ℕ → Bool) → List ℕ → Bool
 some_of p [] = false
 some_of p (t ∷ ts) = p t || some_of p ts
 
--- an instruction's constant, slot or operator is there
+-- an instruction's constant, slot, operator or kind of loop is there
 abbrev pub is_named : Image → Instr → Bool
 is_named image (Const k) = is_there (constant_type (slice_get image.constants k))
 is_named image (Slot n) = is_there (slice_get image.slots n)
 is_named image (Op o) = is_there (operator_of o)
 is_named image (WithText op k) = is_there (constant_text (slice_get image.constants k))
+is_named image (instr.Loop n exit) = is_there (loop_kind n)
 is_named image _ = true
 
 -- a jump goes forward, to an instruction that has types
@@ -110,7 +112,7 @@ is_map _ = false
 -- where an instruction of loops may stand: LOOP in front of ITEM, and it leads behind NEXT, with something between; ITEM and
 -- NEXT in the body that they begin and end; WHEN in a `map`
 abbrev pub is_placed : Image → ℕ → Instr → List Open → Bool
-is_placed image at (instr.Loop l exit) opens =
+is_placed image at (instr.Loop n exit) opens =
     is_item (slice_get image.code (at + 1)) && (is_next (slice_get image.code (exit - 1)) && nat_lt (at + 2) exit)
 is_placed image at Item opens = in_innermost (λ o. nat_eq at (o.start + 1)) opens
 is_placed image at When opens = in_innermost (λ o. is_map o.mode) opens
@@ -212,6 +214,11 @@ abbrev pub loop_rule : Loop → Option StackTypes → StackTypes → Falls
 loop_rule l es [] = Err Underflow
 loop_rule l es (t ∷ ts) = range_rule l (limit_of Ranged t) es ts
 
+-- a loop of the kind of a number, if there is one
+abbrev pub kind_rule : Option Loop → Option StackTypes → StackTypes → Falls
+kind_rule None es ts = Err BadConstant
+kind_rule (Some l) es ts = loop_rule l es ts
+
 -- the next item, with nothing above the frame
 abbrev pub item_rule : StackTypes → Falls
 item_rule [] = Ok (Some [])
@@ -253,7 +260,7 @@ typed_rule image And opens ts = join_rule ts
 typed_rule image Or opens ts = join_rule ts
 typed_rule image (Cond if_false if_error) opens ts = cond_rule (entry_in image.targets if_false) (entry_in image.targets if_error) ts
 typed_rule image (Jump to) opens ts = jump_rule (entry_in image.targets to) ts
-typed_rule image (instr.Loop l exit) opens ts = loop_rule l (entry_in image.targets exit) ts
+typed_rule image (instr.Loop n exit) opens ts = kind_rule (loop_kind n) (entry_in image.targets exit) ts
 typed_rule image Item opens ts = item_rule ts
 typed_rule image When opens ts = when_rule ts
 typed_rule image Next opens ts = next_rule opens ts
@@ -267,16 +274,16 @@ max_depth = 16384
 abbrev pub max_loops : ℕ
 max_loops = 100
 
--- one loop more is open, whose range is of a type and which leads to an entry
-abbrev pub with_loop : ℕ → ℕ → Loop → StackTypes → Option Span → Option StackTypes → List Open → List Open
-with_loop start exit l below (Some span) (Some after) opens =
+-- one loop more is open, of a kind, whose range is of a type and which leads to an entry
+abbrev pub with_loop : ℕ → ℕ → Option Loop → StackTypes → Option Span → Option StackTypes → List Open → List Open
+with_loop start exit (Some l) below (Some span) (Some after) opens =
     record { start = start; exit = exit; mode = l; item = span.item; max = span.max; below = below; after = after } ∷ opens
 with_loop start exit l below _ _ opens = opens
 
 -- the open loops behind an instruction, before any of them ends
 abbrev pub opening : Image → ℕ → Option Instr → Option StackTypes → List Open → List Open
-opening image at (Some (instr.Loop l exit)) (Some (t ∷ ts)) opens =
-    with_loop at exit l ts (limit_of Ranged t) (entry_in image.targets exit) opens
+opening image at (Some (instr.Loop n exit)) (Some (t ∷ ts)) opens =
+    with_loop at exit (loop_kind n) ts (limit_of Ranged t) (entry_in image.targets exit) opens
 opening image at _ types opens = opens
 
 -- those that lead further on than an instruction: the innermost that does, and all outside it

@@ -14,6 +14,7 @@ use Rattle.cel_code.specs.declared.instr.Instr.{Instr}
 use Rattle.cel_code.specs.declared.instr.Instr.TheVariants as instr
 use Rattle.cel_code.specs.declared.instr.Instr.TheVariants.{End}
 use Rattle.cel_code.specs.declared.image.Image.{Image}
+use Rattle.cel_code.specs.LoopNumbers.{loop_kind}
 use Rattle.cel_operators.specs.Operators.{Row, type_of_one, type_of_two, greatest_of_one, greatest_of_two}
 use Rattle.cel_verify.specs.declared.fault.VerifyRule.{VerifyRule}
 use Rattle.cel_verify.specs.declared.fault.VerifyRule.TheVariants.{Underflow, WrongKind, TooDeep, OverBudget}
@@ -25,7 +26,7 @@ use Rattle.cel_verify.specs.StackTypes.{StackTypes, all_assignable}
 use Rattle.cel_verify.specs.declared.open_loop.Open.{Open}
 use Rattle.cel_verify.specs.declared.measures.Measures.{Measures}
 use Rattle.cel_verify.specs.Sound.{Label, Falls, needs, given, typed_rule, rule_at, entry_in, entry_or, label_at, max_depth, max_loops}
-use Rattle.cel_verify.specs.Sound.{below_all, no_items, empty_rule, loop_rule, opening, still_open, Holds, IsFirstFault}
+use Rattle.cel_verify.specs.Sound.{below_all, no_items, empty_rule, kind_rule, opening, still_open, Holds, IsFirstFault}
 use Rattle.cel_verify.specs.Paths.{charge_in, charge_at, items_on_top, times_at, goes_to, IsGreatest}
 use Rattle.cel_verify.specs.Depths.{operands_of, deepest, most_open}
 
@@ -124,9 +125,9 @@ pub record Awaits (image : Image) (l : Loop) (exit : ℕ) (below after : StackTy
   pub holds : empty_rule (Some after) below (loop_type l no_items type.Never) ≡ Ok (Some [])
 
 -- the loop that begins at an instruction, where its rule holds at these types
-pub record Begins (image : Image) (at : ℕ) (l : Loop) (exit : ℕ) (ts : StackTypes) (o : Open) : Type 0 where
-  pub holds : loop_rule l (entry_in image.targets exit) ts ≡ Ok (Some [])
-  pub opens : (opens : List Open) → opening image at (Some (instr.Loop l exit)) (Some ts) opens ≡ o ∷ opens
+pub record Begins (image : Image) (at n exit : ℕ) (ts : StackTypes) (o : Open) : Type 0 where
+  pub holds : kind_rule (loop_kind n) (entry_in image.targets exit) ts ≡ Ok (Some [])
+  pub opens : (opens : List Open) → opening image at (Some (instr.Loop n exit)) (Some ts) opens ≡ o ∷ opens
 
 -- the greatest number of 64 bits
 abbrev pub ceiling : ℕ
@@ -184,7 +185,7 @@ greatest f (t ∷ ts) = max (f t) (greatest f ts)
 
 -- how often the instructions behind an instruction count, as the body of a loop that begins there
 abbrev pub rounds_of : Instr → ℕ → ℕ
-rounds_of (instr.Loop l exit) times = times
+rounds_of (instr.Loop n exit) times = times
 rounds_of _ times = 0
 
 -- the greatest sum of what comes behind an instruction, by the sums from each: its body so many times, and where it goes

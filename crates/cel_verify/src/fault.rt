@@ -12,7 +12,7 @@ pub enum VerifyRule {
     BadTarget = 3,
     /// A part of a loop is out of its place.
     BadNesting = 4,
-    /// There is no such constant, slot or operator.
+    /// There is no such constant, slot, operator or kind of loop.
     BadConstant = 5,
     /// A list of the image is too long, or the operands or the open loops are too many.
     TooDeep = 6,

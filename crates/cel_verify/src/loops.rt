@@ -5,10 +5,11 @@ ghost use Rattle.failing.specs.Failures.{Fails};
 ghost use Rattle.cel_value.specs.declared.cel_type.CelType as type;
 ghost use Rattle.cel_parse.specs.declared.expr.Loop.{Loop as LoopKind};
 ghost use Rattle.cel_check.specs.Loops.{loop_type as type_of_loop};
+ghost use Rattle.cel_code.specs.LoopNumbers.{loop_kind as kind_of_loop};
 ghost use Rattle.cel_verify.specs.declared.fault.VerifyRule.TheVariants.{WrongKind};
 ghost use Rattle.cel_verify.specs.StackTypes.{StackTypes, all_assignable};
 ghost use Rattle.cel_verify.specs.Sound.{needs, entry_in, no_items, span_of as span_of_open};
-ghost use Rattle.cel_verify.specs.Sound.{local_rule, item_rule, when_rule, next_rule, closing_rule, loop_rule, empty_rule};
+ghost use Rattle.cel_verify.specs.Sound.{local_rule, item_rule, when_rule, next_rule, closing_rule, loop_rule, kind_rule, empty_rule};
 ghost use Rattle.cel_verify.specs.Arrivals.{AreArrivals};
 ghost use Rattle.cel_verify.specs.Walked.{Follows, IsRange, Begins, Awaits};
 
@@ -19,7 +20,7 @@ use crate::opens::Opens;
 use crate::targets::entry;
 use crate::type_stack::TypeStack;
 use cel_check::{Span, Untyped, is_truth, loop_type, span_of};
-use cel_code::Image;
+use cel_code::{Image, loop_kind};
 use cel_parse::Loop;
 use cel_value::CelType;
 use std::alloc::Global;
@@ -105,22 +106,25 @@ fn leads_on(around: &Open, answer: &CelType) -> Result<Option<TypeStack>, Refusa
     Ok(None)
 }
 
-/// The loop that begins at an instruction, over the range on top.
+/// The loop of the kind of a number that begins at an instruction, over the range on top.
 pub fn opened(
     alloc: Global,
     image: &Image,
     arrivals: &Arrivals,
     at: usize,
-    mode: Loop,
+    number: usize,
     exit: usize,
     mut types: TypeStack,
 ) -> Result<Open, Refusal>
     requires known { AreArrivals image.now arrivals.now }
     requires inside { exit < length image.now.code }
     ensures { MatchResult result
-        (λ o. Begins image.now at mode exit types o)
-        (λ r. Fails r (loop_rule mode (entry_in image.now.targets exit) types)) }
+        (λ o. Begins image.now at number exit types o)
+        (λ r. Fails r (kind_rule (kind_of_loop number) (entry_in image.now.targets exit) types)) }
 {
+    let Some(mode) = loop_kind(number) else {
+        return Err(Refusal::Fault(VerifyRule::BadConstant));
+    };
     let span = range_taken(alloc, &mut types)?;
     let after = awaited(alloc, image, arrivals, mode, exit, &types)?;
     Ok(Open {

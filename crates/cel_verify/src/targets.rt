@@ -8,7 +8,7 @@ ghost use Rattle.cel_verify.specs.Walked.{IsEntry};
 use crate::arrivals::Arrivals;
 use crate::constants::{constant_text, constant_type};
 use cel_check::Operator;
-use cel_code::{Image, Instr};
+use cel_code::{Image, Instr, loop_kind};
 use cel_value::CelType;
 
 /// The types where jumps arrive at an instruction, or behind the last one, the bottom first.
@@ -23,7 +23,7 @@ pub fn entry<'a>(image: &'a Image, arrivals: &Arrivals, at: usize) -> Option<&'a
     }
 }
 
-/// Whether an instruction's constant, slot or operator is there.
+/// Whether an instruction's constant, slot, operator or kind of loop is there.
 pub fn has_name(image: &Image, instr: Instr) -> bool
     ensures { result ≡ is_named image.now instr }
 {
@@ -32,6 +32,7 @@ pub fn has_name(image: &Image, instr: Instr) -> bool
         Instr::Slot(number) => image.slots.get(number).is_some(),
         Instr::Op(code) => Operator::from_code(code).is_some(),
         Instr::WithText(_, number) => constant_text(image, number).is_some(),
+        Instr::Loop(number, _) => loop_kind(number).is_some(),
         _ => true,
     }
 }

@@ -102,8 +102,8 @@ fn pass(
         (λ r. Fails r (typed_here image.now at instr types opens.old)) }
 {
     match instr {
-        Instr::Loop(mode, exit) => {
-            let begun = opened(alloc, image, arrivals, at, mode, exit, types)?;
+        Instr::Loop(number, exit) => {
+            let begun = opened(alloc, image, arrivals, at, number, exit, types)?;
             enter(alloc, image, arrivals, at + 1, begun, opens)
         }
         _ => match typed(alloc, image, arrivals, instr, opens, types) {

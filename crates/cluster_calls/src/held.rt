@@ -8,7 +8,7 @@ use std::alloc::{AllocError, Global};
 use vap_objects::Objects;
 use vap_read::Object;
 use vap_request::{Request, ReviewError};
-use vap_slots::{Held, held_at, request_type, request_value};
+use vap_slots::{FixedTypes, Held, held_at, request_type, request_value};
 
 /// The answer to a call of what is held.
 pub fn answer(alloc: Global, asked: &Asked) -> Result<String, AllocError> {
@@ -150,7 +150,8 @@ fn held(
     slot: Slot<'_>,
 ) -> Result<String, AllocError> {
     let namespace = namespace_of(alloc, objects, request)?;
-    match held_at(alloc, namespace, cel_type, request)? {
+    let types = FixedTypes::new(alloc)?;
+    match held_at(alloc, &types, namespace, cel_type, request)? {
         Ok(held) => shown_slot(alloc, &held, slot),
         Err(fault) => format!(in alloc; "{}: {}", fault.path.as_str(), fault.kind.name()),
     }

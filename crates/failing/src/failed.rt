@@ -10,8 +10,10 @@ use thiserror::Error;
 #[derive(Clone, Copy, Debug, PartialEq, Eq, Drop, Error)]
 #[error_bound(F: Display)]
 pub enum Failed<F> {
+    /// An allocation was refused.
     #[error("out of memory")]
     OutOfMemory,
+    /// The fault for which there is no value.
     #[error("{0}")]
     Fault(F),
 }

@@ -1,5 +1,6 @@
-//! What stands on expressions: trees, types, estimates, images, programs, `eval` and `check`.
+//! What stands on expressions: trees, types, estimates, images and their bytes, programs, `eval` and `check`.
 
+pub mod bytes;
 pub mod commands;
 pub mod images;
 pub mod made;

@@ -1,5 +1,5 @@
 //! Makes the calls of the language that lines ask for, and prints what each answers: containers, values, schemas, tokens, trees,
-//! types, estimates, images, programs, `eval` and `check`.
+//! types, estimates, images and their bytes, programs, `eval` and `check`.
 #![tactic(auto)]
 
 mod basics;
@@ -36,6 +36,7 @@ fn answer_to(alloc: Global, asked: &Asked) -> Result<String, AllocError> {
         "overloads" => expressions::overloads::answer(alloc, asked),
         "operands" => expressions::operands::answer(alloc, asked),
         "expressions" => expressions::made::answer(alloc, asked),
+        "bytes" => expressions::bytes::answer(alloc, asked),
         "commands" => expressions::commands::answer(alloc, asked),
         _ => unknown(alloc),
     }

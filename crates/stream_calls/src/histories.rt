@@ -1,7 +1,7 @@
 //! Histories: what is appended, whose it is, and which entry strays.
 //!
-//! A row is a list of steps over two writers: `{"publish": EVENT}` by the first writer and `{"elsewhere": EVENT}` by the second;
-//! `{"judge": WORKER}` decides a request where the first writer is and appends it under this worker, and `{"stray": WORKER}` does so
+//! A row is a list of steps over two desks: `{"publish": EVENT}` at the first desk and `{"elsewhere": EVENT}` at the second;
+//! `{"judge": WORKER}` decides a request where the first desk is and appends it under this worker, and `{"stray": WORKER}` does so
 //! where the second one is.
 
 use calls_notation::{Asked, json, unknown};
@@ -11,9 +11,10 @@ use vap_audit::{Entry, History};
 use vap_judge::{JudgeError, Matchers, RunFault};
 use vap_read::Event;
 use vap_request::Request;
-use vap_watch::{Snapshot, Writer, open};
+use vap_watch::{Desk, Snapshot};
 
-const REVIEW: &str =
+/// A review of a Pod.
+pub const REVIEW: &str =
     r#"{"apiVersion":"admission.k8s.io/v1","kind":"AdmissionReview","request":{"uid":"u","kind":{"group":"","version":"v1",
     "kind":"Pod"},"resource":{"group":"","version":"v1","resource":"pods"},"operation":"CREATE","name":"n"}}"#;
 
@@ -25,9 +26,9 @@ pub fn answer(alloc: Global, asked: &Asked) -> Result<String, AllocError> {
     }
 }
 
-/// The revisions of the entries behind all steps, the numbers of a worker's, and which entry strays from the first writer's log.
+/// The revisions of the entries behind all steps, the numbers of a worker's, and which entry strays from the first desk's log.
 fn after(alloc: Global, steps: &Json, worker: u64) -> Result<String, AllocError> {
-    let (mut first, mut second) = (open(alloc)?, open(alloc)?);
+    let (mut first, mut second) = (Desk::new(alloc)?, Desk::new(alloc)?);
     let mut history = History::new(alloc);
     for step in json_members::items_of(steps) {
         take(alloc, step, &mut first, &mut second, &mut history)?;
@@ -42,8 +43,8 @@ fn after(alloc: Global, steps: &Json, worker: u64) -> Result<String, AllocError>
 fn take(
     alloc: Global,
     step: &Json,
-    first: &mut Writer,
-    second: &mut Writer,
+    first: &mut Desk,
+    second: &mut Desk,
     history: &mut History,
 ) -> Result<(), AllocError> {
     if let Some(event) = step.get("publish") {
@@ -63,10 +64,10 @@ fn number(json: &Json) -> u64 {
     json.as_u64().unwrap_or(0)
 }
 
-/// Publishes an event; one that is none, or is refused, leaves the writer as it is.
-fn publish(alloc: Global, writer: &mut Writer, event: &Json) -> Result<(), AllocError> {
+/// Publishes an event; one that is none, or is refused, leaves the desk as it is.
+fn publish(alloc: Global, desk: &mut Desk, event: &Json) -> Result<(), AllocError> {
     if let Ok(event) = Event::from_json(alloc, event.clone()?) {
-        let _ = writer.stage(event).is_ok() && writer.publish().is_ok();
+        let _ = desk.stage(event).is_ok() && desk.publish().is_ok();
     }
     Ok(())
 }

@@ -1,5 +1,8 @@
 //! Lines of readers, and how failures are counted.
 
+ghost use Rattle.std.specs.Prelude.{◌≡◌};
+ghost use Rattle.vap_lines.specs.Counted.{failures_of};
+
 use calls_notation::{Asked, unknown};
 use std::alloc::{AllocError, Global};
 use std::io;
@@ -102,7 +105,10 @@ fn told(alloc: Global, input: &mut Counted<Stream<'_>>) -> Result<String, AllocE
     Ok(told)
 }
 
-fn counted(text: &str, most: usize, failing: usize) -> Counted<Stream<'_>> {
+/// A reader of a text that gives at most so many bytes at a read, of which one fails, unless it is 0.
+pub fn counted(text: &str, most: usize, failing: usize) -> Counted<Stream<'_>>
+    ensures { failures_of result ≡ 0 }
+{
     Counted::new(Stream {
         rest: text.as_bytes(),
         again: b"",

@@ -1,36 +1,53 @@
 //! Makes the calls on streams that lines ask for, and prints what each answers: lines of a reader, streams of events and reviews,
-//! histories, and sets after events.
+//! streams that break, histories, sets after events, lists of steps, and what workers do side by side.
 #![tactic(auto)]
 
+mod broken;
 mod histories;
 mod lines;
 mod sets;
+mod steps;
 mod streams;
+mod workers;
 
 use calls_notation::{Asked, json, quoted, unknown};
 use std::alloc::{AllocError, Global};
 use std::io;
+use std::sync::Wait;
+use std::thread::Threads;
+use std::time::Clock;
 
 fn main(rt: HostRuntime) -> io::Result<()> {
     let lines = io::read_to_string(rt.alloc(), rt.reader())?;
     for line in lines.lines() {
-        let answer = answer(rt.alloc(), line)?;
+        let answer = answer(&rt, rt.alloc(), line)?;
         rt.println(answer)?;
     }
     Ok(())
 }
 
-fn answer(alloc: Global, line: &str) -> Result<String, AllocError> {
+fn answer<R: Threads + Wait + Clock + Sync>(
+    rt: &R,
+    alloc: Global,
+    line: &str,
+) -> Result<String, AllocError> {
     let line = json(alloc, line)?;
-    quoted(alloc, answer_to(alloc, &Asked::of(&line))?)
+    quoted(alloc, answer_to(rt, alloc, &Asked::of(&line))?)
 }
 
-fn answer_to(alloc: Global, asked: &Asked) -> Result<String, AllocError> {
+fn answer_to<R: Threads + Wait + Clock + Sync>(
+    rt: &R,
+    alloc: Global,
+    asked: &Asked,
+) -> Result<String, AllocError> {
     match asked.part {
+        "broken" => broken::answer(rt, alloc, asked),
         "lines" => lines::answer(alloc, asked),
-        "streams" => streams::answer(alloc, asked),
+        "streams" => streams::answer(rt, alloc, asked),
         "histories" => histories::answer(alloc, asked),
         "sets" => sets::answer(alloc, asked),
+        "steps" => steps::answer(alloc, asked),
+        "workers" => workers::answer(rt, alloc, asked),
         _ => unknown(alloc),
     }
 }

@@ -1,4 +1,4 @@
-//! Sets after events: those that a writer advances, beside sets that are built anew of the same objects.
+//! Sets after events: those that a desk advances, beside sets that are built anew of the same objects.
 //!
 //! A row is a stream. Its events are taken one after the other: the first ones together, so many as are asked for, and each of the
 //! others by itself. After each such step every review of the stream is judged by both sets. A line that is neither an event nor
@@ -12,7 +12,7 @@ use vap_objects::Objects;
 use vap_read::{Event, EventError};
 use vap_request::{Request, ReviewError};
 use vap_set::Misconfigured;
-use vap_watch::{StageFault, Writer, open};
+use vap_watch::{Desk, StageFault};
 
 /// The answer to a call of sets.
 pub fn answer(alloc: Global, asked: &Asked) -> Result<String, AllocError> {
@@ -45,8 +45,8 @@ fn requests_in(alloc: Global, text: &str) -> Result<Vec<Request>, AllocError> {
 }
 
 /// Stages an event for which there is room: whether it did.
-fn stage(writer: &mut Writer, event: Event) -> Result<bool, AllocError> {
-    match writer.stage(event) {
+fn stage(desk: &mut Desk, event: Event) -> Result<bool, AllocError> {
+    match desk.stage(event) {
         Ok(()) => Ok(true),
         Err((StageFault::OutOfMemory, _)) => Err(AllocError),
         Err((_, _)) => Ok(false),
@@ -55,13 +55,13 @@ fn stage(writer: &mut Writer, event: Event) -> Result<bool, AllocError> {
 
 fn take_event(
     alloc: Global,
-    writer: &mut Writer,
+    desk: &mut Desk,
     objects: &mut Objects,
     event: Event,
 ) -> Result<bool, AllocError> {
     if objects.takes(&event) {
         objects.apply(alloc, &event)?;
-        stage(writer, event)
+        stage(desk, event)
     } else {
         Ok(false)
     }
@@ -70,12 +70,12 @@ fn take_event(
 /// Takes the event of a line, if it is one: whether it did.
 fn take(
     alloc: Global,
-    writer: &mut Writer,
+    desk: &mut Desk,
     objects: &mut Objects,
     line: &str,
 ) -> Result<bool, AllocError> {
     match Event::from_json(alloc, json(alloc, line)?) {
-        Ok(event) => take_event(alloc, writer, objects, event),
+        Ok(event) => take_event(alloc, desk, objects, event),
         Err(EventError::Fault(_)) => Ok(false),
         Err(EventError::OutOfMemory) => Err(AllocError),
     }
@@ -157,15 +157,15 @@ fn push_step(
 fn publish(
     alloc: Global,
     out: &mut String,
-    writer: &mut Writer,
+    desk: &mut Desk,
     objects: &Objects,
     requests: &[Request],
 ) -> Result<bool, AllocError> {
-    if writer.publish().is_err() {
+    if desk.publish().is_err() {
         return Err(AllocError);
     }
     match PolicySet::build(alloc, objects) {
-        Ok(built) => push_step(alloc, out, writer.snapshot().set(), &built, requests),
+        Ok(built) => push_step(alloc, out, desk.snapshot().set(), &built, requests),
         Err(_) => Err(AllocError),
     }
 }
@@ -173,14 +173,14 @@ fn publish(
 /// How many pairs are compiled at each step, of how many, and at the end whether both sets were the same after each.
 fn steps(alloc: Global, text: &str, first: u64) -> Result<String, AllocError> {
     let requests = requests_in(alloc, text)?;
-    let (mut writer, mut objects) = (open(alloc)?, Objects::new(alloc));
+    let (mut desk, mut objects) = (Desk::new(alloc)?, Objects::new(alloc));
     let mut out = String::new(alloc);
     let mut waiting = first;
     for line in text.lines() {
-        let taken = take(alloc, &mut writer, &mut objects, line)?;
+        let taken = take(alloc, &mut desk, &mut objects, line)?;
         waiting = waiting.saturating_sub(1);
         if taken && waiting == 0 {
-            let is_same = publish(alloc, &mut out, &mut writer, &objects, requests.as_slice())?;
+            let is_same = publish(alloc, &mut out, &mut desk, &objects, requests.as_slice())?;
             if !is_same {
                 return Ok(out);
             }

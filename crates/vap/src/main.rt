@@ -1,4 +1,5 @@
-//! The program `vap`: what the words of its command line ask for, done by the commands of vap_cli, vap_check and vap_replay.
+//! The program `vap`: what the words of its command line ask for, done by the commands of vap_cli,
+//! vap_check, vap_image and vap_replay.
 //!
 //! [`problem::Problem::status`] tells how the program ends where it prints no answer.
 #![tactic(auto)]
@@ -14,11 +15,14 @@ use std::alloc::AllocError;
 use std::io::{Input, IsTerminal, Read};
 use std::process::ExitCode;
 use std::rt::{Env, Files};
+use std::sync::Wait;
+use std::thread::Threads;
 use std::time::Clock;
 use std::{env, fs, io};
 use vap_check::check_to;
 use vap_cli::{Counted, EvalError, Status, eval_to, note_of};
 use vap_command_line::{Task, asked};
+use vap_image::{decode_to, encode_to};
 use vap_replay::replay_with;
 
 fn main(rt: HostRuntime) -> ExitCode {
@@ -26,7 +30,7 @@ fn main(rt: HostRuntime) -> ExitCode {
     ExitCode::from(run(&rt, is_watched).code())
 }
 
-fn run<R: Env + Files + Input + Clock + Print + Eprint + AllocGlobal>(
+fn run<R: Env + Files + Input + Clock + Print + Eprint + AllocGlobal + Threads + Wait + Sync>(
     rt: &R,
     is_watched: bool,
 ) -> Status {
@@ -37,7 +41,7 @@ fn run<R: Env + Files + Input + Clock + Print + Eprint + AllocGlobal>(
 }
 
 /// Does what the words of the command line ask for.
-fn obey<R: Env + Files + Input + Clock + Print + Eprint + AllocGlobal>(
+fn obey<R: Env + Files + Input + Clock + Print + Eprint + AllocGlobal + Threads + Wait + Sync>(
     rt: &R,
     is_watched: bool,
 ) -> Result<Status, Problem> {
@@ -45,6 +49,8 @@ fn obey<R: Env + Files + Input + Clock + Print + Eprint + AllocGlobal>(
     match asked(rt.alloc(), words.as_slice())? {
         Task::Eval { text } => eval(rt, text),
         Task::Check { file } => check_file(rt, file),
+        Task::Encode { text } => encode(rt, text),
+        Task::Decode { file } => decode_file(rt, file),
         Task::Replay {
             file,
             workers,
@@ -90,8 +96,39 @@ fn check<R: Print + Eprint + AllocGlobal, F: Read + Drop>(
     Ok(status)
 }
 
+/// Writes the bytes of the image that an expression compiles to, and what it means where there are none.
+fn encode<R: Print + Eprint + AllocGlobal>(rt: &R, text: &str) -> Result<Status, Problem> {
+    let mut out = Counted::new(io::writer(rt));
+    let status = encode_to(rt.alloc(), text, &mut out)?;
+    if status != Status::Done {
+        explain(rt, note_of(rt.alloc(), text));
+    }
+    Ok(status)
+}
+
+/// Prints what the image of a file holds, or of standard input where the file is `-`.
+fn decode_file<R: Files + Input + Print + AllocGlobal>(
+    rt: &R,
+    file: &str,
+) -> Result<Status, Problem> {
+    if file == "-" {
+        return decode(rt, rt.reader());
+    }
+    match fs::open(rt, file) {
+        Ok(opened) => decode(rt, opened),
+        Err(error) => Err(Problem::not_opened(&error)),
+    }
+}
+
+/// Prints what the image of a reader's bytes holds.
+fn decode<R: Print + AllocGlobal, F: Read + Drop>(rt: &R, file: F) -> Result<Status, Problem> {
+    let mut file = Counted::new(file);
+    let mut out = Counted::new(io::writer(rt));
+    Ok(decode_to(rt.alloc(), &mut file, &mut out)?)
+}
+
 /// Prints the answers to the reviews of a file, or of standard input where the file is `-`.
-fn replay_file<R: Files + Input + Clock + Print + Eprint + AllocGlobal>(
+fn replay_file<R: Files + Input + Clock + Print + Eprint + AllocGlobal + Threads + Wait + Sync>(
     rt: &R,
     file: &str,
     workers: u8,
@@ -110,7 +147,7 @@ fn replay_file<R: Files + Input + Clock + Print + Eprint + AllocGlobal>(
 }
 
 /// Prints the answers to the reviews of a stream, and, where somebody watches, how far it is.
-fn replay_from<R: Clock + Print + Eprint + AllocGlobal, I: Read + Drop>(
+fn replay_from<R: Clock + Print + Eprint + AllocGlobal + Threads + Wait + Sync, I: Read + Drop>(
     rt: &R,
     input: I,
     workers: u8,
@@ -123,6 +160,7 @@ fn replay_from<R: Clock + Print + Eprint + AllocGlobal, I: Read + Drop>(
     let mut output = Counted::new(io::writer(rt));
     let mut meter = Meter::new(rt, is_watched);
     let replayed = replay_with(
+        rt,
         rt.alloc(),
         &mut input,
         &mut output,

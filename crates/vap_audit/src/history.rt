@@ -2,7 +2,7 @@
 
 ghost use Rattle.std.specs.Prelude.{◌≡◌, ◌↔◌, ◌++◌, ◌∷◌, ◌<◌, [], length, slice_get, None, Some, IfErr, IfOk, MatchOption, MatchResult};
 ghost use Rattle.std.specs.List.{All};
-ghost use Rattle.vap_audit.specs.Entries.{BeginWith, IsRight, IsStray, most_entries, numbers_from};
+ghost use Rattle.vap_audit.specs.Entries.{BeginWith, IsKept, IsRight, IsStray, most_entries, numbers_from};
 
 use crate::entry::Entry;
 use std::alloc::{AllocError, Global};
@@ -39,7 +39,7 @@ impl Model for History {
     ghost use Rattle.std.specs.Prelude.{List, ◌≤◌, length};
     ghost use Rattle.std.specs.List.{All};
     ghost use Rattle.std.specs.Coded.{codes};
-    ghost use Rattle.vap_audit.specs.Entries.{IsRight};
+    ghost use Rattle.vap_audit.specs.Entries.{IsKept};
     ghost use Rattle.vap_audit.specs.contracts.entry.Entry as entry;
     ghost use Rattle.vap_audit.specs.declared.entry.Entry.{Entry as EntryOf};
 
@@ -49,7 +49,7 @@ impl Model for History {
 
     ghost view = { λ h. h.entries.items };
 
-    ghost invariant = { λ h. All IsRight h.entries.items × (length h.entries.items ≤ 65536) };
+    ghost invariant = { λ h. All IsKept h.entries.items × (length h.entries.items ≤ 65536) };
 }
 
 impl History {
@@ -63,13 +63,14 @@ impl History {
 
     pub fn len(&self) -> usize
         ensures length { result ≡ length self.now }
-        ensures right { All IsRight self.now }
+        ensures kept { All IsKept self.now }
     {
         self.entries.len()
     }
 
     /// Puts an entry last, and answers its number. Where it is refused, it comes back and nothing has changed; a full history is
     /// never reported as out of memory.
+    #[tactic(auto, using(crate::proofs::Kept::kept_of))]
     pub fn append(&mut self, entry: Entry) -> Result<usize, (AuditFault, Entry)>
         requires { IsRight entry }
         ensures exact { MatchResult result
@@ -78,6 +79,8 @@ impl History {
         ensures full { IfErr result (λ refused. refused.0 ≡ AuditFault.AuditFull ↔ (length self.old ≡ most_entries)) }
     {
         let number = self.entries.len();
+        // The log's length is read for what it says of the log: that it is as it was published.
+        let _events = entry.log.get().len();
         if number >= MOST_ENTRIES {
             return Err((AuditFault::AuditFull, entry));
         }
@@ -91,7 +94,7 @@ impl History {
     /// The entry of a number, if there is one.
     pub fn entry(&self, number: usize) -> Option<&Entry>
         ensures { MatchOption result (slice_get self.now number ≡ None)
-            (λ e. (slice_get self.now number ≡ Some e.now) × IsRight e.now) }
+            (λ e. (slice_get self.now number ≡ Some e.now) × IsKept e.now) }
     {
         self.entries.get(number)
     }

@@ -15,7 +15,7 @@ use std::io::Read;
 use vap_cli::Counted;
 
 /// The most bytes that a file may have.
-const LONGEST: usize = 1_048_576;
+pub const LONGEST: usize = 1_048_576;
 
 /// The bytes of a file: all, unless there are more than one may have. The first read that fails ends it.
 pub fn bytes_of<R: Read>(alloc: Global, file: &mut Counted<R>) -> Result<Vec<u8>, CheckFailure>

@@ -2,7 +2,7 @@
 //!
 //! [`check_to`] writes what the expression may charge, and where there is an object what it comes to and what it charged; or why
 //! the file, its schema, its expression or its object is refused. It tells the status with which the program then ends, and
-//! what stands on standard error.
+//! what stands on standard error. [`bytes_of`] takes a file's bytes, [`LONGEST`] at most.
 #![tactic(auto)]
 
 mod check;
@@ -14,6 +14,7 @@ mod object;
 mod refusal;
 
 pub use check::{Ended, check_to};
+pub use document::{LONGEST, bytes_of};
 pub use failure::CheckFailure;
 pub use judgement::Judgement;
 pub use refusal::FileRefusal;

@@ -59,6 +59,31 @@ Examples:
   vap check examples/rule.json
   vap check - < examples/rule.json"#;
 
+const ENCODE_NOTES: &str = "\
+Writes the bytes to standard output, and ends with the status 0. An expression that is
+refused gives a line `refused: NAME at BYTE`, as of `vap eval`, and one whose image has a type
+too deep for the format `refused: NoSpelling`; the status is then 1. Other statuses are 2 for a
+bad command line, 3 where a write failed, and 4 for want of memory. The format is described
+in docs/LANGUAGE.md, beside the program's sources.
+
+Example:
+  vap image encode '[1, 2].all(x, x > 0)' > image.bin";
+
+const DECODE_NOTES: &str = "\
+FILE has at most 1048576 bytes. Prints a line for each slot, constant and target, for the type
+of the outcome and for each instruction; then the most steps that a run takes, the most that
+it charges and the most operands that it has at a time; and, where there are no slots, what
+the run comes to, `value V` or `error: NAME`, and `charged N`.
+
+Bytes that are no image give `refused: NAME`, and an image that is not accepted ends with
+`refused: NAME at N`, where N is the number of an instruction. The status is 0 where the image
+is accepted and comes to no error, else 1. Other statuses are 2 for a bad command line, 3 where
+FILE does not open, a read or a write failed, and 4 for want of memory. The instructions, and
+each NAME, are described in docs/LANGUAGE.md, beside the program's sources.
+
+Example:
+  vap image encode '1 + 2' | vap image decode -";
+
 const REPLAY_NOTES: &str = "\
 Each line is a watch event, a List or an AdmissionReview, as JSON; a line that is empty, or a
 carriage return alone, is skipped. An event changes the objects for the lines behind it. Each
@@ -86,6 +111,14 @@ pub enum Task<'a> {
     Check {
         file: &'a str,
     },
+    /// The bytes of the image that an expression compiles to.
+    Encode {
+        text: &'a str,
+    },
+    /// What the image of a file holds; `-` is standard input.
+    Decode {
+        file: &'a str,
+    },
     /// The answers to the reviews of a file; `-` is standard input.
     Replay {
         file: &'a str,
@@ -104,6 +137,7 @@ fn command<'a>(alloc: Global) -> Result<Command<'a>, AllocError> {
     program
         .subcommand(eval(alloc)?)?
         .subcommand(check(alloc)?)?
+        .subcommand(image(alloc)?)?
         .subcommand(replay(alloc)?)
 }
 
@@ -127,6 +161,34 @@ fn check<'a>(alloc: Global) -> Result<Command<'a>, AllocError> {
         .arg(file)
 }
 
+fn image<'a>(alloc: Global) -> Result<Command<'a>, AllocError> {
+    let image = Command::new(alloc, "image")
+        .about("Writes what an expression compiles to, or tells what an image holds")
+        .subcommand_required(true)
+        .arg_required_else_help(true);
+    image.subcommand(encode(alloc)?)?.subcommand(decode(alloc)?)
+}
+
+fn encode<'a>(alloc: Global) -> Result<Command<'a>, AllocError> {
+    let expression = Arg::new(alloc, "EXPR")
+        .required(true)
+        .help("A CEL expression of at most 16384 bytes");
+    Command::new(alloc, "encode")
+        .about("Writes the bytes of the image that a CEL expression compiles to")
+        .after_help(ENCODE_NOTES)
+        .arg(expression)
+}
+
+fn decode<'a>(alloc: Global) -> Result<Command<'a>, AllocError> {
+    let file = Arg::new(alloc, "FILE")
+        .required(true)
+        .help("The bytes of an image, or `-` for standard input");
+    Command::new(alloc, "decode")
+        .about("Verifies an image and prints what it holds, its bounds and what it comes to")
+        .after_help(DECODE_NOTES)
+        .arg(file)
+}
+
 fn replay<'a>(alloc: Global) -> Result<Command<'a>, AllocError> {
     let file = Arg::new(alloc, "FILE").required(true).help(
         "Lines of at most 1048576 bytes, or - for the standard input",
@@ -136,7 +198,7 @@ fn replay<'a>(alloc: Global) -> Result<Command<'a>, AllocError> {
         .value_name("N")
         .value_parser(value_parser!(u8).range(1..=16))
         .default_value("1")
-        .help("How many workers judge, from 1 to 16; so far one serves");
+        .help("How many workers judge side by side, from 1 to 16");
     let audit = Arg::new(alloc, "audit")
         .long("audit")
         .action(ArgAction::SetTrue)
@@ -163,6 +225,9 @@ fn task_in<'a>(matches: &ArgMatches<'a>) -> Option<Task<'a>>
     ensures { IfSome result HasWorkersInRange }
 {
     let (name, below) = matches.subcommand()?;
+    if name == "image" {
+        return image_task_in(below);
+    }
     if name == "eval" {
         return Some(Task::Eval {
             text: below.get_str("EXPR")?,
@@ -184,6 +249,20 @@ fn task_in<'a>(matches: &ArgMatches<'a>) -> Option<Task<'a>>
     })
 }
 
+fn image_task_in<'a>(matches: &ArgMatches<'a>) -> Option<Task<'a>>
+    ensures { IfSome result HasWorkersInRange }
+{
+    let (name, below) = matches.subcommand()?;
+    if name == "encode" {
+        return Some(Task::Encode {
+            text: below.get_str("EXPR")?,
+        });
+    }
+    Some(Task::Decode {
+        file: below.get_str("FILE")?,
+    })
+}
+
 /// What is wrong with the words.
 fn mistake(error: clap::Error, words: &[String]) -> Mistake {
     if error.kind() == ErrorKind::UnknownArgument && begins_with_minus(words) {
@@ -196,6 +275,7 @@ fn mistake(error: clap::Error, words: &[String]) -> Mistake {
 /// Whether the word behind the command begins with a minus.
 fn begins_with_minus(words: &[String]) -> bool {
     match words {
+        [_program, group, _command, word, ..] if group.as_str() == "image" => word.starts_with('-'),
         [_program, _command, word, ..] => word.starts_with('-'),
         _ => false,
     }

@@ -158,8 +158,9 @@ impl Judging<'_> {
             (filter (is_param (lent_place selection.now.place) selection.now.reference.now) params.now.objects)) }
     {
         for param in params.params() {
-            if selection.takes(param.object.get()) {
-                self.param(rule, programs, param)?;
+            let fitted = param.get();
+            if selection.takes(fitted.object.get()) {
+                self.param(rule, programs, fitted)?;
             }
         }
         Ok(())

@@ -75,7 +75,7 @@ impl Selection<'_> {
         ensures { result ≡ list_any (is_param (lent_place self.now.place) self.now.reference.now) params.now.objects }
     {
         for param in params.params() {
-            if self.takes(param.object.get()) {
+            if self.takes(param.get().object.get()) {
                 return true;
             }
         }

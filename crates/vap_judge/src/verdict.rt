@@ -99,7 +99,13 @@ fn judge_at(
     let opaque = CelType::Opaque;
     let name = request.admission().namespace.as_str();
     let namespace = set.namespace(alloc, name)?;
-    match held_at(alloc, namespace, type_at(kind, &opaque), request) {
+    match held_at(
+        alloc,
+        set.fixed_types(),
+        namespace,
+        type_at(kind, &opaque),
+        request,
+    ) {
         Ok(Ok(held)) => {
             let case = Case::new(set, request, kind, namespace, &held);
             judge_case(alloc, &case, matchers)

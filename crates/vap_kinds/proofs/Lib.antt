@@ -1,2 +1,3 @@
+pub mod OwnKinds
 pub mod WorkedRows
 pub mod Crossing

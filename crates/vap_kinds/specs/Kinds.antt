@@ -65,3 +65,29 @@ with_definitions (o ∷ os) kinds = with_definitions os (with_spec (get (codes "
 -- one before all
 abbrev pub kinds_of : List (Keyed Object) → List Kind
 kinds_of os = with_definitions os fixed_kinds
+
+-- ---- definition by definition
+
+-- the kinds with others, first to last
+abbrev pub with_kinds : List Kind → List Kind → List Kind
+with_kinds [] kinds = kinds
+with_kinds (k ∷ ks) kinds = with_kinds ks (with_kind k kinds)
+
+-- the kind of a version, if it has a schema
+abbrev pub kind_by : Data → Data → Option Data → List Kind
+kind_by spec version None = []
+kind_by spec version (Some schema) = kind_of spec version schema ∷ []
+
+-- the kinds of versions, one behind the other
+abbrev pub kinds_by : Data → Items → List Kind
+kinds_by spec json.no_items = []
+kinds_by spec (json.item v vs) = kind_by spec v (named_schema v) ++ kinds_by spec vs
+
+-- the kinds of what a definition says, if it says anything and has all its members
+abbrev pub own_kinds : Option Data → List Kind
+own_kinds None = []
+own_kinds (Some spec) = if is_formed spec then kinds_by spec (items_in (get (codes "versions") spec)) else []
+
+-- the kinds that a definition defines by itself
+abbrev pub kinds_in : Object → List Kind
+kinds_in o = own_kinds (get (codes "spec") o.document)

@@ -1,12 +1,13 @@
 //! Kinds of objects.
 
-ghost use Rattle.std.specs.Prelude.{◌≡◌};
+ghost use Rattle.std.specs.Prelude.{◌≡◌, IfOk};
 ghost use Rattle.std.specs.List.{list_any};
 ghost use Rattle.std.specs.Option.{option_copied};
 ghost use Rattle.vap_kinds.specs.Kinds.{is_named, kind_named};
 
 use cel_value::CelType;
 use plain::Text;
+use std::alloc::AllocError;
 
 /// A kind of objects in one version.
 #[derive(Drop)]
@@ -20,6 +21,31 @@ pub struct Kind {
     pub namespaced: bool,
     /// The type of its objects. There is none where the schema is refused: the kind is then as one that is unknown.
     pub object_type: Option<CelType>,
+}
+
+fn copied(cel_type: &Option<CelType>) -> Result<Option<CelType>, AllocError>
+    ensures { IfOk result (λ t. t ≡ cel_type.now) }
+{
+    match cel_type {
+        Some(cel_type) => Ok(Some(cel_type.copy()?)),
+        None => Ok(None),
+    }
+}
+
+impl Kind {
+    /// An equal kind with texts of its own.
+    pub fn copy(&self) -> Result<Kind, AllocError>
+        ensures { IfOk result (λ kind. kind ≡ self.now) }
+    {
+        Ok(Kind {
+            group: self.group.copy()?,
+            version: self.version.copy()?,
+            kind: self.kind.copy()?,
+            plural: self.plural.copy()?,
+            namespaced: self.namespaced,
+            object_type: copied(&self.object_type)?,
+        })
+    }
 }
 
 fn is_named(group: &str, version: &str, kind: &str, known: &Kind) -> bool

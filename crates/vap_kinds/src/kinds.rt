@@ -1,16 +1,19 @@
 //! From definitions to the kinds that they define.
 
-ghost use Rattle.std.specs.Prelude.{◌≡◌, IfOk, OnOk, Result, Some};
+ghost use Rattle.std.specs.Prelude.{◌≡◌, ◌++◌, codes, IfOk, OnOk, Result, Some};
+ghost use Rattle.serde_json.specs.Find.{get};
 ghost use Rattle.serde_json.specs.View.{view, items_view};
 ghost use Rattle.failing.specs.Failures.{Answers};
 ghost use Rattle.json_members.specs.Parts.{lent};
 ghost use Rattle.cel_value.specs.declared.cel_type.CelType.{CelType as TypeOf};
 ghost use Rattle.vap_schema.specs.declared.schema_fault.SchemaFault.{SchemaFault as SchemaFaultOf};
-ghost use Rattle.vap_kinds.specs.Kinds.{accepted, kind_of, with_kind, with_schema, with_versions, with_spec, with_definitions, kinds_of};
+ghost use Rattle.vap_kinds.specs.Kinds.{accepted, kind_by, kind_of, kinds_by, kinds_in, own_kinds};
+ghost use Rattle.vap_kinds.specs.Kinds.{with_kind, with_kinds, with_spec, with_definitions, kinds_of};
 
 use crate::definition::{is_formed, name_in, named_schema};
 use crate::fixed_kinds::fixed_kinds;
 use crate::kind::{Kind, has_named};
+use crate::read_definition::ReadDefinition;
 use cel_value::CelType;
 use json_members::{items_in, text_in};
 use plain::{Items, Keyed, Shared, Text};
@@ -43,85 +46,106 @@ fn kind_of(alloc: Global, spec: &Json, version: &Json, schema: &Json) -> Result<
     })
 }
 
-/// Adds the kind of a version, unless one of the kinds has its name.
-#[tactic(auto, unfolding(crate::specs::Kinds::with_kind))]
-fn add_kind(
-    alloc: Global,
-    spec: &Json,
-    version: &Json,
-    schema: &Json,
-    kinds: &mut Vec<Kind>,
-) -> Result<(), AllocError>
-    ensures { OnOk result (kinds.new.items ≡ with_kind (kind_of (view spec.now) (view version.now) (view schema.now)) kinds.old.items) }
-{
-    let group = text_in(spec, "group");
-    let name = text_in(version, "name");
-    if has_named(kinds.as_slice(), group, name, name_in(spec, "kind")) {
-        return Ok(());
-    }
-    kinds.push(kind_of(alloc, spec, version, schema)?)?;
-    Ok(())
-}
-
-fn add_version(
+fn put_version(
     alloc: Global,
     spec: &Json,
     version: &Json,
     schema: Option<&Json>,
     kinds: &mut Vec<Kind>,
 ) -> Result<(), AllocError>
-    ensures { OnOk result (kinds.new.items ≡ with_schema (view spec.now) (view version.now) (lent schema.entry) kinds.old.items) }
+    ensures { OnOk result (kinds.new.items ≡ kinds.old.items ++ kind_by (view spec.now) (view version.now) (lent schema.entry)) }
 {
     match schema {
-        Some(schema) => add_kind(alloc, spec, version, schema, kinds),
+        Some(schema) => {
+            kinds.push(kind_of(alloc, spec, version, schema)?)?;
+            Ok(())
+        }
         None => Ok(()),
     }
 }
 
-fn add_versions(
+fn put_versions(
     alloc: Global,
     spec: &Json,
     versions: &[Json],
     kinds: &mut Vec<Kind>,
 ) -> Result<(), AllocError>
-    ensures { OnOk result (kinds.new.items ≡ with_versions (view spec.now) (items_view versions.now) kinds.old.items) }
+    ensures { OnOk result (kinds.new.items ≡ kinds.old.items ++ kinds_by (view spec.now) (items_view versions.now)) }
 {
     for version in versions {
-        add_version(alloc, spec, version, named_schema(version), kinds)?;
+        put_version(alloc, spec, version, named_schema(version), kinds)?;
     }
     Ok(())
 }
 
-/// Adds the kinds of what a definition says.
-fn add_spec(alloc: Global, spec: Option<&Json>, kinds: &mut Vec<Kind>) -> Result<(), AllocError>
-    ensures { OnOk result (kinds.new.items ≡ with_spec (lent spec.entry) kinds.old.items) }
-{
-    match spec {
-        Some(spec) => add_formed(alloc, spec, kinds),
-        None => Ok(()),
-    }
-}
-
-fn add_formed(alloc: Global, spec: &Json, kinds: &mut Vec<Kind>) -> Result<(), AllocError>
-    ensures { OnOk result (kinds.new.items ≡ with_spec (Some (view spec.now)) kinds.old.items) }
+fn put_formed(alloc: Global, spec: &Json, kinds: &mut Vec<Kind>) -> Result<(), AllocError>
+    ensures { OnOk result (kinds.new.items ≡ kinds.old.items ++ own_kinds (Some (view spec.now))) }
 {
     if is_formed(spec) {
-        add_versions(alloc, spec, items_in(spec, "versions"), kinds)
+        put_versions(alloc, spec, items_in(spec, "versions"), kinds)
     } else {
         Ok(())
     }
 }
 
+fn put_spec(alloc: Global, spec: Option<&Json>, kinds: &mut Vec<Kind>) -> Result<(), AllocError>
+    ensures { OnOk result (kinds.new.items ≡ kinds.old.items ++ own_kinds (lent spec.entry)) }
+{
+    match spec {
+        Some(spec) => put_formed(alloc, spec, kinds),
+        None => Ok(()),
+    }
+}
+
+/// The kinds that a definition defines by itself: each schema in it is read.
+pub fn kinds_in(alloc: Global, definition: &Object) -> Result<Items<Kind>, AllocError>
+    ensures { IfOk result (λ kinds. kinds ≡ kinds_in definition.now) }
+{
+    let mut kinds = Vec::new(alloc);
+    put_spec(alloc, definition.document.json().get("spec"), &mut kinds)?;
+    Ok(Items::from_vec(kinds))
+}
+
+/// Adds a kind, unless one of the kinds has its name.
+#[tactic(auto, unfolding(crate::specs::Kinds::with_kind))]
+fn add_kind(kind: &Kind, kinds: &mut Vec<Kind>) -> Result<(), AllocError>
+    ensures { OnOk result (kinds.new.items ≡ with_kind kind.now kinds.old.items) }
+{
+    let group = kind.group.as_str();
+    let version = kind.version.as_str();
+    if has_named(kinds.as_slice(), group, version, kind.kind.as_str()) {
+        return Ok(());
+    }
+    kinds.push(kind.copy()?)?;
+    Ok(())
+}
+
+/// Adds the kinds that a definition defines by itself.
+fn add_kinds(more: &[Kind], kinds: &mut Vec<Kind>) -> Result<(), AllocError>
+    ensures { OnOk result (kinds.new.items ≡ with_kinds more.now kinds.old.items) }
+{
+    for kind in more {
+        add_kind(kind, kinds)?;
+    }
+    Ok(())
+}
+
+/// Adds the kinds of a definition that is read.
+#[tactic(auto, using(crate::proofs::OwnKinds::by_spec))]
+fn add_definition(definition: &ReadDefinition, kinds: &mut Vec<Kind>) -> Result<(), AllocError>
+    ensures { OnOk result (kinds.new.items ≡ with_spec (get (codes "spec") definition.now.document) kinds.old.items) }
+{
+    add_kinds(definition.kinds(), kinds)
+}
+
 fn add_definitions(
-    alloc: Global,
-    definitions: &[Keyed<Shared<Object>>],
+    definitions: &[Keyed<Shared<ReadDefinition>>],
     kinds: &mut Vec<Kind>,
 ) -> Result<(), AllocError>
     ensures { OnOk result (kinds.new.items ≡ with_definitions definitions.now kinds.old.items) }
 {
     for definition in definitions {
-        let json = definition.value.get().document.json();
-        add_spec(alloc, json.get("spec"), kinds)?;
+        add_definition(definition.value.get(), kinds)?;
     }
     Ok(())
 }
@@ -130,11 +154,11 @@ fn add_definitions(
 /// version and name the first counts.
 pub fn kinds_of(
     alloc: Global,
-    definitions: &[Keyed<Shared<Object>>],
+    definitions: &[Keyed<Shared<ReadDefinition>>],
 ) -> Result<Items<Kind>, AllocError>
     ensures { IfOk result (λ kinds. kinds ≡ kinds_of definitions.now) }
 {
     let mut kinds = fixed_kinds(alloc)?;
-    add_definitions(alloc, definitions, &mut kinds)?;
+    add_definitions(definitions, &mut kinds)?;
     Ok(Items::from_vec(kinds))
 }

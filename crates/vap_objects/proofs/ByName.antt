@@ -1,5 +1,5 @@
 -- Lists in the order of names.
-use Rattle.std.proofs.Common.{◌≡◌, ◌<◌, ◌≤◌, ◌+◌, ℕ, zero, suc, Bool, true, false, cond, List, [], ◌∷◌, ◌++◌, length, filter, arith}
+use Rattle.std.proofs.Common.{◌≡◌, ◌<◌, ◌≤◌, ◌+◌, ◌-◌, ℕ, zero, suc, Bool, true, false, cond, List, [], ◌∷◌, ◌++◌, length, filter, arith}
 use Rattle.std.proofs.Common.{Ordering, refl, sym, ap, ◌∙◌, subst, true≢false, bytes_eq, get_or, Result, Ok, Err}
 use Rattle.std.specs.Prelude.{IfOk}
 use Rattle.std.specs.Cmp.Lexicographic.{slice_cmp}
@@ -163,3 +163,35 @@ pub each_by_name : {V E : Type 0} (r : Result (List (Keyed V)) E) (es : List (Ke
     → IfOk r (AreByName es)
 each_by_name (Ok list) es is = subst (λ l. AreByName es l) (sym is) (by_name_is es)
 each_by_name (Err e) es is = tt
+
+-- ---- behind all
+
+apart : (x y z : List ℕ) → is_lt (slice_cmp nat_cmp x y) ≡ false → is_lt (slice_cmp nat_cmp y z) ≡ false
+    → is_lt (slice_cmp nat_cmp x z) ≡ false
+apart x y z h k = (ranks_by nat_list_cmp_total (λ (n : List ℕ). n)).chain x y z h k
+
+-- the first is not above the name, and the name goes behind all
+abbrev GoesLast : {V : Type 0} → List ℕ → List (Keyed V) → Type 0
+GoesLast {V} name es =
+    ((d : Keyed V) → 0 < length es → is_lt (slice_cmp nat_cmp name (get_or es 0 d).key) ≡ false) × (place_for name es ≡ length es)
+
+behind_all : {V : Type 0} (name : List ℕ) (es : List (Keyed V)) → Sorted es
+    → ((d : Keyed V) → 0 < length es → is_lt (slice_cmp nat_cmp name (get_or es (length es - 1) d).key) ≡ false) → GoesLast name es
+behind_all name [] whole last = ((λ d some. absurd (omega (arith, some))), refl)
+behind_all name (e ∷ []) whole last =
+    let own = last e (omega arith) in
+    ((λ d some. own), ap (λ b. cond b 0 1) own)
+behind_all name (e ∷ f ∷ fs) whole last =
+    let rest =
+    behind_all name (f ∷ fs) (sorted_rest e (f ∷ fs) whole)
+    (λ d some.
+    let same : suc (length (f ∷ fs) - 1) ≡ length (e ∷ f ∷ fs) - 1 = omega arith in
+    ap (λ n. is_lt (slice_cmp nat_cmp name (get_or (e ∷ f ∷ fs) n d).key)) same ∙ last d (omega arith)) in
+    let own = apart name f.key e.key (rest.0 f (omega arith)) (first_of_rest e (f ∷ fs) whole f (omega arith)) in
+    ((λ d some. own), ap (λ b. cond b 0 (suc (place_for name (f ∷ fs)))) own ∙ ap suc rest.1)
+
+-- a name that is not below the last goes behind all
+pub goes_last : {V : Type 0} (name : List ℕ) (es : List (Keyed V)) → Sorted es
+    → ((d : Keyed V) → 0 < length es → is_lt (slice_cmp nat_cmp name (get_or es (length es - 1) d).key) ≡ false)
+    → length es ≡ place_for name es
+goes_last name es whole last = sym (behind_all name es whole last).1

@@ -1,17 +1,24 @@
 -- Lists by name that are made of one entry after the other.
-use Rattle.std.proofs.Common.{◌≡◌, ℕ, List, [], ◌∷◌, ◌++◌, append_assoc, append-nil, ap, sym, ◌∙◌, refl}
+use Rattle.std.proofs.Common.{◌≡◌, ℕ, List, [], ◌∷◌, ◌++◌, append_assoc, append-nil, ap, sym, subst, ◌∙◌, refl}
+use Rattle.std.specs.Cmp.Lexicographic.{slice_cmp}
+use Rattle.std.specs.List.Sorted.{IsSortedByKey}
+use Rattle.std.specs.Ordering.{nat_cmp}
 use Rattle.plain.specs.Keys.{with_entry}
 use Rattle.plain.specs.declared.text.Keyed.{Keyed}
 use Rattle.vap_objects.specs.ByName.{Adds, by_name}
-use Rattle.vap_objects.proofs.ByName.{one_more}
+use Rattle.vap_objects.proofs.ByName.{by_name_is, one_more}
 
 -- ---- one step
 
 -- an entry that is put after the others of its name is one more
-pub adds_one : {V : Type 0} (name : List ℕ) (value : V) (old new : List (Keyed V)) → new ≡ with_entry name value old
+pub adds_one : {V : Type 0} (name : List ℕ) (value : V) (old new : List (Keyed V))
+    → (IsSortedByKey (λ e. e.key) (slice_cmp nat_cmp) old → new ≡ with_entry name value old)
     → Adds (record { key = name; value = value } ∷ []) old new
 adds_one name value old new is = record {
-  grown = λ these by. is ∙ ap (with_entry name value) by ∙ sym (one_more these (record { key = name; value = value }));
+  grown = λ these by.
+      let sorted : IsSortedByKey (λ e. e.key) (slice_cmp nat_cmp) old =
+      subst (λ es. IsSortedByKey (λ e. e.key) (slice_cmp nat_cmp) es) (sym by) (by_name_is these).sorted in
+      is sorted ∙ ap (with_entry name value) by ∙ sym (one_more these (record { key = name; value = value }));
 }
 
 pub adds_none : {V : Type 0} (list : List (Keyed V)) → Adds [] list list

@@ -51,10 +51,15 @@ no_binding : (e : Key × Object) → is_binding e.0 ≡ false → binding_in e �
 unfolding binding_under
 no_binding e none = ap (λ b. if b then binding_by e.1.key.name e.1.content else []) none
 
--- and the bindings
+-- events that touch no binding leave the bindings
+pub own_bindings_stay : (es : List Event) (c : Cluster) → all_miss is_binding es ≡ true
+    → bindings_in (after_all es c).objects ≡ bindings_in c.objects
+own_bindings_stay es c h = ap by_name (list_stays is_binding binding_in no_binding es c h)
+
+-- so do those that touch no policy, binding or definition
 pub bindings_stay : (es : List Event) (c : Cluster) → all_miss is_rule es ≡ true
     → bindings_in (after_all es c).objects ≡ bindings_in c.objects
-bindings_stay es c h = ap by_name (list_stays is_binding binding_in no_binding es c (miss_bindings es h))
+bindings_stay es c h = own_bindings_stay es c (miss_bindings es h)
 
 -- ---- definitions
 

@@ -21,7 +21,9 @@ mod tallies;
 pub use classes::{is_binding, is_policy};
 pub use lists::bindings_of;
 pub use missed_key::misses_key;
-pub use missed_kinds::{all_miss_definitions, all_miss_kind, all_miss_namespaces};
+pub use missed_kinds::{
+    all_miss_bindings, all_miss_definitions, all_miss_kind, all_miss_namespaces,
+};
 pub use missed_rules::all_miss_rules;
 pub use objects::Objects;
 pub use of_kind::{labels_in, namespace};

@@ -2,7 +2,7 @@
 
 ghost use Rattle.std.specs.Prelude.{◌≡◌};
 ghost use Rattle.vap_kinds.specs.Definitions.{is_definition};
-ghost use Rattle.vap_objects.specs.Classes.{all_miss, is_namespace, is_of, misses};
+ghost use Rattle.vap_objects.specs.Classes.{all_miss, is_binding, is_namespace, is_of, misses};
 
 use crate::classes::is_of;
 use vap_read::Event;
@@ -45,5 +45,16 @@ pub fn all_miss_definitions(events: &[Event]) -> bool
         events,
         "apiextensions.k8s.io/v1",
         "CustomResourceDefinition",
+    )
+}
+
+/// Whether none of these events touches a binding.
+pub fn all_miss_bindings(events: &[Event]) -> bool
+    ensures { result ≡ all_miss is_binding events.now }
+{
+    all_miss_kind(
+        events,
+        "admissionregistration.k8s.io/v1",
+        "ValidatingAdmissionPolicyBinding",
     )
 }

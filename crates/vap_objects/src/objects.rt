@@ -1,13 +1,16 @@
 //! The objects of a cluster.
 
 ghost use Rattle.std.specs.Prelude.{◌≡◌, ◌≤◌, ◌↔◌, ℕ, List, length, IsTrue, IfOk, OnOk, OnErr};
+ghost use Rattle.std.specs.List.Sorted.{IsStrictlySortedBy};
+ghost use Rattle.std.specs.Map.{keys_of};
 ghost use Rattle.std.specs.Option.{option_copied};
 ghost use Rattle.vap_select.specs.Select.{lent_labels};
+ghost use Rattle.vap_read.specs.Keys.{key_cmp};
 ghost use Rattle.vap_objects.specs.After.{nothing, after, objects_after};
 ghost use Rattle.vap_objects.specs.Classes.{is_of, of_class};
 ghost use Rattle.vap_objects.specs.Limits.{takes, IsWithin};
 ghost use Rattle.vap_objects.specs.ByName.{AreByName};
-ghost use Rattle.vap_objects.specs.Listed.{policies_among, policies_in, bindings_among, bindings_in, kinds_in};
+ghost use Rattle.vap_objects.specs.Listed.{policies_among, policies_in, bindings_among, bindings_in, definitions_in, kinds_in};
 ghost use Rattle.vap_objects.specs.OfKind.{object_at, objects_of_kind, namespaces_in, namespace_key, namespace_labels};
 
 use crate::lists::{bindings_in, definitions_in, policies_in};
@@ -20,7 +23,7 @@ use plain::{Items, Keyed, Shared};
 use std::alloc::{AllocError, Global};
 use std::marker::Model;
 use vap_bindings::Binding;
-use vap_kinds::{Kind, kinds_of};
+use vap_kinds::{Kind, kinds_of, read_all};
 use vap_policies::Policy;
 use vap_read::{Event, Key, Object, ObjectMap};
 use vap_select::Labels;
@@ -75,6 +78,18 @@ impl Objects {
         ensures within { IsWithin self.now }
     {
         self.events
+    }
+
+    /// How many objects there are.
+    pub fn len(&self) -> usize
+        ensures exact { result ≡ length self.now.objects }
+        // As objects always are.
+        ensures within { IsWithin self.now }
+        ensures ordered { IsStrictlySortedBy key_cmp (keys_of self.now.objects) }
+    {
+        // Its clause tells that they are in order.
+        let _entries = self.objects.iter();
+        self.objects.len()
     }
 
     /// Equal objects: one more owner of each of them.
@@ -142,12 +157,20 @@ impl Objects {
         bindings_in(alloc, &self.objects)
     }
 
+    /// The definitions of kinds by their names.
+    pub fn definitions(&self, alloc: Global) -> Result<Items<Keyed<Shared<Object>>>, AllocError>
+        ensures { IfOk result (λ definitions. definitions ≡ definitions_in self.now.objects) }
+    {
+        definitions_in(alloc, &self.objects)
+    }
+
     /// The kinds that are known or refused, each group, version and name once.
     pub fn kinds(&self, alloc: Global) -> Result<Items<Kind>, AllocError>
         ensures { IfOk result (λ kinds. kinds ≡ kinds_in self.now.objects) }
     {
-        let definitions = definitions_in(alloc, &self.objects)?;
-        kinds_of(alloc, definitions.as_slice())
+        let definitions = self.definitions(alloc)?;
+        let read = read_all(alloc, definitions.as_slice())?;
+        kinds_of(alloc, read.as_slice())
     }
 
     /// The objects of a version and kind, by namespace, then by name.

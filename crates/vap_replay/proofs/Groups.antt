@@ -1,8 +1,11 @@
 -- A group, one request further.
-use Rattle.std.proofs.Common.{◌≡◌, ℕ, ◌+◌, ◌≤◌, List, [], ◌∷◌, ◌++◌, Some, length, refl, sym, ap, ◌∙◌}
+use Rattle.std.proofs.Common.{◌≡◌, ◌≢◌, ℕ, ◌+◌, ◌≤◌, List, [], ◌∷◌, ◌++◌, Some, length, refl, sym, ap, ◌∙◌}
 use Rattle.std.proofs.Common.{append_assoc, add-zero, suc, arith}
 use Rattle.std.specs.Prelude.{slice_get}
 use Rattle.vap_request.specs.declared.request.Request.{Request}
+use Rattle.vap_answer.specs.declared.verdict.Verdict.{Verdict}
+use Rattle.vap_plane.specs.Answers.{verdicts_at}
+use Rattle.vap_watch.specs.Logs.{verdict_at}
 use Rattle.vap_watch.specs.Places.{Position}
 use Rattle.vap_watch.specs.declared.log.Logged.{Logged}
 use Rattle.vap_audit.specs.declared.entry.Entry.{Entry}
@@ -68,11 +71,29 @@ told_next w v old new request left rest text more all same grown is put so =
     ∙ (ap (λ (l : List ℕ). text ++ l) (sym (answers_more (e ∷ []) others))
     ∙ (ap (λ (g : List Request). text ++ answers_text (group_entries w.published (length old) g)) (sym is) ∙ so)))))
 
-pub waiting_next : (left rest : List Request) (request : Request) (most : ℕ) → left ≡ request ∷ rest → length left ≤ most
-    → length rest ≤ most
-waiting_next left rest request most is few =
-    let one : length left ≡ suc (length rest) = ap (λ (g : List Request). length g) is in
-    omega (arith, one, few)
+-- no request has no verdict
+pub none_asked : (log : List Logged) (requests : List Request) (verdicts : List Verdict) → length requests ≡ 0 → verdicts ≡ []
+    → verdicts ≡ verdicts_at log requests
+none_asked log [] verdicts none is = is
+none_asked log (r ∷ requests) verdicts none is = cc
+
+-- the verdicts that are left are those on the requests that are left
+pub verdicts_next : (log : List Logged) (left rest : List Request) (request : Request) (all more : List Verdict) (v : Verdict)
+    → left ≡ request ∷ rest → all ≡ verdicts_at log left → all ≡ v ∷ more → (v ≡ verdict_at log request) × (more ≡ verdicts_at log rest)
+verdicts_next log left rest request all more v is of first =
+    let e : v ∷ more ≡ verdict_at log request ∷ verdicts_at log rest =
+    sym first ∙ (of ∙ ap (λ (rs : List Request). verdicts_at log rs) is) in
+    let one : v ≡ verdict_at log request = cc in
+    let others : more ≡ verdicts_at log rest = cc in
+    (one, others)
+
+-- while a request is left, a verdict is
+pub some_left : (log : List Logged) (left rest : List Request) (request : Request) (all : List Verdict) → left ≡ request ∷ rest
+    → all ≡ verdicts_at log left → all ≢ []
+some_left log left rest request all is of = λ none.
+    let e : [] ≡ verdict_at log request ∷ verdicts_at log rest =
+    sym none ∙ (of ∙ ap (λ (rs : List Request). verdicts_at log rs) is) in
+    cc
 
 pub history_next : (old new : List Entry) (left rest : List Request) (request : Request) (e : Entry) (most : ℕ) → left ≡ request ∷ rest
     → new ≡ old ++ e ∷ [] → length old + length left ≤ most → length new + length rest ≤ most

@@ -11,6 +11,7 @@ pub mod Reading
 pub mod Steps
 pub mod Stopping
 pub mod Taking
+pub mod Tellings
 pub mod Texts
 pub mod Told
 pub mod Unanswered

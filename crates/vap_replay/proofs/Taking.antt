@@ -1,14 +1,14 @@
 -- What a line that is taken or refused comes to.
 use Rattle.std.proofs.Common.{◌≡◌, ◌≢◌, ℕ, ◌+◌, ◌<◌, Bool, true, false, List, [], ◌∷◌, ◌++◌, length, Result, Ok, Err, refl, sym, ap, ◌∙◌}
-use Rattle.std.proofs.Common.{append-nil, arith}
+use Rattle.std.proofs.Common.{append-nil, arith, subst}
 use Rattle.std.specs.Prelude.{if◌then◌else◌, Option}
 use Rattle.std.specs.Io.KnownBytes.{Appends}
 use Rattle.std.proofs.lemmas.Bool.{lt-ltb, le-ltb, false≢true}
 use Rattle.vap_read.specs.declared.event.Event.{Event}
 use Rattle.vap_request.specs.declared.request.Request.{Request}
-use Rattle.vap_watch.specs.Given.{Choice, takes}
-use Rattle.vap_watch.specs.Logs.{objects_of, publication}
-use Rattle.vap_watch.specs.Places.{Position, most_events}
+use Rattle.vap_watch.specs.Given.{AreUnverified, Choice, takes}
+use Rattle.vap_watch.specs.Logs.{objects_after, objects_of, publication}
+use Rattle.vap_watch.specs.Places.{Position, at, most_events, objects_at}
 use Rattle.vap_watch.specs.declared.log.Logged.{Logged}
 use Rattle.failing.specs.declared.failed.Failed.{Failed}
 use Rattle.failing.specs.declared.failed.Failed.TheVariants as failed
@@ -93,6 +93,9 @@ event_refused event s (fault.OfReview f) choices none = absurd none
 event_refused event s fault.AuditFull choices none = absurd none
 event_refused event s fault.Unverified choices none = absurd none
 event_refused event s fault.Pattern choices none = absurd none
+event_refused event s fault.Stray choices none = absurd none
+event_refused event s fault.NoPlace choices none = absurd none
+event_refused event s (fault.OfWorkers f) choices none = absurd none
 
 -- a review that is taken behind what was read
 pub took_review : (request : Request) (old one new : Session) → TakesReview request one new → one.writer ≡ old.writer
@@ -138,6 +141,19 @@ published_not line (failed.Fault publishing.Unverified) number why is =
     let same : fault.Unverified ≡ why = cc in
     rw (← same) refl
 published_not line failed.OutOfMemory number why is = cc
+
+-- Unverified is reported only if the publication is so refused
+pub unverified_only : (line : ℕ) (e : Failed PublishFault) (number : ℕ) → unpublished line e ≡ Line number fault.Unverified
+    → (number ≡ line) × (e ≡ failed.Fault publishing.Unverified)
+unverified_only line (failed.Fault publishing.Unverified) number is = (cc, refl)
+unverified_only line failed.OutOfMemory number is = cc
+
+-- the objects after the one event that is staged
+pub one_staged : (old new : Position) (event : Event) → new ≡ at old.published (old.staged ++ event ∷ []) → old.staged ≡ []
+    → AreUnverified (objects_at new) → AreUnverified (objects_after (objects_of old.published) (event ∷ []))
+one_staged old new event staged none are =
+    let one : new ≡ at old.published (event ∷ []) = staged ∙ ap (λ (es : List Event). at old.published (es ++ event ∷ [])) none in
+    subst (λ (p : Position). AreUnverified (objects_at p)) one are
 
 -- a fault is told of the lines alone or it is not
 pub not_both : (why : LineFault) → is_of_the_lines why ≡ false → is_of_the_lines why ≡ true → ⊥

@@ -1,6 +1,6 @@
 -- The first line that is not answered, and the event that is not published.
 use Rattle.std.proofs.Common.{◌≡◌, ◌≢◌, ℕ, ◌+◌, List, [], ◌∷◌, ◌++◌, length, take, drop, Option, None, Some, Contains, subst, Ok, ◌⊎◌}
-use Rattle.std.proofs.Common.{inl, inr, sym, ap, ◌∙◌, append_assoc, arith}
+use Rattle.std.proofs.Common.{inl, inr, refl, sym, ap, ◌∙◌, append_assoc, arith}
 use Rattle.std.specs.Prelude.{IfSome}
 use Rattle.std.specs.Io.KnownBytes.{Appends}
 use Rattle.std.proofs.Math.Seq.{drop_at}
@@ -17,7 +17,7 @@ use Rattle.vap_replay.specs.Moves.{BeginsWith, IsUnjudged, IsUnpublished, after_
 use Rattle.vap_replay.specs.Replay.{Choices, Sofar, answers_text, beginning}
 use Rattle.vap_replay.specs.Sessions.{TellsGroup, sofar_of, waiting_entries}
 use Rattle.vap_replay.specs.Streams.{Comes, IsUnansweredAt, IsUnverifiedAt}
-use Rattle.vap_replay.specs.declared.fault.LineFault.{LineFault}
+use Rattle.vap_replay.specs.declared.fault.LineFault.TheVariants as fault
 use Rattle.vap_replay.specs.declared.line.Line.{Line}
 use Rattle.vap_replay.specs.declared.line.Line.TheVariants.{Happens, Asks}
 use Rattle.vap_replay.specs.declared.session.Session.{Session}
@@ -138,14 +138,15 @@ unanswered_next contents (Some all) (Some text) session start before after numbe
 
 -- the group that waits at the end is not judged
 pub unanswered_last : {W : Type 0} (contents : W → Option (List ℕ)) (all text : Option (List ℕ)) (session : Session)
-    (start : Option (List ℕ)) (before after : Counted W) (number : ℕ) (why : LineFault) → Taken all text session
-    → Appends start (contents (inner_of before)) (answers_text session.history) → TellsGroup session number why → after ≡ before
+    (start : Option (List ℕ)) (before after : Counted W) (number : ℕ) → Taken all text session
+    → Appends start (contents (inner_of before)) (answers_text session.history) → TellsGroup session number fault.Pattern → after ≡ before
     → IfSome all (λ bytes. IsUnansweredAt bytes start (contents (inner_of after)) number)
-unanswered_last contents None text session start before after number why there written tells same = tt
-unanswered_last contents (Some all) None session start before after number why there written tells same = absurd there
-unanswered_last contents (Some all) (Some text) session start before after number why there written tells same =
-    waiting_unanswered all there.front (lines_of text) session start (contents (inner_of after)) number ⊥ tells.one.request there.split
-    (there.waiting tells.waiting) tells.numbered (rw same written) (inl tells.one.waits) (λ none. absurd none) tells.one.matches
+unanswered_last contents None text session start before after number there written tells same = tt
+unanswered_last contents (Some all) None session start before after number there written tells same = absurd there
+unanswered_last contents (Some all) (Some text) session start before after number there written tells same =
+    waiting_unanswered all there.front (lines_of text) session start (contents (inner_of after)) number ⊥ (tells.one refl).request
+    there.split (there.waiting tells.waiting) tells.numbered (rw same written) (inl (tells.one refl).waits) (λ none. absurd none)
+    (tells.one refl).matches
 
 -- the event of the next line is not published
 pub unverified_next : {W : Type 0} (contents : W → Option (List ℕ)) (all text : Option (List ℕ)) (session : Session)

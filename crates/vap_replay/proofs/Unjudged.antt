@@ -23,10 +23,12 @@ use Rattle.vap_lines.specs.declared.lines.Ending.TheVariants.{Feed, End, TooLong
 use Rattle.vap_watch.specs.Given.{AreUnverified, MayMatch}
 use Rattle.vap_watch.specs.Logs.{objects_after, objects_of, set_of}
 use Rattle.vap_watch.specs.Places.{Position}
+use Rattle.vap_watch.specs.declared.log.Logged.{Logged}
 use Rattle.vap_replay.specs.Lines.{Reads, event_line, line_by, review_line}
 use Rattle.vap_replay.specs.Moves.{BeginsWith, IsReadAs, IsUnjudged, IsUnpublished, Waits, lines_ended}
 use Rattle.vap_replay.specs.Replay.{answers_text}
-use Rattle.vap_replay.specs.Sessions.{Answered, OneMayMatch, TakesReview, TellsGroup, first_with, waiting_entries}
+use Rattle.vap_replay.specs.Groups.{OneMayMatch, TellsRequests}
+use Rattle.vap_replay.specs.Sessions.{Answered, TakesReview, TellsGroup, first_with, waiting_entries}
 use Rattle.vap_replay.specs.Streams.{IsPlain, is_of_the_lines}
 use Rattle.vap_replay.specs.declared.fault.LineFault.{LineFault}
 use Rattle.vap_replay.specs.declared.fault.LineFault.TheVariants as fault
@@ -60,32 +62,12 @@ pub some_wait : (group : List Request) (request : Request) → Contains group re
 some_wait [] request there = absurd (omega (arith, there.1))
 some_wait (r ∷ group) request there = λ none. cc
 
--- the first of what is left is one of all
-pub first_among : (left rest all : List Request) (request : Request) → left ≡ request ∷ rest
-    → ((r : Request) → Contains left r → Contains all r) → Contains all request
-first_among left rest all request is among =
-    among request (subst (λ (rs : List Request). Contains rs request) (sym is) (0, omega arith, refl))
-
--- those behind it are too
-pub others_among : (left rest all : List Request) (request : Request) → left ≡ request ∷ rest
-    → ((r : Request) → Contains left r → Contains all r) → (r : Request) → Contains rest r → Contains all r
-others_among left rest all request is among r there =
-    among r (subst (λ (rs : List Request). Contains rs r) (sym is) (suc there.0, omega (arith, there.1), there.2))
-
--- a group that is told has a request at which a pattern is looked for
-pub group_tells : (old s : Session) (number : ℕ) (why : LineFault) (request : Request)
-    → (number ≡ s.first) × (why ≡ fault.Pattern) → s.first ≡ old.first → s.writer ≡ old.writer → Contains old.group.items request
-    → MayMatch (set_of s.writer.published) request → TellsGroup old number why
-group_tells old s number why request told first writer waits matches = record {
-  numbered = told.0 ∙ first;
-  pattern = told.1;
-  waiting = some_wait old.group.items request waits;
-  one = record {
-    request = request;
-    waits = waits;
-    matches = subst (λ (p : Position). MayMatch (set_of p.published) request) writer matches;
-  };
-}
+-- requests that are not judged are those of a group
+pub group_tells : (s : Session) (log : List Logged) (requests : List Request) (number : ℕ) (why : LineFault)
+    → log ≡ s.writer.published → requests ≡ s.group.items → TellsRequests s.first log requests number why → TellsGroup s number why
+group_tells s log requests number why same group tells =
+    subst (λ (l : List Logged). TellsRequests s.first l s.group.items number why) same
+    (subst (λ (rs : List Request). TellsRequests s.first log rs number why) group tells)
 
 -- what is looked for at a request is looked for where one more waits
 pub one_more_waits : (old : Session) (request : Request) → OneMayMatch old.writer.published old.group.items
@@ -161,18 +143,19 @@ asks_waits (Ok x) line request old one new is writer history group first lines t
 asks_waits (Err e) line request old one new is writer history group first lines taken waits grown = tt
 
 -- a group that is not judged before a line is taken
-pub group_unjudged : {W : Type 0} (Is : LineOf → Type 0) (old one : Session) (before after : Counted W) (number : ℕ) (why : LineFault)
-    → TellsGroup one number why → one.writer ≡ old.writer → one.group ≡ old.group → one.first ≡ old.first → after ≡ before
-    → IsUnjudged Is old before after number
-group_unjudged Is old one before after number why tells writer group first same =
+pub group_unjudged : {W : Type 0} (Is : LineOf → Type 0) (old : Session) (first : ℕ) (log : List Logged) (requests : List Request)
+    (before after : Counted W) (number : ℕ) → TellsRequests first log requests number fault.Pattern → log ≡ old.writer.published
+    → requests ≡ old.group.items → first ≡ old.first → after ≡ before → IsUnjudged Is old before after number
+group_unjudged Is old first log requests before after number tells published group same unwritten =
     let some : old.group.items ≢ [] = rw group at tells.waiting in
+    let looked : OneMayMatch log requests = tells.one refl in
     record {
-      unwritten = same;
-      numbered = tells.numbered ∙ (first ∙ sym (first_stays old.group.items old.first (old.lines + 1) some));
+      unwritten = unwritten;
+      numbered = tells.numbered ∙ (same ∙ sym (first_stays old.group.items old.first (old.lines + 1) some));
       review = λ none. absurd (some none);
-      asked = tells.one.request;
-      waits = inl (rw group at tells.one.waits);
-      matches = subst (λ (p : Position). MayMatch (set_of p.published) tells.one.request) writer tells.one.matches;
+      asked = looked.request;
+      waits = inl (rw group at looked.waits);
+      matches = subst (λ (l : List Logged). MayMatch (set_of l) looked.request) published looked.matches;
     }
 
 -- a group that is not judged with the review of a line
@@ -238,6 +221,15 @@ plain_read bytes (Refused fault.Unverified) read =
     let json = read.2.json in
     subst IsPlain (sym read.2.is) (plain_kind (line_kind (view json)) json)
 plain_read bytes (Refused fault.Pattern) read =
+    let json = read.2.json in
+    subst IsPlain (sym read.2.is) (plain_kind (line_kind (view json)) json)
+plain_read bytes (Refused fault.Stray) read =
+    let json = read.2.json in
+    subst IsPlain (sym read.2.is) (plain_kind (line_kind (view json)) json)
+plain_read bytes (Refused fault.NoPlace) read =
+    let json = read.2.json in
+    subst IsPlain (sym read.2.is) (plain_kind (line_kind (view json)) json)
+plain_read bytes (Refused (fault.OfWorkers f)) read =
     let json = read.2.json in
     subst IsPlain (sym read.2.is) (plain_kind (line_kind (view json)) json)
 

@@ -2,10 +2,11 @@
 use Rattle.std.specs.Prelude.{ℕ, List, codes}
 use Rattle.vap_read.specs.Names.{event_fault_name}
 use Rattle.vap_request.specs.Names.{review_fault_name}
+use Rattle.vap_plane.specs.Recorded.{plane_fault_name}
 use Rattle.vap_replay.specs.declared.fault.LineFault.{LineFault}
 use Rattle.vap_replay.specs.declared.fault.LineFault.TheVariants as fault
 
--- the name of a fault of a line; of an event or a review the innermost fault's
+-- the name of a fault of a line; of an event, a review or workers the innermost fault's
 abbrev pub line_fault_name : LineFault → List ℕ
 line_fault_name fault.TooLong = codes "TooLong"
 line_fault_name fault.BadJson = codes "BadJson"
@@ -17,3 +18,6 @@ line_fault_name fault.TooManyObjects = codes "TooManyObjects"
 line_fault_name fault.AuditFull = codes "AuditFull"
 line_fault_name fault.Unverified = codes "Unverified"
 line_fault_name fault.Pattern = codes "Pattern"
+line_fault_name fault.Stray = codes "Stray"
+line_fault_name fault.NoPlace = codes "NoPlace"
+line_fault_name (fault.OfWorkers f) = plane_fault_name f

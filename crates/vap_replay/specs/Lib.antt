@@ -1,5 +1,6 @@
 pub mod AuditLine
 pub mod Faults
+pub mod Groups
 pub mod Lines
 pub mod Moves
 pub mod Replay

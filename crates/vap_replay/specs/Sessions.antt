@@ -1,14 +1,15 @@
 -- A replay under way.
-use Rattle.std.specs.Prelude.{◌≡◌, ◌≢◌, ◌≤◌, ◌<◌, ◌+◌, ℕ, true, false, List, [], ◌∷◌, ◌++◌, Contains, length}
+use Rattle.std.specs.Prelude.{◌≡◌, ◌≤◌, ◌<◌, ◌+◌, ℕ, true, false, List, [], ◌∷◌, ◌++◌, length}
 use Rattle.std.specs.Prelude.{slice_get, unwrap_or, option_and_then}
 use Rattle.vap_read.specs.declared.event.Event.{Event}
 use Rattle.vap_request.specs.declared.request.Request.{Request}
-use Rattle.vap_watch.specs.Given.{Choice, MayMatch, no_choice, takes}
-use Rattle.vap_watch.specs.Logs.{objects_of, publication, set_of}
+use Rattle.vap_watch.specs.Given.{Choice, no_choice, takes}
+use Rattle.vap_watch.specs.Logs.{objects_of, publication}
 use Rattle.vap_watch.specs.Places.{most_events}
 use Rattle.vap_watch.specs.declared.log.Logged.{Logged}
 use Rattle.vap_audit.specs.Entries.{most_entries}
 use Rattle.vap_audit.specs.declared.entry.Entry.{Entry}
+use Rattle.vap_replay.specs.Groups.{TellsRequests}
 use Rattle.vap_replay.specs.Replay.{Choices, Sofar, beginning, entry_of}
 use Rattle.vap_lines.specs.declared.lines.LineError.{LineError}
 use Rattle.vap_lines.specs.declared.lines.LineError.TheVariants as reading
@@ -19,7 +20,7 @@ use Rattle.vap_watch.specs.declared.fault.PublishFault.TheVariants as publishing
 use Rattle.vap_watch.specs.declared.fault.StageFault.{StageFault}
 use Rattle.vap_watch.specs.declared.fault.StageFault.TheVariants as staging
 use Rattle.vap_replay.specs.declared.fault.LineFault.{LineFault}
-use Rattle.vap_replay.specs.declared.fault.LineFault.TheVariants.{LogFull, TooManyObjects, Unverified, Pattern}
+use Rattle.vap_replay.specs.declared.fault.LineFault.TheVariants.{LogFull, TooManyObjects, Unverified}
 use Rattle.vap_replay.specs.declared.fault.ReplayError.{ReplayError}
 use Rattle.vap_replay.specs.declared.fault.ReplayError.TheVariants.{Line, Read, OutOfMemory}
 use Rattle.vap_replay.specs.declared.session.Session.{Session}
@@ -88,18 +89,9 @@ abbrev pub first_with : List Request → ℕ → ℕ → ℕ
 first_with [] first line = line
 first_with (request ∷ requests) first line = first
 
--- at one of these requests the set of a log looks for a pattern
-pub record OneMayMatch (log : List Logged) (requests : List Request) : Type 0 where
-  pub request : Request
-  pub waits : Contains requests request
-  pub matches : MayMatch (set_of log) request
-
--- a group that waits is not judged, which is reported at its first line: at one of its requests a pattern is looked for
-pub record TellsGroup (s : Session) (number : ℕ) (why : LineFault) : Type 0 where
-  pub numbered : number ≡ s.first
-  pub pattern : why ≡ Pattern
-  pub waiting : s.group.items ≢ []
-  pub one : OneMayMatch s.writer.published s.group.items
+-- a group that waits is not judged, which is reported at its first line
+abbrev pub TellsGroup : Session → ℕ → LineFault → Type 0
+TellsGroup s number why = TellsRequests s.first s.writer.published s.group.items number why
 
 -- what a failure to read a line is to the whole
 abbrev pub error_of_line : LineError → ReplayError

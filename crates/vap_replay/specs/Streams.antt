@@ -17,10 +17,13 @@ use Rattle.vap_replay.specs.declared.fault.LineFault.TheVariants as fault
 use Rattle.vap_replay.specs.declared.line.Line.{Line}
 use Rattle.vap_replay.specs.declared.line.Line.TheVariants.{Happens, Asks, Refused}
 
--- whether the lines alone determine a fault: they do not of a set or a pattern that cannot be built
+-- whether the lines alone determine a fault: they do not of a set or a pattern that cannot be built, nor of workers
 abbrev pub is_of_the_lines : LineFault → Bool
 is_of_the_lines fault.Unverified = false
 is_of_the_lines fault.Pattern = false
+is_of_the_lines fault.Stray = false
+is_of_the_lines fault.NoPlace = false
+is_of_the_lines (fault.OfWorkers f) = false
 is_of_the_lines _ = true
 
 -- if a line is refused as it is read, the lines alone determine this

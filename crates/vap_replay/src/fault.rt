@@ -7,6 +7,7 @@ ghost use Rattle.vap_replay.specs.Sessions.{unpublished, unstaged};
 use std::alloc::{AllocError, AllocFailed};
 use thiserror::Error;
 use vap_lines::LineError;
+use vap_plane::PlaneFault;
 use vap_read::EventFault;
 use vap_request::ReviewFault;
 use vap_watch::{PublishError, PublishFault, StageFault};
@@ -36,10 +37,20 @@ pub enum LineFault {
     /// A pattern that was built when the set was built is not built again. The line is the first of a group of reviews.
     #[error("a pattern is not built again")]
     Pattern,
+    /// A review of a group was judged at another log than that of the events before it, or the history of the workers is not what
+    /// they answered. The line is the first of the group.
+    #[error("an answer that is not of the events before it")]
+    Stray,
+    /// A worker has no reader. The line is 0.
+    #[error("there are as many readers as there may be")]
+    NoPlace,
+    /// A review of a group is not answered. The line is the first of the group.
+    #[error("{0}")]
+    OfWorkers(PlaneFault),
 }
 
 impl LineFault {
-    /// The name that is printed: of a fault of an event or a review the innermost fault's.
+    /// The name that is printed: of a fault of an event, a review or workers the innermost fault's.
     pub fn name(&self) -> &'static str
         ensures { result.now ≡ line_fault_name self.now }
     {
@@ -54,6 +65,9 @@ impl LineFault {
             LineFault::AuditFull => "AuditFull",
             LineFault::Unverified => "Unverified",
             LineFault::Pattern => "Pattern",
+            LineFault::Stray => "Stray",
+            LineFault::NoPlace => "NoPlace",
+            LineFault::OfWorkers(fault) => fault.name(),
         }
     }
 }

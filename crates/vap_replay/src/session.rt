@@ -3,41 +3,47 @@
 ghost use Rattle.std.specs.Prelude.{◌≡◌, ◌≢◌, ◌+◌, ◌<◌, ◌≤◌, ◌^◌, ◌∷◌, ◌++◌, ℕ, [], false, true};
 ghost use Rattle.std.specs.Prelude.{length, take, slice_get, Some, IfErr, IfOk, IsErr, IsErrOf, OnOk, string_bytes};
 ghost use Rattle.std.specs.Io.KnownBytes.{Appends, Keeps};
-ghost use Rattle.failing.specs.declared.failed.Failed.TheVariants.{Fault};
-ghost use Rattle.cel_machine.specs.declared.fault.RunFault.TheVariants.{Pattern};
+ghost use Rattle.std.specs.Vec.Iter.{into_iter_items};
 ghost use Rattle.vap_lines.specs.Counted.{inner_of};
 ghost use Rattle.vap_lines.specs.Lines.{longest_line};
 ghost use Rattle.vap_audit.specs.Entries.{most_entries};
 ghost use Rattle.vap_audit.specs.declared.entry.Entry.{Entry as EntryOf};
-ghost use Rattle.vap_watch.specs.Given.{AreUnverified, MayMatch};
-ghost use Rattle.vap_watch.specs.Logs.{objects_after, objects_of, set_of};
+ghost use Rattle.vap_plane.specs.Answers.{verdicts_at};
+ghost use Rattle.vap_watch.specs.Given.{AreUnverified};
+ghost use Rattle.vap_watch.specs.Logs.{objects_after, objects_of, verdict_at};
+ghost use Rattle.vap_watch.specs.Places.{at};
 ghost use Rattle.vap_replay.specs.Moves.{CountsWrites, IsRefusal, IsUnjudged, IsUnpublished, RefusesAt, StopsAt, Takes, Waits, Writes};
 ghost use Rattle.vap_replay.specs.Streams.{IsPlain, is_of_the_lines};
 ghost use Rattle.vap_replay.specs.declared.fault.LineFault.{LineFault as FaultOf};
 ghost use Rattle.vap_replay.specs.Lines.{Reads};
 ghost use Rattle.vap_replay.specs.Replay.{answer_line, answers_text, audit_line, audit_lines, audit_where, entry_of};
-ghost use Rattle.vap_replay.specs.Sessions.{Answered, Decided, HasRoom, IsInStep, IsOpening, OneMayMatch, RefusesEvent, TakesEvent};
-ghost use Rattle.vap_replay.specs.Sessions.{TakesReview, TellsGroup, first_with, sofar_of, waiting_entries};
+ghost use Rattle.vap_replay.specs.Groups.{OneMayMatch};
+ghost use Rattle.vap_replay.specs.Sessions.{Answered, Decided, HasRoom, IsInStep, IsOpening, RefusesEvent, TakesEvent, TakesReview};
+ghost use Rattle.vap_replay.specs.Sessions.{TellsGroup, first_with, group_entries, sofar_of, waiting_entries};
 
 use crate::audit_line::audit_text;
+use crate::crew::Crew;
 use crate::fault::{LineFault, ReplayError, unpublished, unstaged};
 use crate::line::{Line, read_line};
 use std::alloc::{AllocError, Global};
 use std::io::Write;
 use std::mem;
-use vap_answer::answer_text;
+use std::sync::Wait;
+use std::thread::Threads;
+use std::vec::IntoIter;
+use vap_answer::{Verdict, answer_text};
 use vap_audit::{AuditFault, Entry, History, MOST_ENTRIES};
-use vap_judge::{JudgeError, Matchers, RunFault};
 use vap_lines::Counted;
+use vap_plane::Plan;
 use vap_read::{Event, EventReader};
 use vap_request::Request;
-use vap_watch::{Writer, open};
+use vap_watch::Writer;
 
 /// The most reviews that are judged together.
 pub const LARGEST_GROUP: usize = 1_024;
 
-/// A replay under way: what reads its events, what is published, what was decided, and the reviews that are read and not yet
-/// answered, with the line of the first of them.
+/// A replay under way: what reads its events, what is published, what was decided, by call, and the reviews that are read and not
+/// yet answered, with the line of the first of them.
 #[derive(Drop)]
 pub(crate) struct Session {
     alloc: Global,
@@ -45,13 +51,13 @@ pub(crate) struct Session {
     pub(crate) writer: Writer,
     pub(crate) history: History,
     pub(crate) group: Vec<Request>,
-    pub(crate) matchers: Matchers,
     pub(crate) lines: u64,
     pub(crate) first: u64,
 }
 
 impl Session {
-    pub(crate) fn new(alloc: Global) -> Result<Session, ReplayError>
+    pub(crate) fn new(alloc: Global, writer: Writer) -> Result<Session, ReplayError>
+        requires { writer ≡ at [] [] }
         ensures opening { IfOk result IsOpening }
         ensures lines { (number : ℕ) → (why : FaultOf) → IsErrOf result (ReplayError.Line number why) → is_of_the_lines why ≡ false }
         ensures unwritten { IfErr result (λ error. error ≢ ReplayError.Write) }
@@ -61,10 +67,9 @@ impl Session {
         Ok(Session {
             alloc,
             events: EventReader::new(alloc)?,
-            writer: open(alloc)?,
+            writer,
             history: History::new(alloc),
             group: Vec::new(alloc),
-            matchers: Matchers::new(alloc),
             lines: 0,
             first: 0,
         })
@@ -89,8 +94,9 @@ impl Session {
     }
 
     /// Takes one line more: an event when the reviews before it are answered, a review into the group.
-    pub(crate) fn take<W: Write>(
+    pub(crate) fn take<L: Plan + Send + Sync, H: Threads + Wait + Sync, W: Write>(
         &mut self,
+        crew: &mut Crew<'_, L, H>,
         line: Line,
         out: &mut Counted<W>,
     ) -> Result<(), ReplayError>
@@ -113,19 +119,20 @@ impl Session {
         self.lines += 1;
         match line {
             Line::Skipped => Ok(()),
-            Line::Asks(request) => self.take_review(request, out),
+            Line::Asks(request) => self.take_review(crew, request, out),
             Line::Happens(event) => {
-                self.answer_group(out)?;
-                self.take_event(event)
+                self.answer_group(crew, out)?;
+                self.take_event(crew.rt, event)
             }
-            Line::Refused(fault) => self.refuse(fault, out),
+            Line::Refused(fault) => self.refuse(crew, fault, out),
         }
     }
 
     /// Answers the reviews before the line that was read last, and refuses this line.
     #[tactic(auto, using(crate::proofs::Taking::not_both, crate::proofs::Told::stops_here, crate::proofs::Told::stops_behind))]
-    fn refuse<W: Write>(
+    fn refuse<L: Plan + Send + Sync, H: Threads + Wait + Sync, W: Write>(
         &mut self,
+        crew: &mut Crew<'_, L, H>,
         fault: LineFault,
         out: &mut Counted<W>,
     ) -> Result<(), ReplayError>
@@ -139,13 +146,13 @@ impl Session {
             → IsErrOf result (ReplayError.Line number why) → TellsGroup self.old number why × (out.new ≡ out.old) }
         ensures no_read { IsErrOf result ReplayError.Read → ⊥ }
     {
-        self.answer_group(out)?;
+        self.answer_group(crew, out)?;
         Err(self.refusal(fault))
     }
 
     /// Stages an event and publishes it.
     #[tactic(auto, using(crate::proofs::Taking::staged_not, crate::proofs::Taking::published_not))]
-    fn take_event(&mut self, event: Event) -> Result<(), ReplayError>
+    fn take_event<H: Wait>(&mut self, rt: &H, event: Event) -> Result<(), ReplayError>
         requires published { self.old.writer.staged ≡ [] }
         ensures published { OnOk result (self.new.writer.staged ≡ []) }
         ensures taken { OnOk result (TakesEvent self.old.writer.published event self.new.writer.published) }
@@ -161,7 +168,7 @@ impl Session {
         if let Err((fault, _)) = self.writer.stage(event) {
             return Err(unstaged(self.lines, fault));
         }
-        match self.writer.publish() {
+        match self.writer.publish(rt) {
             Ok(_) => Ok(()),
             Err(error) => Err(unpublished(self.lines, error)),
         }
@@ -170,8 +177,9 @@ impl Session {
     /// Puts a review into the group, and answers the group where it is as large as it may be, or the history has no room for
     /// more.
     #[tactic(auto, using(crate::proofs::Told::stops_here, crate::proofs::Unjudged::group_first))]
-    fn take_review<W: Write>(
+    fn take_review<L: Plan + Send + Sync, H: Threads + Wait + Sync, W: Write>(
         &mut self,
+        crew: &mut Crew<'_, L, H>,
         request: Request,
         out: &mut Counted<W>,
     ) -> Result<(), ReplayError>
@@ -196,11 +204,11 @@ impl Session {
         ensures no_read { IsErrOf result ReplayError.Read → ⊥ }
     {
         if self.waiting() == MOST_ENTRIES {
-            return self.refuse(LineFault::AuditFull, out);
+            return self.refuse(crew, LineFault::AuditFull, out);
         }
         self.wait(request)?;
         if self.group.len() == LARGEST_GROUP || self.waiting() == MOST_ENTRIES {
-            self.answer_group(out)?;
+            self.answer_group(crew, out)?;
         }
         Ok(())
     }
@@ -234,8 +242,12 @@ impl Session {
         self.history.len() + self.group.len()
     }
 
-    /// Judges the group, records what is decided, and then writes the answers. Before all are recorded, none is written.
-    pub(crate) fn answer_group<W: Write>(&mut self, out: &mut Counted<W>) -> Result<(), ReplayError>
+    /// Has the group judged, records what is decided, and then writes the answers. Before all are recorded, none is written.
+    pub(crate) fn answer_group<L: Plan + Send + Sync, H: Threads + Wait + Sync, W: Write>(
+        &mut self,
+        crew: &mut Crew<'_, L, H>,
+        out: &mut Counted<W>,
+    ) -> Result<(), ReplayError>
         requires room { HasRoom self.old }
         ensures answered { OnOk result (Answered self.old self.new) }
         ensures written { OnOk result (Appends (W.contents (inner_of out.old)) (W.contents (inner_of out.new))
@@ -246,12 +258,15 @@ impl Session {
         ensures pattern { (number : ℕ) → (why : FaultOf) → IsErrOf result (ReplayError.Line number why) → TellsGroup self.old number why }
         ensures no_read { IsErrOf result ReplayError.Read → ⊥ }
     {
-        let text = self.decide_group()?;
+        let text = self.decide_group(crew)?;
         write_text(text.as_str(), out)
     }
 
-    /// Judges the group and records what is decided. The text is that of the answers, read from the history.
-    fn decide_group(&mut self) -> Result<String, ReplayError>
+    /// Has the group judged by all workers, and records what is decided. The text is that of the answers, read from the history.
+    fn decide_group<L: Plan + Send + Sync, H: Threads + Wait + Sync>(
+        &mut self,
+        crew: &mut Crew<'_, L, H>,
+    ) -> Result<String, ReplayError>
         requires room { HasRoom self.old }
         ensures answered { OnOk result (Answered self.old self.new) }
         ensures text { IfOk result (λ text. string_bytes text
@@ -261,32 +276,56 @@ impl Session {
         ensures pattern { (number : ℕ) → (why : FaultOf) → IsErrOf result (ReplayError.Line number why) → TellsGroup self.old number why }
         ensures no_read { IsErrOf result ReplayError.Read → ⊥ }
     {
+        let first = self.history.len() as u64;
+        let snapshot = self.writer.snapshot();
+        let verdicts = crew.judge(self.first, first, snapshot, self.group.as_slice())?;
         let group = mem::replace(&mut self.group, Vec::new(self.alloc));
+        let text = self.decide_all(group, verdicts)?;
+        Ok(text)
+    }
+
+    /// Records what is decided on requests, in order. The text is that of the answers, read from the history.
+    fn decide_all(
+        &mut self,
+        group: Vec<Request>,
+        verdicts: Vec<Verdict>,
+    ) -> Result<String, ReplayError>
+        requires right { verdicts.items ≡ verdicts_at self.old.writer.published group.items }
+        requires room { length self.old.history + length group.items ≤ most_entries }
+        requires none { self.old.group.items ≡ [] }
+        ensures decided { OnOk result
+            (Decided self.old self.new (group_entries self.old.writer.published (length self.old.history) group.items)) }
+        ensures none { OnOk result (self.new.group.items ≡ []) }
+        ensures text { IfOk result (λ text. string_bytes text
+            ≡ answers_text (group_entries self.old.writer.published (length self.old.history) group.items)) }
+        ensures memory { IfErr result (λ error. error ≡ ReplayError.OutOfMemory) }
+    {
         let mut text = String::new(self.alloc);
+        let mut answers = verdicts.into_iter();
         for request in group {
-            self.decide(request, &mut text)?;
+            let verdict = next_of(&mut answers);
+            self.decide(request, verdict, &mut text)?;
         }
         Ok(text)
     }
 
-    /// Judges one request, records what is decided, and adds its answer to the end of the text.
-    fn decide(&mut self, request: Request, text: &mut String) -> Result<(), ReplayError>
-        requires { length self.old.history < most_entries }
+    /// Records what is decided on one request, and adds its answer to the end of the text.
+    fn decide(
+        &mut self,
+        request: Request,
+        verdict: Verdict,
+        text: &mut String,
+    ) -> Result<(), ReplayError>
+        requires right { verdict ≡ verdict_at self.old.writer.published request }
+        requires room { length self.old.history < most_entries }
         ensures decided { OnOk result
             (Decided self.old self.new (entry_of self.old.writer.published (length self.old.history) request ∷ [])) }
         ensures group { self.new.group ≡ self.old.group }
         ensures text { OnOk result (string_bytes text.new ≡ string_bytes text.old
             ++ answers_text (entry_of self.old.writer.published (length self.old.history) request ∷ [])) }
-        ensures lines { (number : ℕ) → (why : FaultOf) → IsErrOf result (ReplayError.Line number why) → is_of_the_lines why ≡ false }
-        ensures unwritten { IfErr result (λ error. error ≢ ReplayError.Write) }
-        ensures first { self.new.first ≡ self.old.first }
-        ensures pattern { (number : ℕ) → (why : FaultOf) → IsErrOf result (ReplayError.Line number why)
-            → (number ≡ self.old.first) × (why ≡ LineFault.Pattern) }
-        ensures asked { (number : ℕ) → (why : FaultOf) → IsErrOf result (ReplayError.Line number why)
-            → MayMatch (set_of self.old.writer.published) request }
-        ensures no_read { IsErrOf result ReplayError.Read → ⊥ }
+        ensures memory { IfErr result (λ error. error ≡ ReplayError.OutOfMemory) }
     {
-        let number = self.record(request)?;
+        let number = self.record(request, verdict)?;
         let line = self.answer_line(number)?;
         text.push_str(line.as_str())?;
         Ok(())
@@ -309,31 +348,19 @@ impl Session {
         Ok(answer)
     }
 
-    /// Judges one request at the published log and records what is decided, under the next number.
-    fn record(&mut self, request: Request) -> Result<usize, ReplayError>
-        requires { length self.old.history < most_entries }
+    /// Records what is decided on one request at the published log, under the next number.
+    fn record(&mut self, request: Request, verdict: Verdict) -> Result<usize, ReplayError>
+        requires right { verdict ≡ verdict_at self.old.writer.published request }
+        requires room { length self.old.history < most_entries }
         ensures decided { OnOk result
             (Decided self.old self.new (entry_of self.old.writer.published (length self.old.history) request ∷ [])) }
         ensures number { IfOk result (λ number. number ≡ length self.old.history) }
         ensures group { self.new.group ≡ self.old.group }
-        ensures lines { (number : ℕ) → (why : FaultOf) → IsErrOf result (ReplayError.Line number why) → is_of_the_lines why ≡ false }
-        ensures unwritten { IfErr result (λ error. error ≢ ReplayError.Write) }
-        ensures first { self.new.first ≡ self.old.first }
-        ensures pattern { (number : ℕ) → (why : FaultOf) → IsErrOf result (ReplayError.Line number why)
-            → (number ≡ self.old.first) × (why ≡ LineFault.Pattern) }
-        ensures asked { (number : ℕ) → (why : FaultOf) → IsErrOf result (ReplayError.Line number why)
-            → MayMatch (set_of self.old.writer.published) request }
-        ensures no_read { IsErrOf result ReplayError.Read → ⊥ }
+        ensures memory { IfErr result (λ error. error ≡ ReplayError.OutOfMemory) }
     {
-        let snapshot = self.writer.snapshot();
-        let log = snapshot.share_log()?;
-        let verdict = match snapshot.judge(self.alloc, &request, &mut self.matchers) {
-            Ok(verdict) => verdict,
-            Err(error) => return Err(unjudged(self.first, error)),
-        };
         let entry = Entry {
             call: self.history.len() as u64,
-            log,
+            log: self.writer.snapshot().share_log()?,
             request,
             verdict,
             worker: 0,
@@ -419,19 +446,13 @@ fn flush<W: Write>(out: &mut Counted<W>) -> Result<(), ReplayError>
     }
 }
 
-/// Why a group of reviews is not judged, which is reported at its first line.
-fn unjudged(first: u64, error: JudgeError) -> ReplayError
-    ensures lines { (number : ℕ) → (why : FaultOf) → result ≡ ReplayError.Line number why → is_of_the_lines why ≡ false }
-    ensures unwritten { result ≢ ReplayError.Write }
-    ensures pattern { (number : ℕ) → (why : FaultOf) → result ≡ ReplayError.Line number why → (number ≡ first) × (why ≡ LineFault.Pattern) }
-    ensures told { (number : ℕ) → (why : FaultOf) → result ≡ ReplayError.Line number why → error ≡ Fault Pattern }
-    ensures no_read { result ≢ ReplayError.Read }
+/// The next verdict, of which there is one.
+fn next_of(verdicts: &mut IntoIter<Verdict>) -> Verdict
+    requires { into_iter_items verdicts.old ≢ [] }
+    ensures { into_iter_items verdicts.old ≡ result ∷ into_iter_items verdicts.new }
 {
-    match error {
-        JudgeError::Fault(RunFault::Pattern) => ReplayError::Line {
-            line: first,
-            fault: LineFault::Pattern,
-        },
-        JudgeError::OutOfMemory => ReplayError::OutOfMemory,
-    }
+    let Some(verdict) = verdicts.next() else {
+        unreachable!()
+    };
+    verdict
 }

@@ -11,26 +11,35 @@ ghost use Rattle.vap_replay.specs.Sessions.{IsInStep, IsOpening};
 ghost use Rattle.vap_replay.specs.Streams.{IsUnansweredAt, IsUnverifiedAt, Refuses, Replays, Stops, StopsReading, is_of_the_lines};
 ghost use Rattle.vap_replay.specs.declared.fault.LineFault.{LineFault as FaultOf};
 
+use crate::crew::Crew;
 use crate::fault::{LineFault, ReplayError};
 use crate::line::Line;
 use crate::progress::{Progress, Silent};
 use crate::session::Session;
 use std::alloc::Global;
 use std::io::{Read, Write};
+use std::marker::Brand;
+use std::sync::Wait;
+use std::sync::ledger::Blank;
+use std::thread::Threads;
 use vap_lines::{Counted, Ending, LineReader};
-use vap_watch::revision_of;
+use vap_plane::Plan;
+use vap_watch::{open, revision_of};
 
 /// The most workers.
 pub const MOST_WORKERS: u8 = 16;
 
-/// Reads lines, publishes events and answers reviews; with `audit` the history's lines follow. One worker serves, however many
-/// are asked for. If it answers Ok, nothing is left unread, and the text of the lines is written and nothing else. If it reports
-/// the first line that is refused, the text up to that line is written. After a failed read, out of memory, and where a set or a
-/// pattern cannot be built, the first answers are written, each whole, and nothing else; after a failed write a part of one may be.
-/// `Pattern` is reported with the line of the first review that is not answered, and only if the set of the log before it looks for a
-/// pattern at this review or at a later one; `Unverified` with the line of an event. `Read` is reported if a read failed, or if
-/// there were as many as there may be and each gave a byte, and never else.
-pub fn replay<R: Read, W: Write>(
+/// Reads lines, publishes events and answers reviews; with `audit` the history's lines follow. The reviews of a group are judged by
+/// as many workers as are asked for, each but the first in a thread of its own. What is written is the same however many there are:
+/// its definition does not know of them. If it answers Ok, nothing is left unread, and the text of the lines is written and nothing
+/// else. If it reports the first line that is refused, the text up to that line is written. After a failed read, out of memory, and
+/// where a set or a pattern cannot be built, the first answers are written, each whole, and nothing else; after a failed write a part
+/// of one may be. `Pattern` is reported with the line of the first review that is not answered, and only if the set of the log before
+/// it looks for a pattern at this review or at a later one; `Unverified` with the line of an event. `Read` is reported if a read
+/// failed, or if there were as many as there may be and each gave a byte, and never else. `Stray`, `NoPlace` and the faults of workers
+/// are there for what no proof says of threads: that each answer comes, and once.
+pub fn replay<H: Threads + Wait + Sync, R: Read, W: Write>(
+    rt: &H,
     alloc: Global,
     input: &mut Counted<R>,
     output: &mut Counted<W>,
@@ -57,11 +66,12 @@ pub fn replay<R: Read, W: Write>(
     ensures read { IsErrOf result ReplayError.Read → StopsReading R.remaining input.old input.new }
     ensures no_failure { OnOk result ((failures_of input.new ≡ failures_of input.old) × (failures_of output.new ≡ failures_of output.old)) }
 {
-    replay_with(alloc, input, output, workers, audit, &mut Silent)
+    replay_with(rt, alloc, input, output, workers, audit, &mut Silent)
 }
 
 /// [`replay`], which reports after each line how far it is.
-pub fn replay_with<R: Read, W: Write, P: Progress>(
+pub fn replay_with<H: Threads + Wait + Sync, R: Read, W: Write, P: Progress>(
+    rt: &H,
     alloc: Global,
     input: &mut Counted<R>,
     output: &mut Counted<W>,
@@ -89,16 +99,85 @@ pub fn replay_with<R: Read, W: Write, P: Progress>(
     ensures read { IsErrOf result ReplayError.Read → StopsReading R.remaining input.old input.new }
     ensures no_failure { OnOk result ((failures_of input.new ≡ failures_of input.old) × (failures_of output.new ≡ failures_of output.old)) }
 {
-    let _ = workers;
-    let mut session = Session::new(alloc)?;
-    take_all(alloc, &mut session, input, output, progress)?;
+    let blank = Blank::new(workers as u64);
+    replay_as::<Brand, H, R, W, P>(
+        rt,
+        alloc,
+        input,
+        output,
+        blank,
+        workers as u64,
+        audit,
+        progress,
+    )
+}
+
+/// [`replay_with`], by the workers among whom a ledger is divided.
+fn replay_as<L: Plan + Send + Sync, H: Threads + Wait + Sync, R: Read, W: Write, P: Progress>(
+    rt: &H,
+    alloc: Global,
+    input: &mut Counted<R>,
+    output: &mut Counted<W>,
+    blank: Blank,
+    workers: u64,
+    audit: bool,
+    progress: &mut P,
+) -> Result<(), ReplayError>
+    requires reads { failures_of input.old < 2 ^ 64 - 1 }
+    requires writes { failures_of output.old < 2 ^ 64 - 1 }
+    requires name { blank.name ≡ L.name }
+    requires parts { (blank.parts ≡ L.parts) × (blank.parts ≡ workers) × (workers ≡ L.workers) }
+    requires workers { (1 ≤ workers) × (workers ≤ 16) }
+    ensures all_read { OnOk result (IsAtEnd (R.remaining (inner_of input.new))) }
+    ensures all_written { OnOk result (IfSome (R.remaining (inner_of input.old))
+        (λ bytes. Replays audit bytes (W.contents (inner_of output.old)) (W.contents (inner_of output.new)))) }
+    ensures refused { (line : ℕ) → (fault : FaultOf) → is_of_the_lines fault ≡ true → IsErrOf result (ReplayError.Line line fault)
+        → IfSome (R.remaining (inner_of input.old)) (λ bytes.
+        Refuses audit bytes (W.contents (inner_of output.old)) (W.contents (inner_of output.new)) (record { line = line; fault = fault })) }
+    ensures stopped { IfErr result (λ error. error ≢ ReplayError.Write → IfSome (R.remaining (inner_of input.old)) (λ bytes.
+        Stops audit bytes (W.contents (inner_of output.old)) (W.contents (inner_of output.new)))) }
+    ensures write { IsErrOf result ReplayError.Write → failures_of output.new ≡ failures_of output.old + 1 }
+    ensures pattern { (line : ℕ) → IsErrOf result (ReplayError.Line line LineFault.Pattern) → IfSome (R.remaining (inner_of input.old))
+        (λ bytes. IsUnansweredAt bytes (W.contents (inner_of output.old)) (W.contents (inner_of output.new)) line) }
+    ensures unverified { (line : ℕ) → IsErrOf result (ReplayError.Line line LineFault.Unverified)
+        → IfSome (R.remaining (inner_of input.old))
+        (λ bytes. IsUnverifiedAt bytes (W.contents (inner_of output.old)) (W.contents (inner_of output.new)) line) }
+    ensures read { IsErrOf result ReplayError.Read → StopsReading R.remaining input.old input.new }
+    ensures no_failure { OnOk result ((failures_of input.new ≡ failures_of input.old) × (failures_of output.new ≡ failures_of output.old)) }
+{
+    let (mut session, mut crew) = opened::<L, H>(rt, alloc, blank, workers)?;
+    take_all(alloc, &mut session, &mut crew, input, output, progress)?;
     session.finish(audit, output)
 }
 
+/// A replay of which nothing is read yet, and its workers.
+fn opened<'a, L: Plan + Send + Sync, H: Threads + Wait + Sync>(
+    rt: &'a H,
+    alloc: Global,
+    blank: Blank,
+    workers: u64,
+) -> Result<(Session, Crew<'a, L, H>), ReplayError>
+    requires name { blank.name ≡ L.name }
+    requires parts { (blank.parts ≡ L.parts) × (blank.parts ≡ workers) × (workers ≡ L.workers) }
+    requires workers { (1 ≤ workers) × (workers ≤ 16) }
+    ensures opening { IfOk result (λ made. IsOpening made.0) }
+    ensures lines { (number : ℕ) → (why : FaultOf) → IsErrOf result (ReplayError.Line number why) → is_of_the_lines why ≡ false }
+    ensures unwritten { IfErr result (λ error. error ≢ ReplayError.Write) }
+    ensures no_pattern { (number : ℕ) → IsErrOf result (ReplayError.Line number LineFault.Pattern) → ⊥ }
+    ensures no_image { (number : ℕ) → IsErrOf result (ReplayError.Line number LineFault.Unverified) → ⊥ }
+    ensures no_read { IsErrOf result ReplayError.Read → ⊥ }
+{
+    let (writer, source) = open(alloc, workers as usize)?;
+    let session = Session::new(alloc, writer)?;
+    let crew = Crew::<L, H>::new(rt, alloc, &source, blank, workers)?;
+    Ok((session, crew))
+}
+
 /// Takes each line up to the end of the input, and answers the last group.
-fn take_all<R: Read, W: Write, P: Progress>(
+fn take_all<L: Plan + Send + Sync, H: Threads + Wait + Sync, R: Read, W: Write, P: Progress>(
     alloc: Global,
     session: &mut Session,
+    crew: &mut Crew<'_, L, H>,
     input: &mut Counted<R>,
     output: &mut Counted<W>,
     progress: &mut P,
@@ -123,19 +202,20 @@ fn take_all<R: Read, W: Write, P: Progress>(
     let mut line = Vec::new(alloc);
     let mut ending = Ending::Feed;
     while ending == Ending::Feed {
-        ending = take_next(session, &mut reader, input, &mut line, output)?;
+        ending = take_next(session, crew, &mut reader, input, &mut line, output)?;
         progress.reached(
             session.lines,
             session.history.len(),
             revision_of(session.writer.snapshot()),
         );
     }
-    session.answer_group(output)
+    session.answer_group(crew, output)
 }
 
 /// Takes the next line, by way of `line`, and returns how it ended.
-fn take_next<R: Read, W: Write>(
+fn take_next<L: Plan + Send + Sync, H: Threads + Wait + Sync, R: Read, W: Write>(
     session: &mut Session,
+    crew: &mut Crew<'_, L, H>,
     reader: &mut LineReader,
     input: &mut Counted<R>,
     line: &mut Vec<u8>,
@@ -169,13 +249,14 @@ fn take_next<R: Read, W: Write>(
 {
     line.clear();
     let ending = reader.next(input, line)?;
-    take_bytes(session, line.as_slice(), ending, output)?;
+    take_bytes(session, crew, line.as_slice(), ending, output)?;
     Ok(ending)
 }
 
 /// Takes the bytes of a line, which ended so. The empty end of an input is no line.
-fn take_bytes<W: Write>(
+fn take_bytes<L: Plan + Send + Sync, H: Threads + Wait + Sync, W: Write>(
     session: &mut Session,
+    crew: &mut Crew<'_, L, H>,
     bytes: &[u8],
     ending: Ending,
     output: &mut Counted<W>,
@@ -199,18 +280,19 @@ fn take_bytes<W: Write>(
     ensures no_read { IsErrOf result ReplayError.Read → ⊥ }
 {
     match ending {
-        Ending::TooLong => session.take(Line::Refused(LineFault::TooLong), output),
+        Ending::TooLong => session.take(crew, Line::Refused(LineFault::TooLong), output),
         Ending::Feed => {
             let line = session.read(bytes)?;
-            session.take(line, output)
+            session.take(crew, line, output)
         }
-        Ending::End => take_last(session, bytes, output),
+        Ending::End => take_last(session, crew, bytes, output),
     }
 }
 
 /// Takes the bytes of the last line, which the end of the input ended. The empty end of an input is no line.
-fn take_last<W: Write>(
+fn take_last<L: Plan + Send + Sync, H: Threads + Wait + Sync, W: Write>(
     session: &mut Session,
+    crew: &mut Crew<'_, L, H>,
     bytes: &[u8],
     output: &mut Counted<W>,
 ) -> Result<(), ReplayError>
@@ -235,5 +317,5 @@ fn take_last<W: Write>(
         return Ok(());
     }
     let line = session.read(bytes)?;
-    session.take(line, output)
+    session.take(crew, line, output)
 }

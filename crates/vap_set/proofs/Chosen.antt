@@ -16,7 +16,7 @@ module _ {X : Type 0} (P : X → Type 0) (keep : X → Bool) where
       at true rest = (all.0, rest)
       at false rest = rest
 
-  no_longer : (xs : List X) → length (filter keep xs) ≤ length xs
+  pub no_longer : (xs : List X) → length (filter keep xs) ≤ length xs
   no_longer [] = omega arith
   no_longer (x ∷ xs) = at (keep x) (no_longer xs)
     where

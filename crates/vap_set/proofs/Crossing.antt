@@ -2,14 +2,14 @@
 use denote.Param.Send.{IsSend, IsSync, sendable}
 use Rattle.std.proofs.Crossing.{crosses}
 use Rattle.std.proofs.MapsCrossing.{crosses as map_crosses}
-use Rattle.cel_expression.proofs.Crossing.{value_send, value_sync}
+use Rattle.cel_patterns.proofs.Crossing.{patterns_send, patterns_sync}
+use Rattle.cel_value.proofs.Crossing.{type_send, type_sync, value_send, value_sync}
 use Rattle.vap_bindings.proofs.Crossing.{binding_send, binding_sync}
-use Rattle.vap_kinds.proofs.Crossing.{kind_send, kind_sync, type_send, type_sync}
+use Rattle.vap_kinds.proofs.Crossing.{kind_send, kind_sync, read_send, read_sync}
 use Rattle.vap_policies.proofs.Crossing.{policy_send, policy_sync, spec_send, spec_sync}
-use Rattle.vap_programs.proofs.Crossing.{pair_send, pair_sync}
-use Rattle.vap_read.proofs.Crossing.{map_send, map_sync, object_send, object_sync}
-use Rattle.cel_patterns.specs.contracts.patterns.Patterns as patterns
-use Rattle.vap_programs.specs.contracts.names.ParamsType as params_type
+use Rattle.vap_programs.proofs.Crossing.{pair_send, pair_sync, params_type_send, params_type_sync}
+use Rattle.vap_read.proofs.Crossing.{key_send, key_sync, map_send, map_sync, object_send, object_sync}
+use Rattle.vap_slots.proofs.Crossing.{fixed_send, fixed_sync}
 use Rattle.vap_set.specs.contracts.choice.Choice as choice
 use Rattle.vap_set.specs.contracts.texts.PolicyTexts as policy_texts
 use Rattle.vap_set.specs.contracts.made.Inputs as inputs
@@ -24,23 +24,11 @@ use Rattle.vap_set.specs.contracts.definitions.Definitions as definitions
 use Rattle.vap_set.specs.contracts.rules.Rules as set_rules
 use Rattle.vap_set.specs.contracts.set.PolicySet as policy_set
 
-pub patterns_send : IsSend patterns.the_field.row
-patterns_send = search (map_crosses, sendable, crosses) depth 60 fits 200000
-
-pub patterns_sync : IsSync patterns.the_field.row
-patterns_sync = search (map_crosses, sendable, crosses) depth 60 fits 200000
-
 pub choice_send : IsSend choice.the_field.row
 choice_send = search (sendable, crosses) depth 60 fits 200000
 
 pub choice_sync : IsSync choice.the_field.row
 choice_sync = search (sendable, crosses) depth 60 fits 200000
-
-pub params_type_send : IsSend params_type.the_field.row
-params_type_send = search (type_send, type_sync, sendable, crosses) depth 60 fits 200000
-
-pub params_type_sync : IsSync params_type.the_field.row
-params_type_sync = search (type_send, type_sync, sendable, crosses) depth 60 fits 200000
 
 pub inputs_send : IsSend inputs.the_field.row
 inputs_send =
@@ -89,10 +77,10 @@ pub index_sync : IsSync index.the_field.row
 index_sync = search (bound_send, bound_sync, entry_send, entry_sync, sendable, crosses) depth 60 fits 200000
 
 pub param_send : IsSend param.the_field.row
-param_send = search (value_send, value_sync, object_send, object_sync, sendable, crosses) depth 60 fits 200000
+param_send = search (value_send, value_sync, key_send, object_send, object_sync, sendable, crosses) depth 60 fits 200000
 
 pub param_sync : IsSync param.the_field.row
-param_sync = search (value_send, value_sync, object_send, object_sync, sendable, crosses) depth 60 fits 200000
+param_sync = search (value_send, value_sync, key_sync, object_send, object_sync, sendable, crosses) depth 60 fits 200000
 
 pub params_send : IsSend kind_params.the_field.row
 params_send = search (type_send, type_sync, param_send, param_sync, sendable, crosses) depth 60 fits 200000
@@ -101,20 +89,42 @@ pub params_sync : IsSync kind_params.the_field.row
 params_sync = search (type_send, type_sync, param_send, param_sync, sendable, crosses) depth 60 fits 200000
 
 pub definitions_send : IsSend definitions.the_field.row
-definitions_send = search (kind_send, map_send, sendable, crosses) depth 60 fits 200000
+definitions_send = search (kind_send, read_send, read_sync, map_send, sendable, crosses) depth 60 fits 200000
 
 pub definitions_sync : IsSync definitions.the_field.row
-definitions_sync = search (kind_sync, map_sync, sendable, crosses) depth 60 fits 200000
+definitions_sync = search (kind_sync, read_send, read_sync, map_sync, sendable, crosses) depth 60 fits 200000
 
 pub rules_send : IsSend set_rules.the_field.row
 rules_send =
-    search (choice_send, choice_sync, definitions_send, definitions_sync, patterns_send, patterns_sync, index_send, sendable, crosses)
-    depth 60 fits 200000
+    search (
+      choice_send,
+      choice_sync,
+      definitions_send,
+      definitions_sync,
+      patterns_send,
+      patterns_sync,
+      fixed_send,
+      fixed_sync,
+      index_send,
+      sendable,
+      crosses,
+    ) depth 60 fits 200000
 
 pub rules_sync : IsSync set_rules.the_field.row
 rules_sync =
-    search (choice_send, choice_sync, definitions_send, definitions_sync, patterns_send, patterns_sync, index_sync, sendable, crosses)
-    depth 60 fits 200000
+    search (
+      choice_send,
+      choice_sync,
+      definitions_send,
+      definitions_sync,
+      patterns_send,
+      patterns_sync,
+      fixed_send,
+      fixed_sync,
+      index_sync,
+      sendable,
+      crosses,
+    ) depth 60 fits 200000
 
 pub set_send : IsSend policy_set.the_field.row
 set_send = search (rules_send, rules_sync, params_send, params_sync, map_send, map_sync, sendable, crosses) depth 60 fits 200000

@@ -1,6 +1,6 @@
 -- The params that a set holds of a kind that a policy names.
 use Rattle.std.proofs.Common.{◌≡◌, Bool, true, false, not, cond, ◌||◌, List, [], ◌∷◌, ◌++◌, filter, Option, Some, None, refl, sym, ap}
-use Rattle.std.proofs.Common.{◌∙◌, subst, option_map, option_and_then, option_to_list}
+use Rattle.std.proofs.Common.{◌∙◌, subst, unwrap_or, option_map, option_and_then, option_to_list}
 use Rattle.std.specs.List.{AllByRecursion, find, flat_map, list_any}
 use Rattle.std.proofs.lemmas.List.Folds.{list_any-append}
 use Rattle.cel_value.specs.declared.cel_type.CelType.{CelType}
@@ -13,7 +13,7 @@ use Rattle.vap_policies.specs.declared.policy.Policy.{Policy}
 use Rattle.vap_set.specs.Fitted.{Fitted, each_once, fitted_at, fitted_in, fitted_to, is_same_kind, kind_in, kinds_named, params_of}
 use Rattle.vap_set.specs.Kinds.{kind_of_params}
 use Rattle.vap_set.specs.Ready.{HasItsParams}
-use Rattle.vap_set.specs.Reuse.{AreOf}
+use Rattle.vap_set.specs.Reuse.{AreRefitted, IsKnownBy}
 use Rattle.vap_set.specs.Sets.{holdings_of}
 use Rattle.vap_set.specs.declared.choice.Choice.{Choice}
 use Rattle.vap_set.proofs.Once.{own_kind, same_kind}
@@ -73,18 +73,35 @@ module _ (kinds : List Kind) (c : Cluster) (k : ParamKind) where
   all_found [] = refl
   all_found (j ∷ js) = behind j (flat_map (fitted_in kinds c) js) (is_among k js) (all_found js)
 
--- what is found of a kind among params that objects have is what they have of it
-pub found_theirs : (kinds : List Kind) (c : Cluster) (k : ParamKind) (qs : List Fitted) → AllByRecursion (AreOf kinds c) qs
-    → (q : Fitted) → find (λ p. is_same_kind p.kind k) qs ≡ Some q → params_of kinds c (Some k) ≡ Some q
-found_theirs kinds c k [] all q h = absurd cc
-found_theirs kinds c k (p ∷ qs) all q h = at (is_same_kind p.kind k) refl (found_theirs kinds c k qs all.1 q) h
+-- what is found of a kind among params that objects have is of the kind, and what they have of it by its type
+pub found_kept : (c : Cluster) (k : ParamKind) (qs : List Fitted) → AllByRecursion (AreRefitted c) qs
+    → (q : Fitted) → find (λ p. is_same_kind p.kind k) qs ≡ Some q → AreRefitted c q × (q.kind ≡ k)
+found_kept c k [] all q h = absurd cc
+found_kept c k (p ∷ qs) all q h = at (is_same_kind p.kind k) refl (found_kept c k qs all.1 q) h
   where
     at : (s : Bool) → is_same_kind p.kind k ≡ s
-        → (find (λ p. is_same_kind p.kind k) qs ≡ Some q → params_of kinds c (Some k) ≡ Some q)
-        → cond s (Some p) (find (λ p. is_same_kind p.kind k) qs) ≡ Some q → params_of kinds c (Some k) ≡ Some q
+        → (find (λ p. is_same_kind p.kind k) qs ≡ Some q → AreRefitted c q × (q.kind ≡ k))
+        → cond s (Some p) (find (λ p. is_same_kind p.kind k) qs) ≡ Some q → AreRefitted c q × (q.kind ≡ k)
     at true same rest h =
-        ap (λ (x : ParamKind). params_of kinds c (Some x)) (sym (same_kind p.kind k same)) ∙ all.0 ∙ h
+        let is : p ≡ q = ap (λ (o : Option Fitted). unwrap_or o p) h in
+        subst (λ (x : Fitted). AreRefitted c x × (x.kind ≡ k)) is (all.0, same_kind p.kind k same)
     at false other rest h = rest h
+
+-- they are what the objects have of it, if its type is theirs
+pub kept_theirs : (kinds : List Kind) (c : Cluster) (k : ParamKind) (q : Fitted) → AreRefitted c q × (q.kind ≡ k) → IsKnownBy kinds q
+    → Some q ≡ params_of kinds c (Some k)
+kept_theirs kinds c k q kept known =
+    ap (λ (x : Fitted). Some x) kept.0
+    ∙ sym (known c)
+    ∙ ap (λ (x : ParamKind). params_of kinds c (Some x)) kept.1
+
+-- a kind that is known by the type of params
+pub known_by : (kinds : List Kind) (q : Fitted) (kind : Kind) → kind_of_params kinds q.kind ≡ Some kind
+    → (kind.namespaced ≡ q.namespaced) × (kind.object_type ≡ Some q.cel_type) → IsKnownBy kinds q
+known_by kinds q kind known is c =
+    ap (option_and_then (fitted_at c q.kind)) known
+    ∙ ap (λ (n : Bool). option_map (fitted_to c q.kind n) kind.object_type) is.0
+    ∙ ap (option_map (fitted_to c q.kind q.namespaced)) is.1
 
 -- ---- which kinds there are
 

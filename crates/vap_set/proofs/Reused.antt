@@ -1,30 +1,35 @@
 -- What a set takes over of one before it is that of the objects that events leave.
-use Rattle.std.proofs.Common.{◌≡◌, ℕ, Bool, true, false, cond, List, [], ◌∷◌, ◌++◌, filter, map, Option, Some, None, option_map, refl}
+use Rattle.std.proofs.Common.{◌≡◌, ℕ, Bool, true, false, cond, ◌&&◌, List, [], ◌∷◌, ◌++◌, filter, map, Option, Some, None, option_map, refl}
 use Rattle.std.proofs.Common.{sym, ap, ◌∙◌, subst}
 use Rattle.std.specs.Prelude.{option_and_then, option_to_list}
+use Rattle.std.specs.BTreeMap.{is_at}
 use Rattle.std.specs.List.{All, AllByRecursion, flat_map}
 use Rattle.std.proofs.lemmas.List.{map-append}
 use Rattle.std.proofs.lemmas.List.Elements.{All-from_recursion}
+use Rattle.std.proofs.lemmas.Map.Entries.{lookup-filter-keys}
 use Rattle.plain.specs.declared.text.Keyed.{Keyed}
 use Rattle.cel_value.specs.declared.cel_type.CelType.{CelType}
 use Rattle.vap_kinds.specs.Definitions.{is_definition}
 use Rattle.vap_kinds.specs.declared.kind.Kind.{Kind}
 use Rattle.vap_objects.specs.After.{after_all}
-use Rattle.vap_objects.specs.Classes.{all_miss, is_namespace, is_rule}
+use Rattle.vap_objects.specs.Classes.{all_miss, is_key, is_namespace, is_rule, of_class}
 use Rattle.vap_objects.specs.Cluster.{Cluster}
 use Rattle.vap_objects.specs.Listed.{bindings_in, kinds_in, policies_in}
-use Rattle.vap_objects.specs.OfKind.{namespaces_in}
-use Rattle.vap_objects.proofs.Classed.{class_stays}
+use Rattle.vap_objects.specs.OfKind.{namespaces_in, object_at}
+use Rattle.vap_objects.proofs.Classed.{class_stays, this_key}
 use Rattle.vap_objects.proofs.Staying.{bindings_stay, defined_kinds_stay, kinds_stay, of_kind_stay, policies_stay}
 use Rattle.vap_policies.specs.declared.policy.ParamKind.{ParamKind}
 use Rattle.vap_policies.specs.declared.policy.Policy.{Policy}
+use Rattle.vap_read.specs.Keys.{key_cmp}
 use Rattle.vap_read.specs.declared.event.Event.{Event}
 use Rattle.vap_read.specs.declared.key.Key.{Key}
 use Rattle.vap_read.specs.declared.object.Object.{Object}
-use Rattle.vap_set.specs.Fitted.{Fitted, all_params, fitted_at, fitted_in, fitted_to, kinds_named, refitted, spelled}
+use Rattle.vap_set.specs.Fitted.{Fitted, all_params, entries_of, fitted_at, fitted_in, fitted_to, is_of_params, kinds_named}
+use Rattle.vap_set.specs.Fitted.{objects_of, refitted, spelled}
+use Rattle.vap_set.specs.Keyed.{is_in}
 use Rattle.vap_set.specs.Kinds.{kind_of_params}
 use Rattle.vap_set.specs.Patterns.{IsChoiceFor, of_policies}
-use Rattle.vap_set.specs.Reuse.{AreOf, AreStill, IsBefore, StaysUnless, is_untouched, untouched_in}
+use Rattle.vap_set.specs.Reuse.{AreRefitted, AreStill, IsBefore, StaysUnless, is_untouched}
 use Rattle.vap_set.specs.Sets.{Holdings, held_by, holdings_of, of_bound, policies_by}
 use Rattle.vap_set.specs.declared.choice.Choice.{Choice}
 use Rattle.vap_set.specs.declared.rules.Rules.{Rules}
@@ -59,10 +64,44 @@ module _ (P : Fitted → Type 0) where
   all_both [] ys one two = two
   all_both (x ∷ xs) ys one two = (one.0, all_both xs ys one.1 two)
 
+both_are : (a b : Bool) → b ≡ true → (a && b) ≡ a
+both_are true b h = h
+both_are false b h = refl
+
+-- what stands under a key of a class stays where no event touches it
+under_stays : (class : Key → Bool) (k : Key) (es : List Event) (c : Cluster) → all_miss (is_in class k) es ≡ true
+    → object_at k (of_class class c.objects) ≡ object_at k (of_class class (after_all es c).objects)
+under_stays class k es c missed =
+    found c.objects ∙ ap (object_at k) (sym (class_stays (is_in class k) es c missed)) ∙ sym (found (after_all es c).objects)
+  where
+    same : (l : Key) → is_key k l ≡ true → class l ≡ class k
+    same l is = sym (ap class (this_key k l is))
+
+    found : (os : List (Key × Object)) → object_at k (of_class class os) ≡ object_at k (of_class (is_in class k) os)
+    found os =
+        lookup-filter-keys (is_at (key_cmp k)) class (class k) same os
+        ∙ sym (lookup-filter-keys (is_at (key_cmp k)) (is_in class k) (class k)
+        (λ l is. both_are (class l) (is_key k l) is ∙ same l is) os)
+
+-- the params of a kind stay where no event touches one
+fitted_stay : (es : List Event) (c : Cluster) (k : ParamKind) (n : Bool) (t : CelType) → all_miss (is_of_params k) es ≡ true
+    → fitted_to (after_all es c) k n t ≡ fitted_to c k n t
+fitted_stay es c k n t missed =
+    let entries : entries_of k (after_all es c) ≡ entries_of k c = class_stays (is_of_params k) es c missed in
+    let objects : objects_of k (after_all es c) ≡ objects_of k c = of_kind_stay (spelled k.api_version) k.kind es c missed in
+    ap (λ (p : List (Key × Object) × List Object). record { kind = k; namespaced = n; cel_type = t; entries = p.0; objects = p.1 })
+    (λ i. (entries i, objects i))
+
 typed_still : (es : List Event) (c : Cluster) (k : ParamKind) (n : Bool) (t : Option CelType)
     → AllByRecursion (AreStill (after_all es c) es) (option_to_list (option_map (fitted_to c k n) t))
 typed_still es c k n None = tt
-typed_still es c k n (Some t) = (λ missed. of_kind_stay (spelled k.api_version) k.kind es c missed, tt)
+typed_still es c k n (Some t) = (
+  record {
+    all = λ missed. sym (fitted_stay es c k n t missed);
+    each = λ key missed. under_stays (is_of_params k) key es c missed;
+  },
+  tt,
+)
 
 known_still : (es : List Event) (c : Cluster) (k : ParamKind) (found : Option Kind)
     → AllByRecursion (AreStill (after_all es c) es) (option_to_list (option_and_then (fitted_at c k) found))
@@ -94,79 +133,17 @@ params_still h es c before =
 -- where no event touches them, the params of a kind are what they were
 pub same_again : (c : Cluster) (es : List Event) (q : Fitted) → AreStill c es q → is_untouched es q ≡ true → q ≡ refitted c q
 unfolding is_untouched
-same_again c es q still missed =
-    ap (λ (os : List Object). record { kind = q.kind; namespaced = q.namespaced; cel_type = q.cel_type; objects = os })
-    (sym (still missed))
+same_again c es q still missed = still.all missed
 
-kept_all : (P : Fitted → Type 0) (m : Fitted → Bool) (qs : List Fitted) → AllByRecursion (λ q. m q ≡ true → P q) qs
-    → AllByRecursion P (filter m qs)
-kept_all P m [] all = tt
-kept_all P m (q ∷ qs) all = at (m q) refl (kept_all P m qs all.1)
-  where
-    at : (b : Bool) → m q ≡ b → AllByRecursion P (filter m qs) → AllByRecursion P (cond b (q ∷ filter m qs) (filter m qs))
-    at true is rest = (all.0 is, rest)
-    at false is rest = rest
+each_refitted : (c : Cluster) (qs : List Fitted) → AllByRecursion (AreRefitted c) (map (refitted c) qs)
+each_refitted c [] = tt
+each_refitted c (q ∷ qs) = (refl, each_refitted c qs)
 
-module _ (kinds : List Kind) (es : List Event) (c : Cluster) where
-  -- where no event touches them they are those that the objects have after the events
-  abbrev AreTheirs : Fitted → Type 0
-  AreTheirs q = is_untouched es q ≡ true → AreOf kinds (after_all es c) q
-
-  typed_theirs : (k : ParamKind) (kind : Kind) → kind_of_params kinds k ≡ Some kind → (t : Option CelType) → kind.object_type ≡ t
-      → AllByRecursion AreTheirs (option_to_list (option_map (fitted_to c k kind.namespaced) t))
-  unfolding is_untouched
-  typed_theirs k kind known None has = tt
-  typed_theirs k kind known (Some t) has = (
-    λ missed.
-        ap (option_and_then (fitted_at (after_all es c) k)) known
-        ∙ ap (option_map (fitted_to (after_all es c) k kind.namespaced)) has
-        ∙ ap (λ (os : List Object). Some (record { kind = k; namespaced = kind.namespaced; cel_type = t; objects = os }))
-        (of_kind_stay (spelled k.api_version) k.kind es c missed),
-    tt,
-  )
-
-  known_theirs : (k : ParamKind) (found : Option Kind) → kind_of_params kinds k ≡ found
-      → AllByRecursion AreTheirs (option_to_list (option_and_then (fitted_at c k) found))
-  known_theirs k None known = tt
-  known_theirs k (Some kind) known = typed_theirs k kind known kind.object_type refl
-
-  fitted_theirs : (ks : List ParamKind) → AllByRecursion AreTheirs (flat_map (fitted_in kinds c) ks)
-  unfolding fitted_in
-  fitted_theirs [] = tt
-  fitted_theirs (k ∷ ks) =
-      all_both AreTheirs (fitted_in kinds c k) (flat_map (fitted_in kinds c) ks)
-      (known_theirs k (kind_of_params kinds k) refl) (fitted_theirs ks)
-
-built_untouched : (es : List Event) (c : Cluster) (choice : Choice)
-    → AllByRecursion (AreOf (kinds_in (after_all es c).objects) (after_all es c)) (untouched_in es (holdings_of c choice).params)
-unfolding holdings_of untouched_in
-built_untouched es c choice = at (all_miss is_definition es) refl
-  where
-    kept : AllByRecursion (AreOf (kinds_in c.objects) (after_all es c))
-        (filter (is_untouched es) (all_params (kinds_in c.objects) c (policies_in c.objects)))
-    kept =
-        kept_all (AreOf (kinds_in c.objects) (after_all es c)) (is_untouched es)
-        (all_params (kinds_in c.objects) c (policies_in c.objects))
-        (fitted_theirs (kinds_in c.objects) es c (kinds_named (policies_in c.objects)))
-
-    at : (b : Bool) → all_miss is_definition es ≡ b
-        → AllByRecursion (AreOf (kinds_in (after_all es c).objects) (after_all es c))
-        (cond b (filter (is_untouched es) (all_params (kinds_in c.objects) c (policies_in c.objects))) [])
-    at true missed =
-        subst (λ (kinds : List Kind). AllByRecursion (AreOf kinds (after_all es c))
-        (filter (is_untouched es) (all_params (kinds_in c.objects) c (policies_in c.objects))))
-        (sym (defined_kinds_stay es c missed)) kept
-    at false touched = tt
-
--- those params of a set that events leave as they were are those that the objects have after them
-pub params_untouched : (h : Holdings) (es : List Event) (c : Cluster) → IsBefore h es c
-    → All (AreOf (kinds_in c.objects) c) (untouched_in es h.params)
-params_untouched h es c before =
-    subst (λ (d : Cluster). All (AreOf (kinds_in d.objects) d) (untouched_in es h.params)) (sym before.after)
-    (subst (λ (g : Holdings). All (AreOf (kinds_in (after_all es before.objects).objects) (after_all es before.objects))
-    (untouched_in es g.params)) (sym before.is)
-    (All-from_recursion (AreOf (kinds_in (after_all es before.objects).objects) (after_all es before.objects))
-    (untouched_in es (holdings_of before.objects h.choice).params) (built_untouched es before.objects h.choice)))
+-- what is fitted again to the same types is what objects have by these
+pub all_refitted : (c : Cluster) (qs rs : List Fitted) → rs ≡ map (refitted c) qs → All (AreRefitted c) rs
+all_refitted c qs rs is =
+    subst (λ (xs : List Fitted). All (AreRefitted c) xs) (sym is)
+    (All-from_recursion (AreRefitted c) (map (refitted c) qs) (each_refitted c qs))
 
 -- ---- Namespaces and kinds
 

@@ -1,9 +1,11 @@
 pub mod Kinds
 pub mod Fitted
+pub mod Keyed
 pub mod Seen
 pub mod Made
 pub mod Parts
 pub mod Sets
+pub mod Still
 pub mod Reuse
 pub mod Ready
 pub mod Whole

@@ -1,10 +1,21 @@
 //! What events change of policies and kinds.
 
+ghost use Rattle.std.specs.Prelude.{◌≡◌, List, IfSome, IsTrue};
+ghost use Rattle.std.specs.Option.{option_copied};
+ghost use Rattle.plain.specs.declared.text.Keyed.{Keyed as Bound};
+ghost use Rattle.vap_bindings.specs.declared.binding.Binding.{Binding as BindingOf};
+ghost use Rattle.vap_kinds.specs.declared.kind.Kind.{Kind as KindOf};
+ghost use Rattle.vap_set.specs.Sets.{bound_of};
+ghost use Rattle.vap_set.specs.Still.{AreBound, IsBound};
+ghost use Rattle.vap_set.specs.declared.choice.Choice.{Choice as ChoiceOf};
+
 use crate::bound::BoundPolicy;
+use crate::choice::Choice;
 use crate::made::MadePair;
+use crate::texts::PolicyTexts;
 use cel_patterns::Patterns;
 use json_members::text_in;
-use plain::{Shared, Text};
+use plain::{Keyed, Shared, Text};
 use serde_json::Value as Json;
 use std::alloc::{AllocError, Global};
 use vap_kinds::{Kind, is_definition};
@@ -12,6 +23,7 @@ use vap_objects::is_policy;
 use vap_policies::{ParamKind, Policy};
 use vap_read::{Event, Key, Object, ObjectMap};
 use vap_same::Same;
+use vap_slots::FixedTypes;
 
 /// A kind, in whichever version.
 #[derive(Drop)]
@@ -33,7 +45,11 @@ pub struct Changes {
 #[derive(Clone, Copy)]
 pub struct Kept<'a> {
     pub policies: &'a [Shared<BoundPolicy>],
+    /// Those of the policies that are bound by the choice as they would be now: all or none.
+    pub still: &'a [Shared<BoundPolicy>],
+    pub choice: &'a Choice,
     pub patterns: &'a Shared<Patterns>,
+    pub fixed_types: &'a Shared<FixedTypes>,
     pub changes: &'a Changes,
     /// The number of this making.
     pub round: u64,
@@ -187,7 +203,72 @@ fn same_policy<'a>(
     None
 }
 
+/// Whether a policy of this name that says the same was bound.
+fn is_bound_of(old: &BoundPolicy, policy: &Keyed<Shared<PolicyTexts>>) -> bool
+    ensures { IsTrue result → (old.now.name ≡ policy.now.key) × (old.now.policy ≡ policy.now.value) }
+{
+    old.name.as_str() == policy.key.as_str() && old.policy.same(policy.value.get().policy())
+}
+
+/// What a policy was bound to, if this is of it.
+fn if_bound_of<'a>(
+    old: &'a Shared<BoundPolicy>,
+    policy: &Keyed<Shared<PolicyTexts>>,
+) -> Option<&'a Shared<BoundPolicy>>
+    ensures { (choice : ChoiceOf) (kinds : List KindOf) (bindings : List (Bound BindingOf)) → IsBound choice kinds bindings old.now
+        → IfSome (option_copied result) (λ b. b ≡ bound_of choice kinds bindings policy.now) }
+{
+    if is_bound_of(old.get(), policy) {
+        Some(old)
+    } else {
+        None
+    }
+}
+
+/// What a policy was bound to, if it is among these, which stand by name.
+fn bound_among<'a>(
+    still: &'a [Shared<BoundPolicy>],
+    policy: &Keyed<Shared<PolicyTexts>>,
+) -> Option<&'a Shared<BoundPolicy>>
+    ensures { (choice : ChoiceOf) (kinds : List KindOf) (bindings : List (Bound BindingOf)) → AreBound choice kinds bindings still.now
+        → IfSome (option_copied result) (λ b. b ≡ bound_of choice kinds bindings policy.now) }
+{
+    let name = policy.key.as_str();
+    match still.binary_search_by(|old| old.get().name.as_str().cmp(name)) {
+        Ok(at) => if_bound_of(&still[at], policy),
+        Err(_) => None,
+    }
+}
+
 impl<'a> Kept<'a> {
+    /// Those of the policies that are bound as they would be now, by this choice.
+    pub fn still_by(&self, choice: &Choice) -> &'a [Shared<BoundPolicy>]
+        ensures { (kinds : List KindOf) (bindings : List (Bound BindingOf)) → AreBound self.now.choice.now kinds bindings self.now.still.now
+            → AreBound choice.now kinds bindings result.now }
+    {
+        if self.choice.same(choice) {
+            self.still
+        } else {
+            &[]
+        }
+    }
+
+    /// What a policy was bound to, if it is among these and no event put or removed one of its name.
+    pub fn bound(
+        &self,
+        still: &'a [Shared<BoundPolicy>],
+        policy: &Keyed<Shared<PolicyTexts>>,
+    ) -> Option<&'a Shared<BoundPolicy>>
+        ensures { (choice : ChoiceOf) (kinds : List KindOf) (bindings : List (Bound BindingOf)) → AreBound choice kinds bindings still.now
+            → IfSome (option_copied result) (λ b. b ≡ bound_of choice kinds bindings policy.now) }
+    {
+        if self.changes.has_policy(policy.key.as_str()) {
+            None
+        } else {
+            bound_among(still, policy)
+        }
+    }
+
     /// A policy as it was before, unless an event put or removed one of its name. Those before `rest` have lesser names.
     pub fn policy(
         &self,

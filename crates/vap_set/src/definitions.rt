@@ -5,11 +5,12 @@ ghost use Rattle.vap_kinds.specs.Definitions.{is_definition};
 ghost use Rattle.vap_objects.specs.Listed.{kinds_in};
 ghost use Rattle.vap_set.specs.Reuse.{StaysUnless};
 
-use plain::{Items, Shared};
+use plain::{Items, Keyed, Shared};
 use std::alloc::{AllocError, Global};
-use vap_kinds::Kind;
+use vap_kinds::{Kind, ReadDefinition, kinds_of};
 use vap_objects::{Objects, all_miss_definitions};
-use vap_read::{Event, ObjectMap};
+use vap_read::{Event, Object, ObjectMap};
+use vap_same::Same;
 
 /// The kinds that definitions give, and the definitions.
 #[derive(Drop)]
@@ -17,22 +18,87 @@ pub struct Definitions {
     pub kinds: Items<Kind>,
     /// By their keys; no answer depends on them.
     pub entries: ObjectMap,
+    /// By their names, each with its own kinds; no answer depends on them.
+    pub read: Items<Keyed<Shared<ReadDefinition>>>,
+}
+
+/// The definition of this name among others, which stand by name.
+fn definition_named<'a>(
+    read: &'a [Keyed<Shared<ReadDefinition>>],
+    name: &str,
+) -> Option<&'a Shared<ReadDefinition>> {
+    match read.binary_search_by(|definition| definition.key.as_str().cmp(name)) {
+        Ok(at) => Some(&read[at].value),
+        Err(_) => None,
+    }
+}
+
+/// A definition, which is read unless what was read before is the same.
+fn read_definition(
+    alloc: Global,
+    object: &Shared<Object>,
+    old: Option<&Shared<ReadDefinition>>,
+) -> Result<Shared<ReadDefinition>, AllocError>
+    ensures { IfOk result (λ read. read ≡ object.now) }
+{
+    match old {
+        Some(read) if read.get().object().same(object.get()) => read.share(),
+        _ => Shared::new(alloc, ReadDefinition::new(alloc, object)?),
+    }
+}
+
+/// Definitions by their names, of which those that changed are read.
+fn read_definitions(
+    alloc: Global,
+    definitions: &[Keyed<Shared<Object>>],
+    old: &[Keyed<Shared<ReadDefinition>>],
+) -> Result<Items<Keyed<Shared<ReadDefinition>>>, AllocError>
+    ensures { IfOk result (λ read. read ≡ definitions.now) }
+{
+    let mut read = Vec::new(alloc);
+    for definition in definitions {
+        let key = definition.key.copy()?;
+        let before = definition_named(old, key.as_str());
+        let value = read_definition(alloc, &definition.value, before)?;
+        read.push(Keyed { key, value })?;
+    }
+    Ok(Items::from_vec(read))
+}
+
+/// The definitions among objects, of which those that changed are read.
+fn definitions_with(
+    alloc: Global,
+    objects: &Objects,
+    old: &[Keyed<Shared<ReadDefinition>>],
+) -> Result<Shared<Definitions>, AllocError>
+    ensures { IfOk result (λ found. found.kinds ≡ kinds_in objects.now.objects) }
+{
+    let definitions = objects.definitions(alloc)?;
+    let read = read_definitions(alloc, definitions.as_slice(), old)?;
+    let kinds = kinds_of(alloc, read.as_slice())?;
+    let entries = objects.entries_of_kind(
+        alloc,
+        "apiextensions.k8s.io/v1",
+        "CustomResourceDefinition",
+    )?;
+    Shared::new(
+        alloc,
+        Definitions {
+            kinds,
+            entries,
+            read,
+        },
+    )
 }
 
 /// Reads the definitions among objects.
 pub fn definitions_of(alloc: Global, objects: &Objects) -> Result<Shared<Definitions>, AllocError>
     ensures { IfOk result (λ found. found.kinds ≡ kinds_in objects.now.objects) }
 {
-    let kinds = objects.kinds(alloc)?;
-    let entries = objects.entries_of_kind(
-        alloc,
-        "apiextensions.k8s.io/v1",
-        "CustomResourceDefinition",
-    )?;
-    Shared::new(alloc, Definitions { kinds, entries })
+    definitions_with(alloc, objects, &[])
 }
 
-/// The definitions after events. They are read again where an event touches one.
+/// The definitions after events, of which those that changed are read.
 pub fn definitions_after(
     alloc: Global,
     old: &Shared<Definitions>,
@@ -45,6 +111,6 @@ pub fn definitions_after(
     if all_miss_definitions(events) {
         old.share()
     } else {
-        definitions_of(alloc, objects)
+        definitions_with(alloc, objects, old.get().read.as_slice())
     }
 }

@@ -5,10 +5,9 @@ ghost use Rattle.failing.specs.declared.failed.Failed.TheVariants.{Fault};
 ghost use Rattle.cel_expression.specs.declared.refusal.CompileFault.TheVariants.{Unverified};
 ghost use Rattle.vap_programs.specs.Expressions.{expressions_of, IsOneUnverified};
 ghost use Rattle.vap_programs.specs.Scopes.{first_names};
-ghost use Rattle.vap_set.specs.Kinds.{type_or_opaque, types_at};
+ghost use Rattle.vap_set.specs.Kinds.{types_at};
 ghost use Rattle.vap_set.specs.Made.{pair_made};
 ghost use Rattle.vap_set.specs.Sets.{inputs_of};
-ghost use Rattle.vap_set.specs.Unverified.{expressions_at};
 
 use crate::params::{is_object_type, is_params_type, object_type, params_type, types_at};
 use cel_value::CelType;
@@ -19,6 +18,7 @@ use vap_kinds::Kind;
 use vap_policies::PolicySpec;
 use vap_programs::{CompileError, Pair, ParamsType, pair};
 use vap_same::Same;
+use vap_slots::FixedTypes;
 
 /// What a policy is compiled of at a kind: the texts of its own that are taken as no patterns, the type of the objects, what the
 /// params are, and what it says.
@@ -56,12 +56,12 @@ impl Model for MadePair {
 }
 
 /// Compiles a policy at a kind.
-fn compiled(alloc: Global, inputs: &Inputs) -> Result<Pair, CompileError>
+fn compiled(alloc: Global, fixed: &FixedTypes, inputs: &Inputs) -> Result<Pair, CompileError>
     ensures pair { IfOk result (λ p. p ≡ pair_made inputs.now) }
     ensures unverified { (at : ℕ) → IsErrOf result (Fault (Unverified at)) → IsOneUnverified at
         (expressions_of inputs.now.refused (first_names (types_at inputs.now.cel_type) inputs.now.params) inputs.now.policy) }
 {
-    let types = types_at(alloc, &inputs.cel_type)?;
+    let types = types_at(alloc, fixed, &inputs.cel_type)?;
     pair(
         alloc,
         &inputs.refused,
@@ -73,12 +73,17 @@ fn compiled(alloc: Global, inputs: &Inputs) -> Result<Pair, CompileError>
 
 impl MadePair {
     /// Compiles a policy at a kind.
-    fn new(alloc: Global, inputs: Inputs, round: u64) -> Result<MadePair, CompileError>
+    pub fn new(
+        alloc: Global,
+        fixed: &FixedTypes,
+        inputs: Inputs,
+        round: u64,
+    ) -> Result<MadePair, CompileError>
         ensures made { IfOk result (λ m. m ≡ inputs) }
         ensures unverified { (at : ℕ) → IsErrOf result (Fault (Unverified at)) → IsOneUnverified at
             (expressions_of inputs.refused (first_names (types_at inputs.cel_type) inputs.params) inputs.policy) }
     {
-        let pair = compiled(alloc, &inputs)?;
+        let pair = compiled(alloc, fixed, &inputs)?;
         Ok(MadePair {
             inputs,
             pair,
@@ -99,7 +104,7 @@ impl MadePair {
     }
 
     /// Whether it was compiled of these.
-    fn is_of(
+    pub fn is_of(
         &self,
         refused: &Shared<Items<Text>>,
         kinds: &[Kind],
@@ -115,7 +120,8 @@ impl MadePair {
     }
 }
 
-fn inputs_of(
+/// What a policy is compiled of where the objects are of a type.
+pub fn inputs_of(
     alloc: Global,
     refused: &Shared<Items<Text>>,
     kinds: &[Kind],
@@ -130,27 +136,4 @@ fn inputs_of(
         params: params_type(alloc, kinds, &policy.get().param_kind)?,
         policy: policy.share()?,
     })
-}
-
-/// Compiles a policy at a kind, unless what is kept was compiled of the same.
-pub fn made_of(
-    alloc: Global,
-    refused: &Shared<Items<Text>>,
-    kinds: &[Kind],
-    policy: &Shared<PolicySpec>,
-    cel_type: &Option<CelType>,
-    kept: Option<&Shared<MadePair>>,
-    round: u64,
-) -> Result<Shared<MadePair>, CompileError>
-    ensures made { IfOk result (λ m. m ≡ inputs_of refused.now kinds.now policy.now cel_type.now) }
-    ensures unverified { (at : ℕ) → IsErrOf result (Fault (Unverified at))
-        → IsOneUnverified at (expressions_at refused.now kinds.now policy.now (type_or_opaque cel_type.now)) }
-{
-    match kept {
-        Some(made) if made.get().is_of(refused, kinds, policy, cel_type) => Ok(made.share()?),
-        _ => {
-            let inputs = inputs_of(alloc, refused, kinds, policy, cel_type)?;
-            Ok(Shared::new(alloc, MadePair::new(alloc, inputs, round)?)?)
-        }
-    }
 }

@@ -13,11 +13,11 @@ ghost use Rattle.vap_set.specs.Kinds.{types_at};
 use cel_value::{CelType, same_type};
 use plain::{Shared, Text};
 use std::alloc::{AllocError, Global};
-use vap_kinds::{Kind, find_kind, namespace_type};
+use vap_kinds::{Kind, find_kind};
 use vap_match::Rule;
 use vap_policies::ParamKind;
 use vap_programs::{KindTypes, ParamsType};
-use vap_slots::request_type;
+use vap_slots::FixedTypes;
 
 /// The kind of params that a policy names, if it is known or refused.
 pub fn kind_of_params<'a>(kinds: &'a [Kind], params: &ParamKind) -> Option<&'a Kind>
@@ -139,15 +139,17 @@ pub fn is_params_type(known: &ParamsType, kinds: &[Kind], params: &Option<ParamK
 }
 
 /// The types of all names but `params`, where the objects are of this type.
-pub fn types_at(alloc: Global, cel_type: &CelType) -> Result<KindTypes, AllocError>
+pub fn types_at(
+    alloc: Global,
+    fixed: &FixedTypes,
+    cel_type: &CelType,
+) -> Result<KindTypes, AllocError>
     ensures { IfOk result (λ types. types ≡ types_at cel_type.now) }
 {
-    let object = Shared::new(alloc, cel_type.copy()?)?;
-    let namespace = Shared::new(alloc, namespace_type(alloc)?)?;
     Ok(KindTypes {
-        object,
-        request: request_type(alloc)?,
-        namespace,
+        object: Shared::new(alloc, cel_type.copy()?)?,
+        request: fixed.request().copy()?,
+        namespace: fixed.namespace().share()?,
     })
 }
 

@@ -1,119 +1,35 @@
 //! What policies are at each kind.
 
-ghost use Rattle.std.specs.Prelude.{◌≡◌, ◌≤◌, ℕ, true, List, length, IfOk, IsErrOf, OnOk, map, Some};
-ghost use Rattle.vap_set.specs.Kinds.{type_or_opaque};
+ghost use Rattle.std.specs.Prelude.{◌≡◌, ℕ, List, IfOk, IsErrOf, map};
 ghost use Rattle.vap_set.specs.Parts.{part_of};
-ghost use Rattle.vap_set.specs.Sets.{bound_of, is_looked_at, kind_pair, other_of, pairs_of};
-ghost use Rattle.vap_set.specs.Unverified.{AreUnverified, error_of, expressions_at, HasUnverified};
+ghost use Rattle.vap_set.specs.Sets.{bound_of};
+ghost use Rattle.vap_set.specs.Still.{AreBound};
+ghost use Rattle.vap_set.specs.Unverified.{AreUnverified, error_of, HasUnverified};
 ghost use Rattle.vap_set.specs.declared.build_error.BuildFault.TheVariants as build_fault;
 ghost use Rattle.failing.specs.declared.failed.Failed.TheVariants.{Fault};
 ghost use Rattle.cel_expression.specs.declared.refusal.CompileFault.TheVariants.{Unverified};
-ghost use Rattle.vap_programs.specs.Expressions.{IsOneUnverified};
 
-use crate::bound::{BoundPolicy, KindPair};
+use crate::bound::BoundPolicy;
 use crate::build_error::{BuildError, BuildFault};
 use crate::changes::{Kept, not_below};
 use crate::choice::Choice;
-use crate::made::{MadePair, made_of};
-use crate::params::is_named_by;
+use crate::compiling::Compiling;
 use crate::parts::part_of;
 use crate::texts::{PolicyTexts, own_texts};
-use plain::{Items, Keyed, Shared, Text};
+use plain::{Items, Keyed, Shared};
 use std::alloc::{AllocError, Global};
 use vap_bindings::Binding;
 use vap_kinds::Kind;
 use vap_objects::bindings_of;
-use vap_policies::{Policy, PolicySpec};
+use vap_policies::Policy;
 use vap_programs::{CompileError, CompileFault};
 
-fn kind_pair(
-    alloc: Global,
-    refused: &Shared<Items<Text>>,
-    kinds: &[Kind],
-    policy: &Shared<PolicySpec>,
-    kind: &Kind,
-    old: Option<&Shared<MadePair>>,
-    round: u64,
-) -> Result<KindPair, CompileError>
-    ensures pair { IfOk result (λ p. p ≡ kind_pair refused.now kinds.now policy.now kind.now) }
-    ensures unverified { (at : ℕ) → IsErrOf result (Fault (Unverified at))
-        → IsOneUnverified at (expressions_at refused.now kinds.now policy.now (type_or_opaque kind.now.object_type)) }
-{
-    let made = made_of(alloc, refused, kinds, policy, &kind.object_type, old, round)?;
-    Ok(KindPair {
-        group: kind.group.copy()?,
-        version: kind.version.copy()?,
-        kind: kind.kind.copy()?,
-        made,
-    })
-}
-
-fn is_looked_at(policy: &PolicySpec, kind: &Kind) -> bool
-    ensures { result ≡ is_looked_at policy.now kind.now }
-{
-    kind.object_type.is_some()
-        && is_named_by(policy.match_constraints.resource_rules.as_slice(), kind)
-}
-
-fn pairs_of(
-    alloc: Global,
-    refused: &Shared<Items<Text>>,
-    kinds: &[Kind],
-    policy: &Shared<PolicySpec>,
-    old: Option<&BoundPolicy>,
-    kept: &Kept<'_>,
-) -> Result<Items<KindPair>, CompileError>
-    ensures pairs { IfOk result (λ pairs. pairs ≡ pairs_of refused.now kinds.now policy.now) }
-    ensures unverified { (at : ℕ) → IsErrOf result (Fault (Unverified at)) → HasUnverified refused.now kinds.now policy.now }
-{
-    let mut pairs = Vec::new(alloc);
-    for kind in kinds {
-        if is_looked_at(policy.get(), kind) {
-            let old = kept.pair(old, kind);
-            pairs.push(kind_pair(alloc, refused, kinds, policy, kind, old, kept.round)?)?;
-        }
-    }
-    Ok(Items::from_vec(pairs))
-}
-
-fn other_of(
-    alloc: Global,
-    refused: &Shared<Items<Text>>,
-    kinds: &[Kind],
-    policy: &Shared<PolicySpec>,
-    old: Option<&Shared<MadePair>>,
-    round: u64,
-) -> Result<Shared<MadePair>, CompileError>
-    ensures other { IfOk result (λ m. m ≡ other_of refused.now kinds.now policy.now) }
-    ensures unverified { (at : ℕ) → IsErrOf result (Fault (Unverified at)) → HasUnverified refused.now kinds.now policy.now }
-{
-    made_of(alloc, refused, kinds, policy, &None, old, round)
-}
-
-fn bound_of(
-    alloc: Global,
-    choice: &Choice,
-    kinds: &[Kind],
-    bindings: &[Keyed<Binding>],
-    old: Option<&BoundPolicy>,
-    kept: &Kept<'_>,
-    policy: &Keyed<Shared<PolicyTexts>>,
-) -> Result<BoundPolicy, CompileError>
-    ensures bound { IfOk result (λ p. p ≡ bound_of choice.now kinds.now bindings.now policy.now) }
-    ensures unverified { (at : ℕ) → IsErrOf result (Fault (Unverified at))
-        → HasUnverified (part_of choice.now policy.now.value.spec) kinds.now policy.now.value.spec }
-{
-    let own = policy.value.get();
-    let spec = &own.policy().spec;
-    let refused = part_of(alloc, choice, own)?;
-    Ok(BoundPolicy {
-        name: policy.key.copy()?,
-        policy: own.policy().copy()?,
-        own: policy.value.share()?,
-        bindings: bindings_of(alloc, policy.key.as_str(), bindings)?,
-        pairs: pairs_of(alloc, &refused, kinds, spec, old, kept)?,
-        other: other_of(alloc, &refused, kinds, spec, kept.other(old), kept.round)?,
-    })
+/// What policies are compiled with: the kinds, and what was compiled of them before.
+#[derive(Clone, Copy)]
+pub struct Workshop<'a> {
+    pub alloc: Global,
+    pub kinds: &'a [Kind],
+    pub kept: &'a Kept<'a>,
 }
 
 fn texts_in(old: Option<&BoundPolicy>) -> Option<&Shared<PolicyTexts>> {
@@ -160,28 +76,85 @@ fn unbuilt(
     }
 }
 
-/// Policies with their bindings, and what each is at each kind.
-pub fn bound_policies(
-    alloc: Global,
-    choice: &Choice,
-    kinds: &[Kind],
-    bindings: &[Keyed<Binding>],
-    kept: &Kept<'_>,
-    policies: &[Keyed<Shared<PolicyTexts>>],
-) -> Result<Items<Shared<BoundPolicy>>, BuildError>
-    ensures bound { IfOk result (λ bound. bound ≡ map (bound_of choice.now kinds.now bindings.now) policies.now) }
-    ensures unverified { (name : List ℕ) → IsErrOf result (Fault (build_fault.Unverified name))
-        → AreUnverified choice.now kinds.now name policies.now }
-{
-    let mut bound = Vec::new(alloc);
-    let mut rest = kept.policies;
-    for policy in policies {
-        rest = not_below(rest, policy.key.as_str());
-        let old = kept.policy(rest, policy.key.as_str(), policy.value.get().policy());
-        match bound_of(alloc, choice, kinds, bindings, old, kept, policy) {
-            Ok(one) => bound.push(Shared::new(alloc, one)?)?,
-            Err(error) => return Err(unbuilt(policy, error)?),
+impl Workshop<'_> {
+    fn bound_of(
+        &self,
+        choice: &Choice,
+        bindings: &[Keyed<Binding>],
+        old: Option<&BoundPolicy>,
+        policy: &Keyed<Shared<PolicyTexts>>,
+    ) -> Result<BoundPolicy, CompileError>
+        ensures bound { IfOk result (λ p. p ≡ bound_of choice.now self.now.kinds.now bindings.now policy.now) }
+        ensures unverified { (at : ℕ) → IsErrOf result (Fault (Unverified at))
+            → HasUnverified (part_of choice.now policy.now.value.spec) self.now.kinds.now policy.now.value.spec }
+    {
+        let own = policy.value.get();
+        let refused = part_of(self.alloc, choice, own)?;
+        let compiling = Compiling {
+            alloc: self.alloc,
+            fixed_types: self.kept.fixed_types.get(),
+            refused: &refused,
+            kinds: self.kinds,
+            policy: &own.policy().spec,
+            round: self.kept.round,
+        };
+        Ok(BoundPolicy {
+            name: policy.key.copy()?,
+            policy: own.policy().copy()?,
+            own: policy.value.share()?,
+            bindings: bindings_of(self.alloc, policy.key.as_str(), bindings)?,
+            pairs: compiling.pairs_of(old, self.kept)?,
+            other: compiling.other_of(self.kept.other(old))?,
+        })
+    }
+
+    /// The same, unless it was bound before as it would be now.
+    fn shared_of(
+        &self,
+        choice: &Choice,
+        bindings: &[Keyed<Binding>],
+        old: Option<&BoundPolicy>,
+        policy: &Keyed<Shared<PolicyTexts>>,
+    ) -> Result<Shared<BoundPolicy>, CompileError>
+        requires still { AreBound self.now.kept.now.choice.now self.now.kinds.now bindings.now self.now.kept.now.still.now }
+        ensures bound { IfOk result (λ p. p ≡ bound_of choice.now self.now.kinds.now bindings.now policy.now) }
+        ensures unverified { (at : ℕ) → IsErrOf result (Fault (Unverified at))
+            → HasUnverified (part_of choice.now policy.now.value.spec) self.now.kinds.now policy.now.value.spec }
+    {
+        let still = self.kept.still_by(choice);
+        match self.kept.bound(still, policy) {
+            Some(bound) => Ok(bound.share()?),
+            None => {
+                let bound = self.bound_of(choice, bindings, old, policy)?;
+                Ok(Shared::new(self.alloc, bound)?)
+            }
         }
     }
-    Ok(Items::from_vec(bound))
+
+    /// Policies with their bindings, and what each is at each kind.
+    pub fn bound_policies(
+        &self,
+        choice: &Choice,
+        bindings: &[Keyed<Binding>],
+        policies: &[Keyed<Shared<PolicyTexts>>],
+    ) -> Result<Items<Shared<BoundPolicy>>, BuildError>
+        requires still { AreBound self.now.kept.now.choice.now self.now.kinds.now bindings.now self.now.kept.now.still.now }
+        ensures bound { IfOk result (λ bound. bound ≡ map (bound_of choice.now self.now.kinds.now bindings.now) policies.now) }
+        ensures unverified { (name : List ℕ) → IsErrOf result (Fault (build_fault.Unverified name))
+            → AreUnverified choice.now self.now.kinds.now name policies.now }
+    {
+        let mut bound = Vec::new(self.alloc);
+        let mut rest = self.kept.policies;
+        for policy in policies {
+            rest = not_below(rest, policy.key.as_str());
+            let old = self
+                .kept
+                .policy(rest, policy.key.as_str(), policy.value.get().policy());
+            match self.shared_of(choice, bindings, old, policy) {
+                Ok(one) => bound.push(one)?,
+                Err(error) => return Err(unbuilt(policy, error)?),
+            }
+        }
+        Ok(Items::from_vec(bound))
+    }
 }

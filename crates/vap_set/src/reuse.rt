@@ -1,17 +1,25 @@
 //! What a set takes over of one before it, where events do not touch that.
 
-ghost use Rattle.std.specs.Prelude.{◌≡◌, filter, map, IfOk};
+ghost use Rattle.std.specs.Prelude.{◌≡◌, true, map, IfOk, IsTrue};
 ghost use Rattle.std.specs.List.{All};
-ghost use Rattle.vap_objects.specs.Classes.{is_namespace};
+ghost use Rattle.vap_kinds.specs.Definitions.{is_definition};
+ghost use Rattle.vap_objects.specs.Classes.{all_miss, is_binding, is_namespace};
 ghost use Rattle.vap_objects.specs.OfKind.{namespaces_in};
 ghost use Rattle.vap_set.specs.Fitted.{refitted};
-ghost use Rattle.vap_set.specs.Reuse.{AreStill, is_untouched, StaysUnless, untouched_in};
+ghost use Rattle.vap_set.specs.Reuse.{AreStill, StaysUnless};
 
 use crate::kind_params::KindParams;
 use plain::{Items, Shared};
 use std::alloc::{AllocError, Global};
-use vap_objects::{Objects, all_miss_definitions, all_miss_namespaces};
+use vap_objects::{Objects, all_miss_bindings, all_miss_definitions, all_miss_namespaces};
 use vap_read::{Event, ObjectMap};
+
+/// Whether events touch no binding and no definition, and so nothing to which policies are bound.
+pub fn leaves_bound(events: &[Event]) -> bool
+    ensures { IsTrue result → (all_miss is_binding events.now ≡ true) × (all_miss is_definition events.now ≡ true) }
+{
+    all_miss_bindings(events) && all_miss_definitions(events)
+}
 
 /// The Namespaces after events.
 pub fn namespaces_after(
@@ -30,7 +38,7 @@ pub fn namespaces_after(
     }
 }
 
-/// The params of a kind after events that touch no definition.
+/// The params of a kind after events, fitted to the same type.
 fn kind_params_after(
     alloc: Global,
     old: &Shared<KindParams>,
@@ -43,12 +51,11 @@ fn kind_params_after(
     if old.get().is_missed(events) {
         old.share()
     } else {
-        Shared::new(alloc, old.get().refitted(alloc, objects)?)
+        Shared::new(alloc, old.get().after(alloc, objects, events)?)
     }
 }
 
-/// The params of each kind after events that touch no policy and no definition. Those of a kind are fitted again where an event
-/// touches one.
+/// The params of each kind after events, fitted to the same types. Fitted are those that an event touches.
 pub fn params_after(
     alloc: Global,
     old: &[Shared<KindParams>],
@@ -63,36 +70,4 @@ pub fn params_after(
         all.push(kind_params_after(alloc, params, objects, events)?)?;
     }
     Ok(Items::from_vec(all))
-}
-
-fn missed_params(
-    alloc: Global,
-    old: &[Shared<KindParams>],
-    events: &[Event],
-) -> Result<Items<Shared<KindParams>>, AllocError>
-    ensures { IfOk result (λ kept. kept ≡ filter (is_untouched events.now) old.now) }
-{
-    let mut kept = Vec::new(alloc);
-    for params in old {
-        if params.get().is_missed(events) {
-            kept.push(params.share()?)?;
-        }
-    }
-    Ok(Items::from_vec(kept))
-}
-
-/// Those params of a set before that events leave as they were: none where one touches a definition.
-#[tactic(auto, unfolding(crate::specs::Reuse::untouched_in))]
-pub fn untouched_params(
-    alloc: Global,
-    old: &[Shared<KindParams>],
-    events: &[Event],
-) -> Result<Items<Shared<KindParams>>, AllocError>
-    ensures { IfOk result (λ kept. kept ≡ untouched_in events.now old.now) }
-{
-    if all_miss_definitions(events) {
-        missed_params(alloc, old, events)
-    } else {
-        Ok(Items::from_vec(Vec::new(alloc)))
-    }
 }

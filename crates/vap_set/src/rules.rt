@@ -2,10 +2,11 @@
 
 ghost use Rattle.std.specs.Prelude.{◌≡◌, ◌≤◌, ℕ, List, length, IfOk, IsErrOf};
 ghost use Rattle.failing.specs.declared.failed.Failed.TheVariants.{Fault};
-ghost use Rattle.vap_objects.specs.Listed.{kinds_in, policies_in};
+ghost use Rattle.vap_objects.specs.Listed.{bindings_in, kinds_in, policies_in};
 ghost use Rattle.vap_set.specs.Patterns.{IsChoiceFor, of_policies};
 ghost use Rattle.vap_set.specs.Ready.{AreFew};
 ghost use Rattle.vap_set.specs.Sets.{policies_by};
+ghost use Rattle.vap_set.specs.Still.{AreBound};
 ghost use Rattle.vap_set.specs.Unverified.{IsUnverifiedIn};
 ghost use Rattle.vap_set.specs.declared.build_error.BuildFault.TheVariants.{Unverified};
 
@@ -15,12 +16,13 @@ use crate::choice::Choice;
 use crate::definitions::Definitions;
 use crate::index::Index;
 use crate::literal_patterns::{answers_for, choice_for};
-use crate::policies::{bound_policies, policy_texts};
+use crate::policies::{Workshop, policy_texts};
 use cel_patterns::Patterns;
 use plain::{Keyed, Shared};
 use std::alloc::Global;
 use vap_objects::Objects;
 use vap_policies::Policy;
+use vap_slots::FixedTypes;
 
 /// What a set holds that is made of policies, bindings and definitions alone.
 #[derive(Drop)]
@@ -30,6 +32,8 @@ pub struct Rules {
     pub policies: Index,
     /// What was asked of texts so far; no answer depends on it.
     pub patterns: Shared<Patterns>,
+    /// Made with a first set, and taken over by each that is made of it.
+    pub fixed_types: Shared<FixedTypes>,
 }
 
 /// The rules among objects whose definitions and policies these are, where something may be kept of a set before.
@@ -43,6 +47,7 @@ pub fn rules_of(
     requires kinds { definitions.now.kinds ≡ kinds_in objects.now.objects }
     requires named { named.now ≡ policies_in objects.now.objects }
     requires few { length named.now ≤ 256 }
+    requires still { AreBound kept.now.choice.now (kinds_in objects.now.objects) (bindings_in objects.now.objects) kept.now.still.now }
     ensures kinds { IfOk result (λ r. r.definitions.kinds ≡ kinds_in objects.now.objects) }
     ensures policies { IfOk result (λ r. r.policies ≡ policies_by r.choice objects.now) }
     ensures few { IfOk result (λ r. AreFew r.policies) }
@@ -54,19 +59,19 @@ pub fn rules_of(
     let patterns = answers_for(alloc, kept.patterns, own.as_slice())?;
     let choice = choice_for(alloc, patterns.get(), own.as_slice())?;
     let choice = Shared::new(alloc, choice)?;
-    let bound = bound_policies(
+    let workshop = Workshop {
         alloc,
-        choice.get(),
-        definitions.get().kinds.as_slice(),
-        bindings.as_slice(),
+        kinds: definitions.get().kinds.as_slice(),
         kept,
-        own.as_slice(),
-    )?;
+    };
+    let bound = workshop.bound_policies(choice.get(), bindings.as_slice(), own.as_slice())?;
     let policies = Index::new(alloc, bound)?;
+    let fixed_types = kept.fixed_types.share()?;
     Ok(Rules {
         choice,
         definitions: definitions.share()?,
         policies,
         patterns,
+        fixed_types,
     })
 }

@@ -6,14 +6,16 @@ ghost use Rattle.std.specs.Option.{option_copied};
 ghost use Rattle.failing.specs.declared.failed.Failed.TheVariants.{Fault};
 ghost use Rattle.vap_objects.specs.After.{nothing};
 ghost use Rattle.vap_objects.specs.Classes.{all_miss, is_rule};
-ghost use Rattle.vap_objects.specs.Listed.{kinds_in, policies_in};
+ghost use Rattle.vap_objects.specs.Cluster.{Cluster};
+ghost use Rattle.vap_objects.specs.Listed.{bindings_in, kinds_in, policies_in};
 ghost use Rattle.vap_objects.specs.OfKind.{namespaces_in};
 ghost use Rattle.vap_set.specs.Index.{AreEnough};
 ghost use Rattle.vap_set.specs.Patterns.{IsChoiceFor, of_policies};
 ghost use Rattle.vap_set.specs.Ready.{AreReady, AreReadyIn, AreFew};
-ghost use Rattle.vap_set.specs.Reuse.{AreOf, IsBefore};
+ghost use Rattle.vap_set.specs.Reuse.{AreRefitted, IsBefore};
 ghost use Rattle.vap_set.specs.Sets.{choice_in, holdings_of, kinds_of, namespace_in, no_choice, params_in, policies_of};
 ghost use Rattle.vap_set.specs.Sets.{IsOfObjects, IsReport};
+ghost use Rattle.vap_set.specs.Still.{AreBound};
 ghost use Rattle.vap_set.specs.Unverified.{IsUnverifiedIn};
 ghost use Rattle.vap_set.specs.Whole.{AreWhole};
 ghost use Rattle.vap_set.specs.declared.build_error.BuildFault.TheVariants.{Unverified};
@@ -27,7 +29,7 @@ use crate::definitions::{Definitions, definitions_after, definitions_of};
 use crate::index::Index;
 use crate::kind_params::KindParams;
 use crate::report::{Misconfigured, report_of};
-use crate::reuse::{namespaces_after, params_after, untouched_params};
+use crate::reuse::{leaves_bound, namespaces_after, params_after};
 use crate::rules::{Rules, rules_of};
 use crate::table::{all_params, find_params};
 use cel_patterns::Patterns;
@@ -39,6 +41,7 @@ use vap_objects::{Objects, all_miss_rules, namespace};
 use vap_policies::ParamKind;
 use vap_programs::pairs_are_ready;
 use vap_read::{Event, Object, ObjectMap};
+use vap_slots::FixedTypes;
 
 /// The policies among objects, compiled, with what judging needs of the other objects. Contracts see it as what it holds.
 #[derive(Drop)]
@@ -100,6 +103,7 @@ impl PolicySet {
             definitions: definitions_of(alloc, &Objects::new(alloc))?,
             policies: Index::new(alloc, Items::from_vec(Vec::new(alloc)))?,
             patterns: Shared::new(alloc, Patterns::new(alloc))?,
+            fixed_types: Shared::new(alloc, FixedTypes::new(alloc)?)?,
         };
         Ok(PolicySet {
             events: 0,
@@ -117,12 +121,18 @@ impl PolicySet {
         ensures choice { IfOk result (λ set. IsChoiceFor (of_policies (policies_in objects.now.objects)) set.choice.refused) }
         ensures unverified { (name : List ℕ) → IsErrOf result (Fault (Unverified name)) → IsUnverifiedIn objects.now name }
     {
-        let none = Vec::new(alloc);
         let patterns = Shared::new(alloc, Patterns::new(alloc))?;
+        let choice = Choice {
+            refused: Shared::new(alloc, Items::from_vec(Vec::new(alloc)))?,
+        };
+        let fixed_types = Shared::new(alloc, FixedTypes::new(alloc)?)?;
         let changes = Changes::none(alloc);
         let kept = Kept {
-            policies: none.as_slice(),
+            policies: &[],
+            still: &[],
+            choice: &choice,
             patterns: &patterns,
+            fixed_types: &fixed_types,
             changes: &changes,
             round: 0,
         };
@@ -194,7 +204,10 @@ impl PolicySet {
         let changes = Changes::of(alloc, &rules.definitions.get().entries, events)?;
         let kept = Kept {
             policies: rules.policies.all(),
+            still: self.still_bound(events),
+            choice: rules.choice.get(),
             patterns: &rules.patterns,
+            fixed_types: &rules.fixed_types,
             changes: &changes,
             round: self.round.wrapping_add(1),
         };
@@ -202,7 +215,20 @@ impl PolicySet {
         PolicySet::made(alloc, objects, &parts, &kept)
     }
 
-    /// What is there already of the set after events.
+    /// The policies, if events leave all that they are bound to as it was: the bindings and the kinds.
+    fn still_bound(&self, events: &[Event]) -> &[Shared<BoundPolicy>]
+        ensures { (c : Cluster) → IsBefore self.now events.now c
+            → AreBound (choice_in self.now) (kinds_in c.objects) (bindings_in c.objects) result.now }
+    {
+        if leaves_bound(events) {
+            self.rules.get().policies.all()
+        } else {
+            &[]
+        }
+    }
+
+    /// What is there already of the set after events: its definitions, its Namespaces, and the params of the kinds that policies
+    /// named before.
     fn parts_after(
         &self,
         alloc: Global,
@@ -211,13 +237,13 @@ impl PolicySet {
     ) -> Result<Parts, AllocError>
         requires before { IsBefore self.now events.now objects.now }
         ensures kinds { IfOk result (λ parts. parts.definitions.kinds ≡ kinds_in objects.now.objects) }
-        ensures params { IfOk result (λ parts. All (AreOf (kinds_in objects.now.objects) objects.now) parts.params) }
+        ensures params { IfOk result (λ parts. All (AreRefitted objects.now) parts.params) }
         ensures namespaces { IfOk result (λ parts. parts.namespaces ≡ namespaces_in objects.now.objects) }
     {
         let old = &self.rules.get().definitions;
         Ok(Parts {
             definitions: definitions_after(alloc, old, objects, events)?,
-            params: untouched_params(alloc, self.params.as_slice(), events)?,
+            params: params_after(alloc, self.params.as_slice(), objects, events)?,
             namespaces: namespaces_after(alloc, &self.namespaces, objects, events)?,
         })
     }
@@ -230,8 +256,9 @@ impl PolicySet {
         kept: &Kept<'_>,
     ) -> Result<PolicySet, BuildError>
         requires kinds { parts.now.definitions.kinds ≡ kinds_in objects.now.objects }
-        requires params { All (AreOf (kinds_in objects.now.objects) objects.now) parts.now.params }
+        requires params { All (AreRefitted objects.now) parts.now.params }
         requires namespaces { parts.now.namespaces ≡ namespaces_in objects.now.objects }
+        requires still { AreBound kept.now.choice.now (kinds_in objects.now.objects) (bindings_in objects.now.objects) kept.now.still.now }
         ensures is { IfOk result (λ set. set ≡ holdings_of objects.now set.choice) }
         ensures choice { IfOk result (λ set. IsChoiceFor (of_policies (policies_in objects.now.objects)) set.choice.refused) }
         ensures unverified { (name : List ℕ) → IsErrOf result (Fault (Unverified name)) → IsUnverifiedIn objects.now name }
@@ -269,6 +296,11 @@ impl PolicySet {
         ensures { result.now ≡ choice_in self.now }
     {
         &self.rules.get().choice
+    }
+
+    /// The types of names that are the same at each kind.
+    pub fn fixed_types(&self) -> &FixedTypes {
+        self.rules.get().fixed_types.get()
     }
 
     /// The kinds that are known or refused.

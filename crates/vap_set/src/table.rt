@@ -4,7 +4,7 @@ ghost use Rattle.std.specs.Prelude.{◌≡◌, ◌++◌, ◌∷◌, [], Some, If
 ghost use Rattle.std.specs.List.{All, find, flat_map, list_any};
 ghost use Rattle.std.specs.Option.{option_copied};
 ghost use Rattle.vap_set.specs.Fitted.{Adds, all_params, fitted_in, is_same_kind, kind_in, kinds_named, params_of};
-ghost use Rattle.vap_set.specs.Reuse.{AreOf};
+ghost use Rattle.vap_set.specs.Reuse.{AreRefitted};
 
 use crate::kind_params::{KindParams, copied, fitted_params, is_same_kind};
 use plain::{Items, Keyed, Shared};
@@ -70,7 +70,7 @@ pub fn find_params<'a>(
     None
 }
 
-/// The params of a kind: those that are kept of it, or its objects fitted anew.
+/// The params of a kind: those that are kept of it, if its type is the same, or its objects fitted anew.
 fn kind_params(
     alloc: Global,
     kinds: &[Kind],
@@ -78,12 +78,12 @@ fn kind_params(
     kept: &[Shared<KindParams>],
     kind: &ParamKind,
 ) -> Result<Option<Shared<KindParams>>, AllocError>
-    requires { All (AreOf kinds.now objects.now) kept.now }
+    requires { All (AreRefitted objects.now) kept.now }
     ensures { IfOk result (λ params. params ≡ params_of kinds.now objects.now (Some kind.now)) }
 {
     match find_params(kept, kind) {
-        Some(params) => Ok(Some(params.share()?)),
-        None => fitted_params(alloc, kinds, objects, kind),
+        Some(params) if params.get().is_known_by(kinds) => Ok(Some(params.share()?)),
+        _ => fitted_params(alloc, kinds, objects, kind),
     }
 }
 
@@ -96,7 +96,7 @@ fn fitted_all(
     kept: &[Shared<KindParams>],
     named: &[ParamKind],
 ) -> Result<Items<Shared<KindParams>>, AllocError>
-    requires { All (AreOf kinds.now objects.now) kept.now }
+    requires { All (AreRefitted objects.now) kept.now }
     ensures { IfOk result (λ all. all ≡ flat_map (fitted_in kinds.now objects.now) named.now) }
 {
     let mut all = Vec::new(alloc);
@@ -109,7 +109,7 @@ fn fitted_all(
 }
 
 /// The params of each kind that policies name and that is known. The objects of a kind are fitted once, and not at all where
-/// those that are kept are of it.
+/// those that are kept are of its type.
 pub fn all_params(
     alloc: Global,
     kinds: &[Kind],
@@ -117,7 +117,7 @@ pub fn all_params(
     kept: &[Shared<KindParams>],
     policies: &[Keyed<Policy>],
 ) -> Result<Items<Shared<KindParams>>, AllocError>
-    requires { All (AreOf kinds.now objects.now) kept.now }
+    requires { All (AreRefitted objects.now) kept.now }
     ensures { IfOk result (λ all. all ≡ all_params kinds.now objects.now policies.now) }
 {
     let named = kinds_named(alloc, policies)?;

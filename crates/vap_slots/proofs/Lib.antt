@@ -1,2 +1,3 @@
 pub mod EntryOrder
 pub mod RequestFits
+pub mod Crossing

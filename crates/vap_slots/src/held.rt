@@ -8,15 +8,15 @@ ghost use Rattle.cel_operators.specs.Outcomes.{outcome_fits};
 ghost use Rattle.json_members.specs.Parts.{lent};
 ghost use Rattle.vap_request.specs.Requests.{old_object_of};
 ghost use Rattle.vap_kinds.specs.FixedKinds.{namespace_type};
-ghost use Rattle.vap_slots.specs.Held.{IsHeldAt, held_at, held_namespace, held_with, namespace_value, old_outcome};
+ghost use Rattle.vap_slots.specs.Held.{IsHeldAt, held_at, held_namespace, namespace_value, old_outcome};
 ghost use Rattle.vap_slots.specs.Held.{value_at};
 
+use crate::fixed_types::FixedTypes;
 use crate::values::request_value;
 use cel_value::{CelError, CelType, Value};
 use serde_json::Value as Json;
 use std::alloc::{AllocError, Global};
 use vap_fit::{FitError, FitFault, fit};
-use vap_kinds::namespace_type;
 use vap_match::is_cluster;
 use vap_read::Object;
 use vap_request::{Admission, Request};
@@ -66,15 +66,14 @@ fn old_outcome(
     }
 }
 
-fn held_namespace(alloc: Global, object: &Object) -> Result<Value, AllocError>
+fn held_namespace(alloc: Global, types: &FixedTypes, object: &Object) -> Result<Value, AllocError>
     ensures exact { IfOk result (λ v. v ≡ held_namespace (Some object.now)) }
     ensures fits { IfOk result (λ v. fits v (type.Nullable namespace_type) ≡ true) }
 {
-    let cel_type = namespace_type(alloc)?;
     match value_at(
         alloc,
         "namespaceObject",
-        &cel_type,
+        types.namespace().get(),
         Some(object.document.json()),
     )? {
         Ok(value) => Ok(value),
@@ -85,6 +84,7 @@ fn held_namespace(alloc: Global, object: &Object) -> Result<Value, AllocError>
 /// The Namespace that a request is in, if it is in one and it is held.
 fn namespace_value(
     alloc: Global,
+    types: &FixedTypes,
     namespace: Option<&Object>,
     request: &Admission,
 ) -> Result<Value, AllocError>
@@ -95,35 +95,16 @@ fn namespace_value(
         return Ok(Value::Null);
     }
     match namespace {
-        Some(object) => held_namespace(alloc, object),
+        Some(object) => held_namespace(alloc, types, object),
         None => Ok(Value::Null),
     }
-}
-
-fn held_with(
-    alloc: Global,
-    namespace: Option<&Object>,
-    cel_type: &CelType,
-    request: &Request,
-    object: Value,
-) -> Result<Held, AllocError>
-    requires { fits object (type.Nullable cel_type.now) ≡ true }
-    ensures exact { IfOk result (λ held. held ≡ held_with (option_copied namespace.entry) cel_type.now request.now.admission object) }
-    ensures fits { IfOk result (IsHeldAt cel_type.now) }
-{
-    let asked = request.admission();
-    Ok(Held {
-        object,
-        old_object: old_outcome(alloc, cel_type, asked)?,
-        request: request_value(alloc, request)?,
-        namespace: namespace_value(alloc, namespace, asked)?,
-    })
 }
 
 /// What all names but `params` hold at a request whose objects are of this type, or the fault of the object. The Namespace is the
 /// one of the name of the request's, if it is held.
 pub fn held_at(
     alloc: Global,
+    types: &FixedTypes,
     namespace: Option<&Object>,
     cel_type: &CelType,
     request: &Request,
@@ -131,8 +112,14 @@ pub fn held_at(
     ensures exact { IfOk result (λ held. held ≡ held_at (option_copied namespace.entry) cel_type.now request.now.admission) }
     ensures fits { IfOk result (λ held. IfOk held (IsHeldAt cel_type.now)) }
 {
-    match value_at(alloc, "object", cel_type, request.admission().object())? {
-        Ok(object) => Ok(Ok(held_with(alloc, namespace, cel_type, request, object)?)),
+    let asked = request.admission();
+    match value_at(alloc, "object", cel_type, asked.object())? {
+        Ok(object) => Ok(Ok(Held {
+            object,
+            old_object: old_outcome(alloc, cel_type, asked)?,
+            request: request_value(alloc, request)?,
+            namespace: namespace_value(alloc, types, namespace, asked)?,
+        })),
         Err(fault) => Ok(Err(fault)),
     }
 }

@@ -1,4 +1,4 @@
-//! Why an event is not staged, and why nothing is published.
+//! Why an event is not staged, why nothing is published, and why there is no reader.
 
 ghost use Rattle.std.specs.Prelude.{◌≡◌};
 
@@ -37,3 +37,13 @@ impl From<BuildFault> for PublishFault {
 
 /// Why nothing is published.
 pub type PublishError = Failed<PublishFault>;
+
+/// Why there is no reader.
+#[derive(Clone, Copy, Debug, PartialEq, Eq, Error)]
+pub enum ReaderFault {
+    #[error("there are as many readers as there may be")]
+    NoPlace,
+}
+
+/// Why there is no reader.
+pub type ReaderError = Failed<ReaderFault>;

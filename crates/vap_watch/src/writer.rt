@@ -1,57 +1,49 @@
-//! Staging and publishing.
+//! Staging and publishing to readers.
 
-ghost use Rattle.std.specs.Prelude.{◌≡◌, ◌≢◌, ◌<◌, ◌↔◌, ◌++◌, ◌∷◌, [], false, length, IfErr, IfOk, IsErrOf, OnErr, OnOk};
+ghost use Rattle.std.specs.Prelude.{◌≡◌, ◌≤◌, ◌<◌, ◌↔◌, ◌++◌, ◌∷◌, [], false, length, IfErr, IfOk, IsErrOf, OnErr, OnOk};
 ghost use Rattle.failing.specs.declared.failed.Failed.TheVariants.{Fault};
 ghost use Rattle.vap_watch.specs.Given.{AreUnverified, takes};
-ghost use Rattle.vap_watch.specs.Places.{HasRoomFor, IsNext, Publishes, at, events_at, most_events, objects_at};
+ghost use Rattle.vap_watch.specs.Places.{HasRoomFor, Publishes, at, events_at, most_events, objects_at};
 ghost use Rattle.vap_watch.specs.declared.fault.PublishFault.TheVariants.{Unverified};
 
+use crate::desk::Desk;
 use crate::fault::{PublishError, StageFault};
+use crate::reader::{Board, ReaderSource};
 use crate::snapshot::{Snapshot, revision_of};
 use std::alloc::{AllocError, Global};
 use std::marker::Model;
-use vap_objects::Objects;
+use std::sync::{Arc, RwLock, Wait};
 use vap_read::Event;
 
-/// The most events of a log.
-pub const MOST_EVENTS: usize = 65_536;
-
-/// Stages events and publishes them. Contracts see it as the published log with what is staged after it.
+/// Stages events and publishes them to readers. Contracts see it as the published log with what is staged after it.
 #[derive(Drop)]
 pub struct Writer {
-    published: Snapshot,
-    staged: Vec<Event>,
-    objects: Objects,
-    alloc: Global,
+    desk: Desk,
+    board: Board,
 }
 
 impl Model for Writer {
-    ghost use Rattle.std.specs.Prelude.{◌≡◌, ◌≤◌, ◌+◌, length};
     ghost use Rattle.std.specs.Coded.{codes};
     ghost use Rattle.vap_read.specs.contracts.event.Event as event;
-    ghost use Rattle.vap_watch.specs.Logs.{objects_after, objects_of};
     ghost use Rattle.vap_watch.specs.Places.{Position};
 
     ghost Value = { Position };
 
     ghost coded = { Prim.hlevel (codes, event.the_row.coded) };
 
-    ghost view = { λ w. record { published = w.published; staged = w.staged.items } };
-
-    ghost invariant = { λ w. (w.objects ≡ objects_after (objects_of w.published) w.staged.items)
-        × (length w.published + length w.staged.items ≤ 65536) };
+    ghost view = { λ w. w.desk };
 }
 
-/// A writer that published the log of no event, and stages nothing.
-pub fn open(alloc: Global) -> Result<Writer, AllocError>
-    ensures { IfOk result (λ writer. writer ≡ at [] []) }
+/// A writer that published the log of no event, and stages nothing, and a source of readers: there are places for so many at a
+/// time.
+pub fn open(alloc: Global, places: usize) -> Result<(Writer, ReaderSource), AllocError>
+    requires { (1 ≤ places) × (places ≤ 16) }
+    ensures { IfOk result (λ opened. opened.0 ≡ at [] []) }
 {
-    Ok(Writer {
-        published: Snapshot::opening(alloc)?,
-        staged: Vec::new(alloc),
-        objects: Objects::new(alloc),
-        alloc,
-    })
+    let desk = Desk::new(alloc)?;
+    let board = Arc::new(alloc, RwLock::new(desk.snapshot().share()?))?;
+    let source = ReaderSource::new(alloc, Arc::try_clone(&board)?, places)?;
+    Ok((Writer { desk, board }, source))
 }
 
 impl Writer {
@@ -65,68 +57,30 @@ impl Writer {
         ensures many { IfErr result (λ refused. refused.0 ≡ StageFault.TooManyObjects
             ↔ ((events_at self.old < most_events) × (takes (objects_at self.old) event ≡ false))) }
     {
-        if revision_of(&self.published) + self.staged.len() >= MOST_EVENTS {
-            return Err((StageFault::LogFull, event));
-        }
-        if !self.takes(&event) {
-            return Err((StageFault::TooManyObjects, event));
-        }
-        let Ok(()) = self.staged.reserve(1) else {
-            return Err((StageFault::OutOfMemory, event));
-        };
-        let Ok(()) = self.objects.apply(self.alloc, &event) else {
-            return Err((StageFault::OutOfMemory, event));
-        };
-        self.staged.push_reserved(event);
-        Ok(())
+        self.desk.stage(event)
     }
 
-    /// Whether the limits on objects hold after all that is staged and one event more.
-    fn takes(&self, event: &Event) -> bool
-        ensures { result ≡ takes (objects_at self.now) event.now }
-    {
-        self.objects.takes(event)
-    }
-
-    /// Publishes all that is staged, once and in order, and answers the revision. Where it is refused, all stays as it was.
-    #[tactic(auto, using(crate::proofs::Publication::next_published, crate::proofs::Publication::objects_behind, crate::proofs::Publication::length_behind))]
-    pub fn publish(&mut self) -> Result<usize, PublishError>
+    /// Publishes all that is staged, once and in order, and answers the revision. Where it is refused, all stays as it was, for
+    /// readers too. It waits for those that are entering.
+    pub fn publish<R: Wait>(&mut self, rt: &R) -> Result<usize, PublishError>
         ensures all { OnOk result (Publishes self.old self.new) }
         ensures revision { IfOk result (λ revision. revision ≡ length self.new.published) }
         ensures err { OnErr result (self.new ≡ self.old) }
         ensures unverified { IsErrOf result (Fault Unverified) → AreUnverified (objects_at self.old) }
     {
-        if self.staged.is_empty() {
-            return Ok(revision_of(&self.published));
+        if self.desk.is_clear() {
+            return Ok(revision_of(self.desk.snapshot()));
         }
-        self.published = self.next()?;
-        self.staged.clear();
-        Ok(revision_of(&self.published))
-    }
-
-    /// The snapshot of all that was published and is staged.
-    #[tactic(auto, using(crate::proofs::Publication::set_behind))]
-    fn next(&self) -> Result<Snapshot, PublishError>
-        requires { self.now.staged ≢ [] }
-        ensures next { IfOk result (λ snapshot. IsNext self.now snapshot) }
-        ensures unverified { IsErrOf result (Fault Unverified) → AreUnverified (objects_at self.now) }
-    {
-        let before = self.published.set();
-        let set = match before.advance(self.alloc, &self.objects, self.staged.as_slice()) {
-            Ok(set) => set,
-            Err(error) => return Err(error.widened()),
-        };
-        let log = self
-            .published
-            .log()
-            .followed_by(self.alloc, self.staged.as_slice(), set.choice())?;
-        Ok(Snapshot::new(self.alloc, log, set)?)
+        let next = self.desk.next()?;
+        let shown = next.share()?;
+        *self.board.write(rt) = shown;
+        Ok(self.desk.accept(next))
     }
 
     /// The published snapshot.
     pub fn snapshot(&self) -> &Snapshot
         ensures { result.now ≡ self.now.published }
     {
-        &self.published
+        self.desk.snapshot()
     }
 }

@@ -1,11 +1,13 @@
-//! What `eval` and `check` write, and how failures of readers and writers are counted and end them.
+//! What `eval`, `check` and `image` write, and how failures of readers and writers are counted and end them.
 
+use crate::expressions::bytes::{bytes_in, digits_of};
 use calls_notation::{Asked, unknown};
 use std::alloc::{AllocError, Global};
 use std::io::{ErrorKind, Read, Write};
 use std::{io, str};
 use vap_check::{CheckFailure, Ended, check_to};
 use vap_cli::{Counted, EvalError, Status, eval_to};
+use vap_image::{decode_to, encode_to};
 
 /// The answer to a call of commands.
 pub fn answer(alloc: Global, asked: &Asked) -> Result<String, AllocError> {
@@ -15,6 +17,12 @@ pub fn answer(alloc: Global, asked: &Asked) -> Result<String, AllocError> {
         "check" => check(alloc, asked.input),
         "check_narrow" => check_narrow(alloc, writer_of(asked), asked.input),
         "check_broken" => check_broken(alloc),
+        "encode" => encode(alloc, asked.input),
+        "encode_narrow" => encode_narrow(alloc, writer_of(asked), asked.input),
+        "decode" => decode(alloc, asked.input),
+        "decode_narrow" => decode_narrow(alloc, writer_of(asked), asked.input),
+        "decode_broken" => decoded_by(alloc, Broken),
+        "decode_endless" => decoded_by(alloc, Endless),
         "read" => read(alloc, asked.input),
         "read_broken" => read_broken(alloc),
         _ => unknown(alloc),
@@ -65,6 +73,16 @@ struct Broken;
 impl Read for Broken {
     fn read(&mut self, _buf: &mut [u8]) -> io::Result<usize> {
         Err(io::Error::from(ErrorKind::BrokenPipe))
+    }
+}
+
+/// A reader without end.
+#[derive(Drop)]
+struct Endless;
+
+impl Read for Endless {
+    fn read(&mut self, buf: &mut [u8]) -> io::Result<usize> {
+        Ok(buf.len())
     }
 }
 
@@ -129,14 +147,15 @@ fn check(alloc: Global, file: &str) -> Result<String, AllocError> {
     let ended = check_to(alloc, &mut input, &mut out);
     let failures = (input.failures(), out.failures());
     let written = out.into_inner();
-    told_of_check(alloc, &ended, failures, written.as_slice())
+    told_of_check(alloc, status_in(&ended), failures, written.as_slice())
 }
 
 fn check_narrow(alloc: Global, narrow: Narrow, file: &str) -> Result<String, AllocError> {
     let mut input = Counted::new(file.as_bytes());
     let mut out = Counted::new(narrow);
     let ended = check_to(alloc, &mut input, &mut out);
-    told_of_check(alloc, &ended, (input.failures(), out.failures()), b"")
+    let failures = (input.failures(), out.failures());
+    told_of_check(alloc, status_in(&ended), failures, b"")
 }
 
 /// The same of a file whose reads fail.
@@ -146,17 +165,24 @@ fn check_broken(alloc: Global) -> Result<String, AllocError> {
     let ended = check_to(alloc, &mut input, &mut out);
     let failures = (input.failures(), out.failures());
     let written = out.into_inner();
-    told_of_check(alloc, &ended, failures, written.as_slice())
+    told_of_check(alloc, status_in(&ended), failures, written.as_slice())
+}
+
+fn status_in(ended: &Result<Ended, CheckFailure>) -> Result<Status, CheckFailure> {
+    match ended {
+        Ok(ended) => Ok(ended.status),
+        Err(failure) => Err(*failure),
+    }
 }
 
 fn told_of_check(
     alloc: Global,
-    ended: &Result<Ended, CheckFailure>,
+    ended: Result<Status, CheckFailure>,
     failures: (u64, u64),
     written: &[u8],
 ) -> Result<String, AllocError> {
     let name = match ended {
-        Ok(ended) => name_of(ended.status),
+        Ok(status) => name_of(status),
         Err(CheckFailure::Read) => "Read",
         Err(CheckFailure::Write) => "Write",
         Err(CheckFailure::OutOfMemory) => return Err(AllocError),
@@ -166,6 +192,50 @@ fn told_of_check(
         "{name}, failures {} and {}: {written}",
         failures.0, failures.1
     )
+}
+
+/// How the compilation of an expression ends, how many failures of the writer were counted, and what is written: in hexadecimal
+/// digits where it is the bytes of an image.
+fn encode(alloc: Global, text: &str) -> Result<String, AllocError> {
+    let mut out = Counted::new(Vec::new(alloc));
+    let ended = encode_to(alloc, text, &mut out);
+    let failures = out.failures();
+    let written = out.into_inner();
+    if ended != Ok(Status::Done) {
+        return told_of_eval(alloc, ended, failures, written.as_slice());
+    }
+    let digits = digits_of(alloc, written.as_slice())?;
+    told_of_eval(alloc, ended, failures, digits.as_bytes())
+}
+
+fn encode_narrow(alloc: Global, narrow: Narrow, text: &str) -> Result<String, AllocError> {
+    let mut out = Counted::new(narrow);
+    let ended = encode_to(alloc, text, &mut out);
+    told_of_eval(alloc, ended, out.failures(), b"")
+}
+
+/// How the decoding of bytes ends, which stand in hexadecimal digits, the failures that were counted, and what is written.
+fn decode(alloc: Global, digits: &str) -> Result<String, AllocError> {
+    let bytes = bytes_in(alloc, digits)?;
+    decoded_by(alloc, bytes.as_slice())
+}
+
+fn decoded_by<R: Read + Drop>(alloc: Global, file: R) -> Result<String, AllocError> {
+    let mut input = Counted::new(file);
+    let mut out = Counted::new(Vec::new(alloc));
+    let ended = decode_to(alloc, &mut input, &mut out);
+    let failures = (input.failures(), out.failures());
+    let written = out.into_inner();
+    told_of_check(alloc, ended, failures, written.as_slice())
+}
+
+fn decode_narrow(alloc: Global, narrow: Narrow, digits: &str) -> Result<String, AllocError> {
+    let bytes = bytes_in(alloc, digits)?;
+    let mut input = Counted::new(bytes.as_slice());
+    let mut out = Counted::new(narrow);
+    let ended = decode_to(alloc, &mut input, &mut out);
+    let failures = (input.failures(), out.failures());
+    told_of_check(alloc, ended, failures, b"")
 }
 
 /// How many bytes a reader gives where four are asked, if it does not fail.

@@ -4,7 +4,7 @@
 use crate::expressions::made::{Wanted, verified};
 use calls_notation::{json, parts_of, put, put_type, put_types, type_of, types_of, unreadable};
 use cel_check::TextOperator;
-use cel_code::{Image, Instr, Target};
+use cel_code::{Image, Instr, Target, loop_kind, loop_number};
 use cel_parse::Loop;
 use cel_value::{CelType, Value};
 use json_members::items_in;
@@ -102,7 +102,7 @@ fn word_of(instr: Instr) -> &'static str {
         Instr::Or => "or",
         Instr::Cond(_, _) => "cond ",
         Instr::Jump(_) => "jump ",
-        Instr::Loop(kind, _) => loop_word(kind),
+        Instr::Loop(number, _) => loop_word(loop_kind(number)),
         Instr::Item => "item",
         Instr::When => "when",
         Instr::Next => "next",
@@ -110,13 +110,14 @@ fn word_of(instr: Instr) -> &'static str {
     }
 }
 
-fn loop_word(kind: Loop) -> &'static str {
+fn loop_word(kind: Option<Loop>) -> &'static str {
     match kind {
-        Loop::All => "loop all ",
-        Loop::Exists => "loop exists ",
-        Loop::ExistsOne => "loop exists_one ",
-        Loop::Filter => "loop filter ",
-        Loop::Map => "loop map ",
+        Some(Loop::All) => "loop all ",
+        Some(Loop::Exists) => "loop exists ",
+        Some(Loop::ExistsOne) => "loop exists_one ",
+        Some(Loop::Filter) => "loop filter ",
+        Some(Loop::Map) => "loop map ",
+        None => "loop of no kind ",
     }
 }
 
@@ -219,7 +220,7 @@ fn instr(text: &str) -> Instr {
         "or" => Instr::Or,
         "cond" => conditional(rest),
         "jump" => Instr::Jump(number(rest)),
-        "all" => Instr::Loop(Loop::All, number(rest)),
+        "all" => Instr::Loop(loop_number(Loop::All), number(rest)),
         "item" => Instr::Item,
         "when" => Instr::When,
         "next" => Instr::Next,

@@ -13,7 +13,7 @@ returns-in_err-begun-in-Loop c =
     let p = err_from_is_err_and c.from_residual.result c.from_residual.ensures.1 in
     rw (p.1, p.2)
     (subst (λ i. Fails r (typed_here image c.args.at i c.args.types c.args.opens.now)) (sym c.in-Loop.is)
-    (refused_loop image c.args.at c.in-Loop.mode c.in-Loop.exit c.args.types c.args.opens.now r c.in_err-begun-in-Loop.ensures))
+    (refused_loop image c.args.at c.in-Loop.number c.in-Loop.exit c.args.types c.args.opens.now r c.in_err-begun-in-Loop.ensures))
 
 pub returns-in_ok-begun-in-Loop : goal.returns-in_ok-begun-in-Loop
 returns-in_ok-begun-in-Loop c =
@@ -25,7 +25,7 @@ returns-in_ok-begun-in-Loop c =
     (λ i. MatchResult result (λ there. Passes image c.args.at i c.args.types opens there left)
     (λ r. Fails r (typed_here image c.args.at i c.args.types opens)))
     (sym c.in-Loop.is)
-    (passes_in image c.args.at c.in-Loop.mode c.in-Loop.exit c.args.types opens left c.in_ok-begun-in-Loop.begun
+    (passes_in image c.args.at c.in-Loop.number c.in-Loop.exit c.args.types opens left c.in_ok-begun-in-Loop.begun
     c.in_ok-begun-in-Loop.ensures result c.enter.ensures)
 
 pub typed-requires-clause-plain : goal.typed-requires-clause-plain

@@ -1,5 +1,5 @@
 use denote.Param.Send.{sendable}
-use Rattle.cel_patterns.proofs.Sent.{matchers_send}
+use Rattle.cel_patterns.proofs.Crossing.{matchers_send}
 use Rattle.rows.proofs.threads.matchers_are_sent.Goals as goal
 
 pub is_sent-requires-send-T : goal.is_sent-requires-send-T

@@ -6,6 +6,6 @@ use Rattle.vap_objects.proofs.by_name.put_named.Goals as goal
 
 pub returns : goal.returns
 returns g c =
-    let same : c.insert.new.self.items ≡ with_entry c.args.name c.args.value c.args.entries.now.items =
-    first_of (search rules, grind (arith, common_steps)) in
-    adds_one c.args.name c.args.value c.args.entries.now.items c.insert.new.self.items same
+    adds_one c.args.name c.args.value c.args.entries.now.items c.insert.new.self.items (λ sorted.
+    let at = c.place_of-place.ensures.place (rw c.as_slice.ensures.value sorted) in
+    first_of (search rules, grind (arith, common_steps)))

@@ -1,4 +1,5 @@
-use Rattle.std.proofs.Common.{◌≡◌, ◌≢◌, ◌^◌, ◌+◌, ◌∙◌, rules}
+use Rattle.std.proofs.Common.{◌≡◌, ◌≢◌, ◌^◌, ◌+◌, ◌∙◌, rules, sym}
+use Rattle.std.proofs.lemmas.Bool.{false≢true}
 use Rattle.std.specs.Prelude.{IsErrOf}
 use Rattle.std.specs.Io.KnownBytes.{IsAtEnd}
 use Rattle.std.proofs.lemmas.Result.{err_from_is_err_and}
@@ -123,7 +124,16 @@ returns-clause-pattern g c =
     λ number told.
     unanswered_last g.W.Write.contents (g.R.Read.remaining (inner_of c.args.input.now))
     (unread g.R.Read.remaining c.loop-session.input c.loop-session.reader) c.loop-session.session
-    (g.W.Write.contents (inner_of c.args.output.now)) c.loop-session.output c.answer_group.new.out number Pattern
+    (g.W.Write.contents (inner_of c.args.output.now)) c.loop-session.output c.answer_group.new.out number
     c.loop-session.invariant.taken c.loop-session.invariant.written (c.answer_group.ensures.pattern number Pattern told)
     (told_unwritten c.answer_group.result c.loop-session.output c.answer_group.new.out number Pattern told
     c.answer_group.ensures.stopped)
+
+pub returns-clause-unverified : goal.returns-clause-unverified
+returns-clause-unverified g c = λ number told. absurd (c.answer_group.ensures.pattern number Unverified told).fault
+
+-- what the lines determine is no fault of the last group
+pub returns-clause-refused : goal.returns-clause-refused
+returns-clause-refused g c =
+    λ number why is told.
+    absurd (false≢true (sym (c.answer_group.ensures.lines number why told) ∙ is))

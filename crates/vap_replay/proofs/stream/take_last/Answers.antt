@@ -1,11 +1,11 @@
-use Rattle.std.proofs.Common.{◌≡◌, ◌≢◌, ◌<◌, length, arith}
+use Rattle.std.proofs.Common.{◌≡◌, ◌≢◌, ◌<◌, length, arith, refl}
 use Rattle.std.proofs.lemmas.Grind.{common_steps}
 use Rattle.vap_lines.specs.declared.lines.Ending.TheVariants.{End, TooLong}
 use Rattle.vap_replay.proofs.Next.{one_counted, one_each, one_refused}
 use Rattle.vap_replay.specs.Moves.{IsReadAs}
 use Rattle.vap_replay.specs.declared.line.Line.{Line}
 use Rattle.vap_replay.specs.declared.line.Line.TheVariants.{Happens, Asks}
-use Rattle.vap_replay.proofs.Taking.{one_line}
+use Rattle.vap_replay.proofs.Taking.{none_taken, one_line}
 use Rattle.vap_replay.proofs.Unjudged.{plain_read, read_as, unjudged_as, unpublished_as}
 use Rattle.vap_replay.proofs.stream.take_last.Goals as goal
 
@@ -50,3 +50,8 @@ returns-clause-unverified g c =
     (λ event is.
     read_as End c.args.bytes.now line (Happens event) (one_line End c.args.bytes.now (λ e. some)) short c.in_ok-line.ensures is)
     (c.take.ensures.unverified number told (plain_read c.args.bytes.now line c.in_ok-line.ensures))
+
+pub returns-then-is_empty-clause-taken : goal.returns-then-is_empty-clause-taken
+returns-then-is_empty-clause-taken g c =
+    let none : length c.args.bytes.now ≡ 0 = grind (arith, common_steps) in
+    none_taken c.args.bytes.now c.args.session.now c.args.session.now none refl

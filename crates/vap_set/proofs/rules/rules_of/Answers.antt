@@ -12,4 +12,4 @@ returns-clause-few c =
     let policies =
     subst (λ (x : List (Keyed Policy)). length x ≤ 256) (sym (c.as_slice-5.ensures ∙ c.in_ok-own.ensures)) c.requires.few in
     subst AreFew (sym (c.in_ok-policies.ensures ∙ c.in_ok-bound.ensures.bound))
-    (few_bound c.get-2.result.now c.as_slice-3.result.now c.as_slice-4.result.now c.as_slice-5.result.now bindings policies)
+    (few_bound c.get-3.result.now c.as_slice-3.result.now c.as_slice-4.result.now c.as_slice-5.result.now bindings policies)

@@ -1,9 +1,9 @@
-use Rattle.std.proofs.Common.{Some, ap, sym, ◌∙◌}
+use Rattle.std.proofs.Common.{Some, ap, sym, subst, ◌∙◌}
 use Rattle.std.specs.Option.{option_copied}
 use Rattle.std.proofs.lemmas.List.Elements.{recursion_from_All}
 use Rattle.vap_set.specs.Fitted.{Fitted}
-use Rattle.vap_set.specs.Reuse.{AreOf}
-use Rattle.vap_set.proofs.ParamTable.{found_theirs}
+use Rattle.vap_set.specs.Reuse.{AreRefitted, IsKnownBy}
+use Rattle.vap_set.proofs.ParamTable.{found_kept, kept_theirs}
 use Rattle.vap_set.proofs.table.kind_params.Goals as goal
 
 pub returns-in_ok-share-in-Some : goal.returns-in_ok-share-in-Some
@@ -11,7 +11,9 @@ returns-in_ok-share-in-Some c =
     let kinds = c.args.kinds.now in
     let objects = c.args.objects.now in
     let kept = c.args.kept.now in
+    let q = c.in-Some.params.now in
     let found = sym c.find_params.ensures ∙ ap option_copied c.in-Some.is in
+    let known = subst (IsKnownBy kinds) c.get.ensures (c.is_known_by.ensures c.if-is_known_by.true) in
     ap (λ (q : Fitted). Some q) c.in_ok-share-in-Some.ensures
-    ∙ sym (found_theirs kinds objects c.args.kind.now kept (recursion_from_All (AreOf kinds objects) kept c.requires)
-    c.in-Some.params.now found)
+    ∙ kept_theirs kinds objects c.args.kind.now q
+    (found_kept objects c.args.kind.now kept (recursion_from_All (AreRefitted objects) kept c.requires) q found) known

@@ -1,4 +1,4 @@
-use Rattle.std.proofs.Common.{◌+◌, arith, sym, ap, ◌∙◌, subst, [], ◌∷◌, drop, filter, map}
+use Rattle.std.proofs.Common.{◌+◌, arith, get_or, sym, ap, ◌∙◌, subst, [], ◌∷◌, drop, filter, map}
 use Rattle.vap_judge.specs.Evaluations.{found_by, joined}
 use Rattle.vap_judge.specs.Judging.{at_param, at_seen}
 use Rattle.vap_judge.specs.Params.{is_param}
@@ -15,14 +15,16 @@ pub param-requires : goal.param-requires
 param-requires g c =
     let l = c.loop-param in
     let all = c.params-param-items.ensures in
-    let x = c.param-item.result in
+    let x = c.get-fitted.result.now in
+    let there = c.get-fitted.ensures ∙ c.param-item.is
+    ∙ ap (get_or c.params-param-items.result.now c.loop-param.param-index) (sym c.get-fitted.ensures) in
     rw l.invariant.case (
       c.requires.0.ready,
       (
         c.requires.0.within,
         (
           can_run_at (case_of c.args.self.now.case.now) c.args.params.now g.types c.args.programs.now x c.requires.0
-              (seen_at c.args.params.now.cel_type c.params-param-items.result.now l.param-index x c.loop-param-test.true c.param-item.is
+              (seen_at c.args.params.now.cel_type c.params-param-items.result.now l.param-index x c.loop-param-test.true there
               all.seen),
           omega (arith, c.requires.1, l.invariant.grows, c.loop-param-test.true, all.few),
         ),
@@ -39,7 +41,9 @@ loop-param-preserved g c =
     let t = c.args.params.now.cel_type in
     let test = is_param (lent_place c.args.selection.now.place) c.args.selection.now.reference.now in
     let xs = c.params-param-items.result.now in
-    let x = c.param-item.result in
+    let x = c.get-fitted.result.now in
+    let there = c.get-fitted.ensures ∙ c.param-item.is
+    ∙ ap (get_or c.params-param-items.result.now c.loop-param.param-index) (sym c.get-fitted.ensures) in
     let rest = map (at_param case rule ps t) (filter test (map (λ p. p.object) (drop (l.param-index + 1) xs))) in
     let more = map (at_param case rule ps t) (filter test (map (λ p. p.object) (drop l.param-index xs))) in
     let taken = ap test (sym c.get.ensures) ∙ sym c.takes.ensures in
@@ -51,7 +55,7 @@ loop-param-preserved g c =
             (at_seen (case_of l.self.case.now) rule ps x.outcome ∷ []) rest more w.in_ok-param.ensures.adds.found
             (
             ap (λ k. at_seen (case_of k.now) rule ps x.outcome ∷ rest) l.invariant.case
-            ∙ next_param case rule ps t test xs l.param-index x c.loop-param-test.true c.param-item.is all.seen
+            ∙ next_param case rule ps t test xs l.param-index x c.loop-param-test.true there all.seen
             (taken ∙ w.if-takes.true)
             )
             l.invariant.found
@@ -62,7 +66,7 @@ loop-param-preserved g c =
         case = rw w.self-is l.invariant.case;
         found = rw w.self-is (
             ap (λ es. joined (findings_of l.self.findings) (found_by es))
-            (other_param case rule ps t test xs l.param-index x c.loop-param-test.true c.param-item.is (taken ∙ w.if-takes.false))
+            (other_param case rule ps t test xs l.param-index x c.loop-param-test.true there (taken ∙ w.if-takes.false))
             ∙ l.invariant.found
             );
         grows = rw w.self-is (omega (arith, l.invariant.grows));
@@ -77,12 +81,14 @@ returns-in_err-param-clause-pattern g c = λ is.
     let r = p.2 in
     let l = c.loop-param in
     let all = c.params-param-items.ensures in
-    let x = c.param-item.result in
+    let x = c.get-fitted.result.now in
+    let there = c.get-fitted.ensures ∙ c.param-item.is
+    ∙ ap (get_or c.params-param-items.result.now c.loop-param.param-index) (sym c.get-fitted.ensures) in
     let ps = c.args.programs.now in
     let rule = rule_of c.args.rule.now in
     let test = is_param (lent_place c.args.selection.now.place) c.args.selection.now.reference.now in
     one_param (case_of c.args.self.now.case.now) rule ps c.args.params.now.cel_type test c.params-param-items.result.now
-    c.args.params.now.objects l.param-index x all.objects c.loop-param-test.true c.param-item.is all.seen
+    c.args.params.now.objects l.param-index x all.objects c.loop-param-test.true there all.seen
     (ap test (sym c.get.ensures) ∙ sym c.takes.ensures ∙ c.if-takes.true)
     (
     subst (λ k. EvaluationMayMatch (at_seen (case_of k.now) rule ps x.outcome)) l.invariant.case (c.in_err-param.ensures.pattern (cc))

@@ -1,18 +1,9 @@
 use Rattle.std.proofs.Common.{◌≡◌, ℕ, ◌++◌, List, Some, length, sym, ap, ◌∙◌, append-nil}
-use Rattle.std.specs.Prelude.{IsErrOf, slice_get, string_bytes}
-use Rattle.std.proofs.lemmas.Result.{err_from_is_err_and}
+use Rattle.std.specs.Prelude.{slice_get, string_bytes}
 use Rattle.vap_audit.specs.declared.entry.Entry.{Entry}
 use Rattle.vap_replay.specs.Replay.{answer_line, entry_of}
-use Rattle.vap_replay.specs.declared.fault.ReplayError.TheVariants.{Line}
 use Rattle.vap_replay.proofs.Groups.{last_entry}
 use Rattle.vap_replay.proofs.session.Session.decide.Goals as goal
-
-pub returns-in_err-number-clause-asked : goal.returns-in_err-number-clause-asked
-returns-in_err-number-clause-asked c =
-    let p = err_from_is_err_and c.from_residual.result c.from_residual.ensures.1 in
-    λ number why told.
-    let same : IsErrOf c.record.result (Line number why) = cc (c.in_err-number.was) in
-    c.record.ensures.asked number why same
 
 pub returns-clause-text : goal.returns-clause-text
 returns-clause-text c =

@@ -1,46 +1,63 @@
-use Rattle.std.proofs.Common.{◌≡◌, ◌∷◌, ap, ◌∙◌}
-use Rattle.std.specs.Prelude.{IsErrOf, string_bytes}
-use Rattle.std.specs.Vec.Iter.{into_iter_items}
+use Rattle.std.proofs.Common.{◌+◌, ◌≤◌, ◌++◌, List, length, ap, sym, subst, ◌∙◌}
+use Rattle.std.specs.Prelude.{IsErrOf}
 use Rattle.std.proofs.lemmas.Result.{err_from_is_err_and}
+use Rattle.vap_request.specs.declared.request.Request.{Request}
+use Rattle.vap_watch.specs.declared.log.Logged.{Logged}
+use Rattle.vap_audit.specs.Entries.{most_entries}
+use Rattle.vap_plane.specs.Answers.{verdicts_at}
+use Rattle.vap_replay.specs.Replay.{answers_text}
+use Rattle.vap_replay.specs.Sessions.{group_entries}
 use Rattle.vap_replay.specs.declared.fault.ReplayError.TheVariants.{Line}
-use Rattle.vap_replay.proofs.Groups.{decided_next, history_next, told_next, waiting_next}
-use Rattle.vap_replay.proofs.Unjudged.{first_among, group_tells, others_among}
+use Rattle.vap_replay.proofs.Tellings.{not_of_lines}
+use Rattle.vap_replay.proofs.Unjudged.{group_tells}
 use Rattle.vap_replay.proofs.session.Session.decide_group.Goals as goal
 
-pub loop-request-preserved : goal.loop-request-preserved
-loop-request-preserved c =
-    let inv = c.loop-request.invariant in
-    let request = c.in-Some.request in
-    let left = into_iter_items c.loop-request.request-iterator in
-    let rest = into_iter_items c.next.new.self in
-    let is : left ≡ request ∷ rest = c.in-Some.ensures.steps.0 in
-    let done = c.in_ok-decide.ensures.decided in
-    let old = c.loop-request.self in
-    let new = c.decide.new.self in
+-- the verdicts are those on the requests that were taken out of the group
+pub decide_all-requires-clause-right : goal.decide_all-requires-clause-right
+decide_all-requires-clause-right g c =
+    let log = c.args.self.now.writer.published in
+    c.in_ok-verdicts.ensures.verdicts
+    ∙ (ap (λ (l : List Logged). verdicts_at l c.as_slice.result.now) c.snapshot-snapshot.ensures
+    ∙ ap (λ (rs : List Request). verdicts_at log rs) (c.as_slice.ensures.value ∙ sym (ap (λ g. g.items) c.replace-group.ensures.value)))
+
+pub decide_all-requires-clause-room : goal.decide_all-requires-clause-room
+decide_all-requires-clause-room g c =
+    subst (λ (rs : List Request). length c.args.self.now.history + length rs ≤ most_entries)
+    (sym (ap (λ g. g.items) c.replace-group.ensures.value)) c.requires.room.room
+
+pub returns-clause-answered : goal.returns-clause-answered
+returns-clause-answered g c =
+    let done = c.in_ok-text.ensures.decided in
+    let old = c.args.self.now in
     record {
-      log = done.log ∙ inv.log;
-      lines = done.lines ∙ inv.lines;
-      first = c.decide.ensures.first ∙ inv.first;
-      waiting = waiting_next left rest request _ is inv.waiting;
-      among = others_among left rest c.args.self.now.group.items request is inv.among;
-      none = ap (λ g. g.items) c.decide.ensures.group ∙ inv.none;
-      entries = decided_next old.writer new.writer old.history new.history request left rest _ done.log done.history is inv.entries;
-      text =
-          told_next old.writer new.writer old.history new.history request left rest (string_bytes c.loop-request.text)
-          (string_bytes c.decide.new.text) _ done.log done.history is c.in_ok-decide.ensures.text inv.text;
-      room = history_next old.history new.history left rest request _ _ is done.history inv.room;
+      log = done.log;
+      lines = done.lines;
+      none = c.in_ok-text.ensures.none;
+      entries =
+          done.history
+          ∙ ap (λ (rs : List Request). old.history ++ group_entries old.writer.published (length old.history) rs)
+          (ap (λ g. g.items) c.replace-group.ensures.value);
     }
 
--- at the request that is judged
-pub returns-in_err-decide-clause-pattern : goal.returns-in_err-decide-clause-pattern
-returns-in_err-decide-clause-pattern c =
+pub returns-clause-text : goal.returns-clause-text
+returns-clause-text g c =
+    let old = c.args.self.now in
+    c.in_ok-text.ensures.text
+    ∙ ap (λ (rs : List Request). answers_text (group_entries old.writer.published (length old.history) rs))
+    (ap (λ g. g.items) c.replace-group.ensures.value)
+
+-- at the line of the first request
+pub returns-in_err-verdicts-clause-pattern : goal.returns-in_err-verdicts-clause-pattern
+returns-in_err-verdicts-clause-pattern g c =
     let p = err_from_is_err_and c.from_residual.result c.from_residual.ensures.1 in
-    let inv = c.loop-request.invariant in
-    let request = c.in-Some.request in
-    let left = into_iter_items c.loop-request.request-iterator in
-    let rest = into_iter_items c.next.new.self in
-    let is : left ≡ request ∷ rest = c.in-Some.ensures.steps.0 in
     λ number why told.
-    let same : IsErrOf c.decide.result (Line number why) = cc (c.in_err-decide.was) in
-    group_tells c.args.self.now c.loop-request.self number why request (c.decide.ensures.pattern number why same) inv.first inv.log
-    (first_among left rest c.args.self.now.group.items request is inv.among) (c.decide.ensures.asked number why same)
+    let same : IsErrOf c.judge.result (Line number why) = cc (c.in_err-verdicts.was) in
+    group_tells c.args.self.now c.snapshot-snapshot.result.now c.as_slice.result.now number why c.snapshot-snapshot.ensures
+    c.as_slice.ensures.value (c.judge.ensures.told number why same)
+
+pub returns-in_err-verdicts-clause-lines : goal.returns-in_err-verdicts-clause-lines
+returns-in_err-verdicts-clause-lines g c =
+    let p = err_from_is_err_and c.from_residual.result c.from_residual.ensures.1 in
+    λ number why told.
+    let same : IsErrOf c.judge.result (Line number why) = cc (c.in_err-verdicts.was) in
+    not_of_lines why (c.judge.ensures.told number why same).fault

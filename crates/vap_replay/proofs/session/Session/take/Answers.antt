@@ -81,15 +81,14 @@ pub returns-in-Refused-clause-pattern : goal.returns-in-Refused-clause-pattern
 returns-in-Refused-clause-pattern g c =
     λ number told plain.
     let both = c.refuse.ensures.pattern number Pattern refl (plain_fault c.args.line c.in-Refused.fault plain c.in-Refused.is) told in
-    group_unjudged _ c.args.self.now _ c.args.out.now c.refuse.new.out number Pattern both.0 refl refl refl both.1
+    group_unjudged _ c.args.self.now _ _ _ c.args.out.now c.refuse.new.out number both.0 refl refl refl both.1
 
 pub returns-in-Refused-clause-unverified : goal.returns-in-Refused-clause-unverified
 returns-in-Refused-clause-unverified g c =
     λ number told plain.
     let both =
     c.refuse.ensures.pattern number Unverified refl (plain_fault c.args.line c.in-Refused.fault plain c.in-Refused.is) told in
-    let bad : Unverified ≡ Pattern = both.0.pattern in
-    cc
+    absurd both.0.fault
 
 pub returns-in_err-answer_group-in-Happens-clause-pattern :
     goal.returns-in_err-answer_group-in-Happens-clause-pattern
@@ -100,5 +99,14 @@ returns-in_err-answer_group-in-Happens-clause-pattern g c =
     let same : IsErrOf c.answer_group.result (AtLine number Pattern) = cc (c.in_err-answer_group-in-Happens.was) in
     let unwritten = told_unwritten c.answer_group.result c.args.out.now c.answer_group.new.out number Pattern same
     c.answer_group.ensures.stopped in
-    group_unjudged _ c.args.self.now _ c.args.out.now c.answer_group.new.out number Pattern
+    group_unjudged _ c.args.self.now _ _ _ c.args.out.now c.answer_group.new.out number
     (c.answer_group.ensures.pattern number Pattern same) refl refl refl unwritten
+
+pub returns-in_err-answer_group-in-Happens-clause-unverified :
+    goal.returns-in_err-answer_group-in-Happens-clause-unverified
+returns-in_err-answer_group-in-Happens-clause-unverified g c =
+    let from = c.from_residual in
+    let p = err_from_is_err_and from.result from.ensures.1 in
+    λ number told plain.
+    let same : IsErrOf c.answer_group.result (AtLine number Unverified) = cc (c.in_err-answer_group-in-Happens.was) in
+    absurd (c.answer_group.ensures.pattern number Unverified same).fault

@@ -1,11 +1,10 @@
 use Rattle.std.proofs.Common.{List, sym, ap, ◌∙◌, subst}
 use Rattle.std.specs.List.{All}
-use Rattle.vap_objects.specs.Listed.{kinds_in}
 use Rattle.vap_set.specs.Fitted.{Fitted}
-use Rattle.vap_set.specs.Reuse.{AreOf, untouched_in}
+use Rattle.vap_set.specs.Reuse.{AreStill}
 use Rattle.vap_set.specs.Sets.{Holdings}
 use Rattle.vap_set.specs.declared.rules.Rules.{Rules}
-use Rattle.vap_set.proofs.Reused.{kinds_still, namespaces_still, params_untouched}
+use Rattle.vap_set.proofs.Reused.{all_refitted, kinds_still, namespaces_still, params_still}
 use Rattle.vap_set.proofs.set.PolicySet.parts_after.Goals as goal
 
 pub definitions_after-requires : goal.definitions_after-requires
@@ -19,11 +18,12 @@ namespaces_after-requires c = λ missed.
     ap (λ (h : Holdings). h.namespaces) c.self.view_is
     ∙ namespaces_still c.args.self.now c.args.events.now c.args.objects.now c.requires.before missed
 
+pub params_after-requires : goal.params_after-requires
+params_after-requires c =
+    subst (λ (qs : List Fitted). All (AreStill c.args.objects.now c.args.events.now) qs)
+    (sym (c.as_slice.ensures ∙ ap (λ (h : Holdings). h.params) c.self.view_is))
+    (params_still c.args.self.now c.args.events.now c.args.objects.now c.requires.before)
+
 pub returns-clause-params : goal.returns-clause-params
 returns-clause-params c =
-    let objects = c.args.objects.now in
-    let events = c.args.events.now in
-    let kept = c.in_ok-untouched_params.ensures
-    ∙ ap (untouched_in events) (c.as_slice.ensures ∙ ap (λ (h : Holdings). h.params) c.self.view_is) in
-    subst (λ (qs : List Fitted). All (AreOf (kinds_in objects.objects) objects) qs) (sym kept)
-    (params_untouched c.args.self.now events objects c.requires.before)
+    all_refitted c.args.objects.now c.as_slice.result.now c.in_ok-params_after.field-0 c.in_ok-params_after.ensures

@@ -1,0 +1,106 @@
+-- Whole images: what is read is spelt so, and what is spelt so is read.
+use Rattle.std.proofs.Common.{◌≡◌, ℕ, Bool, true, false, ◌&&◌, eqb, List, [], ◌∷◌, ◌++◌, Result, Ok}
+use Rattle.std.proofs.Common.{refl, ap, subst, ◌∙◌, append_assoc}
+use Rattle.std.proofs.lemmas.Bool.{eqb-true, eq-eqb}
+use Rattle.cel_code.specs.declared.image.Image.{Image}
+use Rattle.cel_image.specs.declared.fault.ReadFault.{ReadFault}
+use Rattle.cel_image.specs.declared.fault.ReadFault.TheVariants.{BadTable}
+use Rattle.cel_image.specs.Spelling.{listed, is_list, type_spelling, is_spellable, constant, is_constant}
+use Rattle.cel_image.specs.Reading.{◌>>=◌, tagged, list_at, type_at, constant_at}
+use Rattle.cel_image.specs.Code.{instr, is_instr, types, are_types, most_levels, target, is_target, magic, contents}
+use Rattle.cel_image.specs.Code.{image_spelling, is_image}
+use Rattle.cel_image.specs.CodeReading.{instr_at, types_at, target_at, byte_is, marked, Parts, parts_at, image_from}
+use Rattle.cel_image.specs.CodeReading.{image_readers, image_at}
+use Rattle.cel_image.proofs.Laws.{IsBytes, IsBytes-rest, Takes, Takes-then, Law, ok_is, test_ok, bind_ok, both_law, made_again, list_law}
+use Rattle.cel_image.proofs.Tables.{◌also◌, Entries, entry, none, tagged_takes}
+use Rattle.cel_image.proofs.TypeLaw.{type_law}
+use Rattle.cel_image.proofs.ConstantLaw.{constant_law}
+use Rattle.cel_image.proofs.CodeLaw.{instr_law, types_law, target_law}
+
+-- ---- the bytes in front
+
+byte_takes : (m : ℕ) (bytes : List ℕ) (x : Unit {0} × List ℕ) → IsBytes bytes → byte_is m bytes ≡ Ok x → Takes bytes (m ∷ []) x.1
+byte_takes m [] x h e = absurd cc
+byte_takes m (b ∷ bytes) x h e =
+    let g = test_ok (eqb b m) BadTable (tt, bytes) x e in
+    let t : Takes (b ∷ bytes) (b ∷ []) bytes = record { parts = refl; rest_fits = IsBytes-rest b bytes h } in
+    let u : Takes (b ∷ bytes) (m ∷ []) bytes = subst (λ (c : ℕ). Takes (b ∷ bytes) (c ∷ []) bytes) (eqb-true b m g.0) t in
+    subst (λ (y : Unit {0} × List ℕ). Takes (b ∷ bytes) (m ∷ []) y.1) g.1 u
+
+marked_takes : (ms bytes : List ℕ) (x : Unit {0} × List ℕ) → IsBytes bytes → marked ms bytes ≡ Ok x → Takes bytes ms x.1
+marked_takes [] bytes x h e =
+    subst (λ (y : Unit {0} × List ℕ). Takes bytes [] y.1) (ok_is (tt, bytes) x e) (record { parts = refl; rest_fits = h })
+marked_takes (m ∷ ms) bytes x h e =
+    let a = bind_ok (byte_is m bytes) (λ y. marked ms y.1) x e in
+    let t = byte_takes m bytes a.0 h a.1 in
+    Takes-then bytes (m ∷ []) a.0.1 ms x.1 t (marked_takes ms a.0.1 x t.rest_fits a.2)
+
+marked_again : (ms rest : List ℕ) → marked ms (ms ++ rest) ≡ Ok (tt, rest)
+marked_again [] rest = refl
+marked_again (m ∷ ms) rest =
+    let same : eqb m m ≡ true = eq-eqb m m refl in
+    rw same (marked_again ms rest)
+
+-- ---- what stands behind the version
+
+abbrev image_parts : Image → Parts
+image_parts i = (i.slots, (i.constants, (i.targets, (i.result, i.code))))
+
+abbrev parts_spelling : Parts → List ℕ
+parts_spelling p =
+    types p.0 ++ (listed constant p.1.0 ++ (listed target p.1.1.0 ++ (type_spelling p.1.1.1.0 ++ listed instr p.1.1.1.1)))
+
+abbrev are_parts : Parts → Bool
+are_parts p =
+    are_types p.0 && (is_list (λ _ v. is_constant v) p.1.0
+    && (is_list is_target p.1.1.0 && (is_spellable p.1.1.1.0 most_levels false && is_list (λ _ c. is_instr c) p.1.1.1.1)))
+
+constants_law : Law (list_at (λ _. constant_at)) (listed constant) (is_list (λ _ v. is_constant v))
+constants_law = list_law (λ _. constant_at) constant (λ _ v. is_constant v) (λ _. constant_law)
+
+targets_law : Law (list_at target_at) (listed target) (is_list is_target)
+targets_law = list_law target_at target is_target target_law
+
+instrs_law : Law (list_at (λ _. instr_at)) (listed instr) (is_list (λ _ c. is_instr c))
+instrs_law = list_law (λ _. instr_at) instr (λ _ c. is_instr c) (λ _. instr_law)
+
+parts_law : Law parts_at parts_spelling are_parts
+parts_law =
+    both_law types_at types are_types _ _ _ types_law
+    (both_law (list_at (λ _. constant_at)) (listed constant) (is_list (λ _ v. is_constant v)) _ _ _ constants_law
+    (both_law (list_at target_at) (listed target) (is_list is_target) _ _ _ targets_law
+    (both_law (type_at most_levels false) type_spelling (λ t. is_spellable t most_levels false)
+    (list_at (λ _. instr_at)) (listed instr) (is_list (λ _ c. is_instr c)) (type_law most_levels false) instrs_law)))
+
+-- ---- the version
+
+-- the version, and what stands behind it
+abbrev numbered : Image → List ℕ
+numbered i = 1 ∷ contents i
+
+versions : Entries numbered is_image 0 image_readers
+versions =
+    none numbered is_image 0
+    also entry numbered is_image parts_at parts_spelling are_parts parts_law image_from 1 (λ _. refl) (λ _. refl)
+    also tt
+
+version_again : (i : Image) (rest : List ℕ) → is_image i ≡ true → tagged BadTable image_readers (numbered i ++ rest) ≡ Ok (i, rest)
+version_again i rest h = made_again parts_at parts_spelling are_parts image_from parts_law (image_parts i) rest h
+
+-- ---- the whole image
+
+abbrev behind : Unit {0} × List ℕ → Result (Image × List ℕ) ReadFault
+behind start = tagged BadTable image_readers start.1
+
+pub image_law : Law image_at image_spelling is_image
+image_law = record {
+  takes = λ bytes x h e.
+      let a = bind_ok (marked magic bytes) behind x e in
+      let t = marked_takes magic bytes a.0 h a.1 in
+      let u = tagged_takes numbered is_image BadTable image_readers versions a.0.1 x t.rest_fits a.2 in
+      (Takes-then bytes magic a.0.1 (numbered x.0) x.1 t u.0, u.1);
+  again = λ i rest fits.
+      ap image_at (append_assoc magic (numbered i) rest)
+      ∙ ap (λ (r : Result (Unit {0} × List ℕ) ReadFault). r >>= behind) (marked_again magic (numbered i ++ rest))
+      ∙ version_again i rest fits;
+}

@@ -1,0 +1,11 @@
+pub mod Texts
+pub mod Laws
+pub mod Tables
+pub mod TypeLaw
+pub mod Behind
+pub mod Loops
+pub mod FieldOrder
+pub mod ConstantLaw
+pub mod CodeLaw
+pub mod ImageLaw
+pub mod Whole

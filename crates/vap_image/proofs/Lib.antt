@@ -1,0 +1,2 @@
+pub mod Spelt
+pub mod Accepted

@@ -1,0 +1,4 @@
+pub mod Closed
+pub mod Numbered
+pub mod Replies
+pub mod Crossing

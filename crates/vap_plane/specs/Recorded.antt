@@ -1,0 +1,34 @@
+-- What is recorded, and why a call is not answered.
+use Rattle.std.specs.Prelude.{◌≡◌, ◌⊎◌, ℕ, List, codes}
+use Rattle.vap_audit.specs.declared.entry.Entry.{Entry}
+use Rattle.failing.specs.declared.failed.Failed.{Failed}
+use Rattle.failing.specs.declared.failed.Failed.TheVariants.{OutOfMemory, Fault}
+use Rattle.vap_plane.specs.declared.fault.PlaneFault.{PlaneFault}
+use Rattle.vap_plane.specs.declared.fault.PlaneFault.TheVariants.{Double, Stranger, Lost, Judge, Audit}
+use Rattle.vap_watch.specs.declared.log.Logged.{Logged}
+use Rattle.vap_request.specs.declared.request.Request.{Request}
+use Rattle.vap_answer.specs.declared.verdict.Verdict.{Verdict}
+
+-- the entry of what was judged at a log by this worker
+abbrev pub entry_of : ℕ → List Logged → Request → Verdict → ℕ → Entry
+entry_of call log request verdict worker = record { call = call; log = log; request = request; verdict = verdict; worker = worker }
+
+-- the call is not judged, or there is no memory
+abbrev pub IsUnjudged : ℕ → Failed PlaneFault → Type 0
+IsUnjudged call error = (error ≡ Fault (Judge call)) ⊎ (error ≡ OutOfMemory)
+
+-- the call is not recorded, or there is no memory
+abbrev pub IsUnrecorded : ℕ → Failed PlaneFault → Type 0
+IsUnrecorded call error = (error ≡ Fault (Audit call)) ⊎ (error ≡ OutOfMemory)
+
+-- the call is not judged or not recorded, or there is no memory
+abbrev pub IsUnanswered : ℕ → Failed PlaneFault → Type 0
+IsUnanswered call error = (error ≡ Fault (Judge call)) ⊎ IsUnrecorded call error
+
+-- the name of a fault, as it is printed
+abbrev pub plane_fault_name : PlaneFault → List ℕ
+plane_fault_name (Double call) = codes "Double"
+plane_fault_name (Stranger call) = codes "Stranger"
+plane_fault_name (Lost call) = codes "Lost"
+plane_fault_name (Judge call) = codes "Judge"
+plane_fault_name (Audit call) = codes "Audit"

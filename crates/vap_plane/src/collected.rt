@@ -1,0 +1,122 @@
+//! What came back of a batch, and what it comes to.
+
+ghost use Rattle.std.specs.Prelude.{◌≡◌, ◌++◌, [], true, IfOk, OnOk};
+ghost use Rattle.vap_plane.specs.Answers.{AreKept};
+ghost use Rattle.vap_plane.specs.Numbered.{IsListOf};
+
+use crate::fault::{PlaneError, PlaneFault};
+use crate::gathering::{GatherError, GatherFault, gather};
+use crate::jobs::Batch;
+use crate::messages::{Answers, Failure};
+use std::alloc::{AllocError, Global};
+use vap_answer::Verdict;
+
+/// Numbered answers, whether all are at the log that was shown, and of the requests that are not answered that of the least number.
+#[derive(Drop)]
+pub(crate) struct Collected {
+    pub(crate) answers: Vec<(u64, Verdict)>,
+    pub(crate) are_shown: bool,
+    pub(crate) failure: Option<Failure>,
+}
+
+impl Collected {
+    /// Nothing yet.
+    pub(crate) fn new(alloc: Global) -> Collected
+        ensures { result.answers.items ≡ [] }
+    {
+        Collected {
+            answers: Vec::new(alloc),
+            are_shown: true,
+            failure: None,
+        }
+    }
+
+    /// Keeps the answers of one worker.
+    #[tactic(auto, using(crate::proofs::Replies::kept_more))]
+    pub(crate) fn keep<B: Batch>(&mut self, answers: Answers<B>) -> Result<(), AllocError>
+        requires { AreKept B.log B.requests self.old.are_shown self.old.answers.items }
+        ensures { OnOk result (AreKept B.log B.requests self.new.are_shown self.new.answers.items) }
+    {
+        let (verdicts, is_shown) = answers.parts();
+        append(&mut self.answers, verdicts)?;
+        self.are_shown = are_both(self.are_shown, is_shown);
+        Ok(())
+    }
+
+    /// Keeps the failure of the lesser number.
+    pub(crate) fn note(&mut self, failure: Failure)
+        ensures answers { self.new.answers.items ≡ self.old.answers.items }
+        ensures shown { self.new.are_shown ≡ self.old.are_shown }
+    {
+        self.failure = Some(lesser(self.failure, failure));
+    }
+}
+
+fn are_both(one: bool, other: bool) -> bool
+    ensures { result ≡ true → (one ≡ true) × (other ≡ true) }
+{
+    one && other
+}
+
+/// Puts answers after others.
+fn append(kept: &mut Vec<(u64, Verdict)>, more: Vec<(u64, Verdict)>) -> Result<(), AllocError>
+    ensures { OnOk result (kept.new.items ≡ kept.old.items ++ more.items) }
+{
+    for answer in more {
+        kept.reserve(1)?;
+        kept.push_reserved(answer);
+    }
+    Ok(())
+}
+
+/// The failure of the lesser number.
+fn lesser(first: Option<Failure>, other: Failure) -> Failure {
+    match first {
+        Some(failure) if failure.number <= other.number => failure,
+        _ => other,
+    }
+}
+
+/// The verdicts in order, and whether all are at the log that was shown; or the error of the least call that has one.
+pub(crate) fn joined(
+    alloc: Global,
+    first: u64,
+    count: u64,
+    collected: Collected,
+) -> Result<(Vec<Verdict>, bool), PlaneError>
+    ensures list { IfOk result (λ found. IsListOf count collected.answers.items found.0.items) }
+    ensures shown { IfOk result (λ found. found.1 ≡ collected.are_shown) }
+{
+    let Collected {
+        answers,
+        are_shown,
+        failure,
+    } = collected;
+    match gather(alloc, count, answers) {
+        Ok(verdicts) => match failure {
+            None => Ok((verdicts, are_shown)),
+            Some(failure) => Err(failure.error),
+        },
+        Err(error) => Err(error_of(first, error, failure)),
+    }
+}
+
+/// The error of the least call, if numbers do not come to a list and some request is perhaps not answered: such a request is lost to
+/// the list, and its own error says why.
+fn error_of(first: u64, error: GatherError, failure: Option<Failure>) -> PlaneError {
+    let GatherError::Fault(fault) = error else {
+        return PlaneError::OutOfMemory;
+    };
+    let (number, fault) = match fault {
+        GatherFault::Double(number) => (number, PlaneFault::Double(first.saturating_add(number))),
+        GatherFault::Stranger(number) => (
+            number,
+            PlaneFault::Stranger(first.saturating_add(number)),
+        ),
+        GatherFault::Lost(number) => (number, PlaneFault::Lost(first.saturating_add(number))),
+    };
+    match failure {
+        Some(failure) if failure.number <= number => failure.error,
+        _ => PlaneError::Fault(fault),
+    }
+}

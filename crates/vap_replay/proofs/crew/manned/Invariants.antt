@@ -1,0 +1,5 @@
+use Rattle.std.proofs.Common.{◌≡◌, length, vec_len}
+use Rattle.vap_replay.proofs.crew.manned.Given as goal
+
+abbrev pub invariant-loop-pass : goal.invariant-loop-pass
+invariant-loop-pass g l = vec_len l.workers ≡ length l.yielded

@@ -1,0 +1,237 @@
+//! The workers of a replay.
+
+ghost use Rattle.std.specs.Prelude.{◌≡◌, ◌≢◌, ◌+◌, ◌<◌, ◌≤◌, ◌^◌, ℕ, [], false, length, vec_len, IfErr, IfOk, IfSome, IsErrOf};
+ghost use Rattle.failing.specs.declared.failed.Failed.TheVariants.{Fault};
+ghost use Rattle.cel_machine.specs.declared.fault.RunFault.TheVariants.{Pattern};
+ghost use Rattle.vap_plane.specs.Answers.{verdicts_at};
+ghost use Rattle.vap_replay.specs.Groups.{TellsRequests};
+ghost use Rattle.vap_replay.specs.Streams.{is_of_the_lines};
+ghost use Rattle.vap_replay.specs.declared.fault.LineFault.{LineFault as FaultOf};
+
+use crate::fault::{LineFault, ReplayError};
+use crate::recorded::is_recorded;
+use std::alloc::{AllocError, Global};
+use std::sync::Wait;
+use std::sync::ledger::{Blank, Ledger};
+use std::thread::Threads;
+use vap_answer::Verdict;
+use vap_judge::{JudgeError, Matchers, RunFault};
+use vap_plane::{Pass, Plan, PlaneError, PlaneFault, SharedHistory, Worker, run_workers_at};
+use vap_request::Request;
+use vap_watch::{ReaderError, ReaderFault, ReaderSource, Snapshot, revision_of};
+
+/// The workers of a replay, which are made once, and the history that they share.
+#[derive(Drop)]
+pub(crate) struct Crew<'a, L: Plan, H> {
+    pub(crate) rt: &'a H,
+    alloc: Global,
+    shared: SharedHistory<L>,
+    workers: Vec<Worker<L>>,
+    ghost some: { (1 ≤ vec_len workers) × (vec_len workers ≤ 16) },
+}
+
+impl<'a, L: Plan, H> Crew<'a, L, H> {
+    /// As many workers as the ledger has parts. A reader that has no place is reported at line 0.
+    pub(crate) fn new(
+        rt: &'a H,
+        alloc: Global,
+        source: &ReaderSource,
+        blank: Blank,
+        workers: u64,
+    ) -> Result<Crew<'a, L, H>, ReplayError>
+        requires name { blank.name ≡ L.name }
+        requires parts { (blank.parts ≡ L.parts) × (blank.parts ≡ workers) }
+        requires workers { (workers ≡ L.workers) × (1 ≤ workers) × (workers ≤ 16) }
+        ensures lines { (number : ℕ) → (why : FaultOf) → IsErrOf result (ReplayError.Line number why) → is_of_the_lines why ≡ false }
+        ensures unwritten { IfErr result (λ error. error ≢ ReplayError.Write) }
+        ensures no_pattern { (number : ℕ) → IsErrOf result (ReplayError.Line number LineFault.Pattern) → ⊥ }
+        ensures no_image { (number : ℕ) → IsErrOf result (ReplayError.Line number LineFault.Unverified) → ⊥ }
+        ensures no_read { IsErrOf result ReplayError.Read → ⊥ }
+    {
+        let (shared, passes) = SharedHistory::<L>::new(alloc, blank, workers)?;
+        let workers = manned(alloc, source, passes)?;
+        Ok(Crew {
+            rt,
+            alloc,
+            shared,
+            workers,
+        })
+    }
+}
+
+impl<L: Plan + Send + Sync, H: Threads + Wait + Sync> Crew<'_, L, H> {
+    /// The verdicts on requests at the published snapshot, in order, when all are judged there and recorded: their calls are numbered
+    /// from `first`. A fault is reported at the line of the first of them. No request is no work for a worker.
+    #[tactic(auto, using(crate::proofs::Groups::none_asked, crate::proofs::Tellings::tells_stray, crate::proofs::Tellings::tells_workers))]
+    pub(crate) fn judge(
+        &mut self,
+        line: u64,
+        first: u64,
+        snapshot: &Snapshot,
+        requests: &[Request],
+    ) -> Result<Vec<Verdict>, ReplayError>
+        requires calls { first + length requests.now < 2 ^ 64 }
+        ensures verdicts { IfOk result (λ verdicts. verdicts.items ≡ verdicts_at snapshot.now requests.now) }
+        ensures told { (number : ℕ) → (why : FaultOf) → IsErrOf result (ReplayError.Line number why)
+            → TellsRequests line snapshot.now requests.now number why }
+        ensures unwritten { IfErr result (λ error. error ≢ ReplayError.Write) }
+        ensures no_read { IsErrOf result ReplayError.Read → ⊥ }
+    {
+        if requests.is_empty() {
+            return Ok(Vec::new(self.alloc));
+        }
+        let sent = copies(self.alloc, requests)?;
+        match self.run(first, snapshot, sent) {
+            Ok(Some(verdicts)) => Ok(verdicts),
+            Ok(None) => Err(ReplayError::Line {
+                line,
+                fault: LineFault::Stray,
+            }),
+            Err(PlaneError::OutOfMemory) => Err(ReplayError::OutOfMemory),
+            Err(PlaneError::Fault(PlaneFault::Judge(call))) => {
+                let place = call.saturating_sub(first) as usize;
+                Err(unjudged(self.alloc, line, call, snapshot, requests, place))
+            }
+            Err(PlaneError::Fault(fault)) => Err(ReplayError::Line {
+                line,
+                fault: LineFault::OfWorkers(fault),
+            }),
+        }
+    }
+
+    /// The verdicts on requests at a snapshot; none if a worker met another snapshot, or the history that the workers share is not
+    /// what they answered.
+    fn run(
+        &mut self,
+        first: u64,
+        snapshot: &Snapshot,
+        requests: Vec<Request>,
+    ) -> Result<Option<Vec<Verdict>>, PlaneError>
+        requires calls { first + vec_len requests < 2 ^ 64 }
+        ensures { IfOk result (λ found. IfSome found (λ verdicts. verdicts.items ≡ verdicts_at snapshot.now requests.items)) }
+    {
+        let Crew {
+            rt,
+            alloc,
+            shared,
+            workers,
+        } = self;
+        let (rt, alloc, shared) = (*rt, *alloc, &*shared);
+        let Some(verdicts) = run_workers_at(rt, alloc, workers, first, shared, snapshot, requests)?
+        else {
+            return Ok(None);
+        };
+        let revision = revision_of(snapshot);
+        let kept = shared.kept.lock(rt);
+        if is_recorded(alloc, kept.history(), first, revision, verdicts.as_slice())? {
+            Ok(Some(verdicts))
+        } else {
+            Ok(None)
+        }
+    }
+}
+
+/// A worker for each pass, with a reader of its own.
+fn manned<L: Ledger>(
+    alloc: Global,
+    source: &ReaderSource,
+    passes: Vec<Pass<L>>,
+) -> Result<Vec<Worker<L>>, ReplayError>
+    ensures count { IfOk result (λ workers. vec_len workers ≡ vec_len passes) }
+    ensures lines { (number : ℕ) → (why : FaultOf) → IsErrOf result (ReplayError.Line number why) → is_of_the_lines why ≡ false }
+    ensures unwritten { IfErr result (λ error. error ≢ ReplayError.Write) }
+    ensures no_pattern { (number : ℕ) → IsErrOf result (ReplayError.Line number LineFault.Pattern) → ⊥ }
+    ensures no_image { (number : ℕ) → IsErrOf result (ReplayError.Line number LineFault.Unverified) → ⊥ }
+    ensures no_read { IsErrOf result ReplayError.Read → ⊥ }
+{
+    let mut workers = Vec::new(alloc);
+    for pass in passes {
+        let worker = match source.reader() {
+            Ok(reader) => Worker::new(alloc, pass, reader),
+            Err(error) => return Err(unmanned(error)),
+        };
+        workers.push(worker)?;
+    }
+    Ok(workers)
+}
+
+/// Why there is no worker, which is reported before the first line.
+fn unmanned(error: ReaderError) -> ReplayError
+    ensures lines { (number : ℕ) → (why : FaultOf) → result ≡ ReplayError.Line number why → is_of_the_lines why ≡ false }
+    ensures unwritten { result ≢ ReplayError.Write }
+    ensures no_pattern { (number : ℕ) → result ≡ ReplayError.Line number LineFault.Pattern → ⊥ }
+    ensures no_image { (number : ℕ) → result ≡ ReplayError.Line number LineFault.Unverified → ⊥ }
+    ensures no_read { result ≢ ReplayError.Read }
+{
+    match error {
+        ReaderError::Fault(ReaderFault::NoPlace) => ReplayError::Line {
+            line: 0,
+            fault: LineFault::NoPlace,
+        },
+        ReaderError::OutOfMemory => ReplayError::OutOfMemory,
+    }
+}
+
+/// The same requests, each with one more owner.
+fn copies(alloc: Global, requests: &[Request]) -> Result<Vec<Request>, AllocError>
+    ensures { IfOk result (λ copies. copies.items ≡ requests.now) }
+{
+    let mut copies = Vec::new(alloc);
+    for request in requests {
+        copies.push(request.copy()?)?;
+    }
+    Ok(copies)
+}
+
+/// Why a request is not judged, the one at this place: it is judged once more, and if it is given up for a pattern again, that is
+/// why. It is reported at the line of the first.
+#[tactic(auto, using(crate::proofs::Tellings::tells_workers))]
+fn unjudged(
+    alloc: Global,
+    line: u64,
+    call: u64,
+    snapshot: &Snapshot,
+    requests: &[Request],
+    place: usize,
+) -> ReplayError
+    requires { requests.now ≢ [] }
+    ensures told { (number : ℕ) → (why : FaultOf) → result ≡ ReplayError.Line number why
+        → TellsRequests line snapshot.now requests.now number why }
+    ensures unwritten { result ≢ ReplayError.Write }
+    ensures no_read { result ≢ ReplayError.Read }
+{
+    let Some(request) = requests.get(place) else {
+        return unanswered(line, call);
+    };
+    let mut matchers = Matchers::new(alloc);
+    if let Err(error) = snapshot.judge(alloc, request, &mut matchers) {
+        return given_up(line, error);
+    }
+    unanswered(line, call)
+}
+
+/// A request that is given up, which is reported at a line.
+fn given_up(line: u64, error: JudgeError) -> ReplayError
+    ensures pattern { (number : ℕ) → (why : FaultOf) → result ≡ ReplayError.Line number why → (number ≡ line) × (why ≡ LineFault.Pattern) }
+    ensures told { (number : ℕ) → (why : FaultOf) → result ≡ ReplayError.Line number why → error ≡ Fault Pattern }
+    ensures unwritten { result ≢ ReplayError.Write }
+    ensures no_read { result ≢ ReplayError.Read }
+{
+    match error {
+        JudgeError::Fault(RunFault::Pattern) => ReplayError::Line {
+            line,
+            fault: LineFault::Pattern,
+        },
+        JudgeError::OutOfMemory => ReplayError::OutOfMemory,
+    }
+}
+
+/// A request that a worker did not judge.
+fn unanswered(line: u64, call: u64) -> ReplayError
+    ensures { result ≡ ReplayError.Line line (LineFault.OfWorkers (PlaneFault.Judge call)) }
+{
+    ReplayError::Line {
+        line,
+        fault: LineFault::OfWorkers(PlaneFault::Judge(call)),
+    }
+}

@@ -1,9 +1,0 @@
-use Rattle.std.proofs.Common.{◌≡◌, ◌++◌, drop, filter, map}
-use Rattle.vap_set.specs.Sets.{is_looked_at, kind_pair, pairs_of}
-use Rattle.vap_set.proofs.policies.pairs_of.Given as goal
-
--- the pairs so far, with those of the kinds that are left, are all
-abbrev pub invariant-loop-kind : goal.invariant-loop-kind
-invariant-loop-kind l =
-    l.pairs.items ++ map (kind_pair l.refused l.kinds l.policy) (filter (is_looked_at l.policy) (drop l.kind-index l.kinds))
-    ≡ pairs_of l.refused l.kinds l.policy

@@ -1,0 +1,55 @@
+//! The types of the names that have the same type at each kind.
+
+ghost use Rattle.std.specs.Prelude.{◌≡◌};
+ghost use Rattle.vap_kinds.specs.FixedKinds.{namespace_type};
+ghost use Rattle.vap_slots.specs.RequestType.{request_type};
+
+use crate::types::request_type;
+use cel_value::CelType;
+use plain::Shared;
+use std::alloc::{AllocError, Global};
+use std::marker::Model;
+use vap_kinds::namespace_type;
+
+/// The types of the names that have the same type at each kind. They never change, so that contracts see nothing of them.
+#[derive(Drop)]
+pub struct FixedTypes {
+    request: CelType,
+    namespace: Shared<CelType>,
+}
+
+impl Model for FixedTypes {
+    ghost use Rattle.std.specs.Prelude.{◌≡◌};
+    ghost use Rattle.vap_kinds.specs.FixedKinds.{namespace_type};
+    ghost use Rattle.vap_slots.specs.RequestType.{request_type};
+
+    ghost Value = { Unit {0} };
+
+    ghost view = { λ _. tt };
+
+    ghost invariant = { λ t. (t.request ≡ request_type) × (t.namespace ≡ namespace_type) };
+}
+
+impl FixedTypes {
+    /// Makes the types.
+    pub fn new(alloc: Global) -> Result<FixedTypes, AllocError> {
+        Ok(FixedTypes {
+            request: request_type(alloc)?,
+            namespace: Shared::new(alloc, namespace_type(alloc)?)?,
+        })
+    }
+
+    /// The type of `request`.
+    pub fn request(&self) -> &CelType
+        ensures { result.now ≡ request_type }
+    {
+        &self.request
+    }
+
+    /// The type of a Namespace.
+    pub fn namespace(&self) -> &Shared<CelType>
+        ensures { result.now ≡ namespace_type }
+    {
+        &self.namespace
+    }
+}

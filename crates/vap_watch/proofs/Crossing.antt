@@ -1,0 +1,34 @@
+-- Snapshots and readers may go to another thread, type by type: each search ends at what was shown before it.
+use denote.Param.Send.{IsSend, IsSync, sendable}
+use Rattle.std.proofs.Crossing.{crosses}
+use Rattle.core.proofs.rw.Sent.{slots_send, slots_sync}
+use Rattle.vap_read.proofs.Crossing.{event_send, event_sync}
+use Rattle.vap_set.proofs.Crossing.{choice_send, choice_sync, set_send, set_sync}
+use Rattle.vap_watch.specs.contracts.log.Logged as logged
+use Rattle.vap_watch.specs.contracts.log.Log as log
+use Rattle.vap_watch.specs.contracts.snapshot.Snapshot as snapshot
+use Rattle.vap_watch.specs.contracts.reader.Reader as reader
+
+pub logged_send : IsSend logged.the_field.row
+logged_send = search (event_send, event_sync, choice_send, choice_sync, sendable, crosses) depth 60 fits 200000
+
+pub logged_sync : IsSync logged.the_field.row
+logged_sync = search (event_send, event_sync, choice_send, choice_sync, sendable, crosses) depth 60 fits 200000
+
+pub log_send : IsSend log.the_field.row
+log_send = search (logged_send, logged_sync, sendable, crosses) depth 60 fits 200000
+
+pub log_sync : IsSync log.the_field.row
+log_sync = search (logged_send, logged_sync, sendable, crosses) depth 60 fits 200000
+
+pub snapshot_send : IsSend snapshot.the_field.row
+snapshot_send = search (log_send, log_sync, set_send, set_sync, sendable, crosses) depth 60 fits 200000
+
+pub snapshot_sync : IsSync snapshot.the_field.row
+snapshot_sync = search (log_send, log_sync, set_send, set_sync, sendable, crosses) depth 60 fits 200000
+
+pub reader_send : IsSend reader.the_field.row
+reader_send = search (snapshot_send, snapshot_sync, slots_send, slots_sync, sendable, crosses) depth 60 fits 200000
+
+pub reader_sync : IsSync reader.the_field.row
+reader_sync = search (snapshot_send, snapshot_sync, slots_send, slots_sync, sendable, crosses) depth 60 fits 200000
