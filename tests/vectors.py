@@ -2,10 +2,10 @@
 """Runs the program on each line of tests/vectors/*.jsonl and names each line that is not met.
 
 The first word of a file's name is the command that its lines are for. Lines of `replay` are run with one worker, with
-two, with three and with 16, and their streams are given to `stream_calls` too: after each event the set that a writer advances must be as
+two, with three and with 16, and their streams are given to `worker_calls` too: after each event the set that a writer advances must be as
 one that is built anew, in its report and in its answers to all reviews of the stream. Lines of `language_calls`,
-`cluster_calls` and `stream_calls` are for the programs of these names, which make the calls that lines ask for: all lines of a
-file in one run. So are those of `fit` and `image`, for `language_calls`. With names of files, it runs those alone. The last line is
+`cluster_calls`, `worker_calls` and `stream_calls` are for the programs of these names, which make the calls that lines ask for: all
+lines of a file in one run. So are those of `fit` and `image`, for `language_calls`. With names of files, it runs those alone. The last line is
 'N passed, M failed'.
 """
 import json
@@ -87,6 +87,7 @@ def image_answer(line):
 ASKED = {
     "language_calls": ("language_calls", asked_in),
     "cluster_calls": ("cluster_calls", asked_in),
+    "worker_calls": ("worker_calls", asked_in),
     "stream_calls": ("stream_calls", asked_in),
     "fit": ("language_calls", lambda line: {"call": "schemas.row", "input": line["line"]}),
     "image": ("language_calls", lambda line: {"call": "bytes.decoded", "input": line["hex"]}),
@@ -135,7 +136,7 @@ def steps_of(text):
 def unlike(texts):
     """Why a set that is advanced is not as one that is built anew, for the stream of each line, or None."""
     try:
-        answers = answers_of("stream_calls", [steps_of(text) for text in texts])
+        answers = answers_of("worker_calls", [steps_of(text) for text in texts])
     except (KeyError, OSError, ValueError, subprocess.TimeoutExpired) as error:
         return [f"its sets cannot be compared: {error!r}"] * len(texts)
     return [None if answer.endswith("same") else f"its sets: {answer!r}" for answer in answers]

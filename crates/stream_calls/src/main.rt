@@ -1,21 +1,16 @@
-//! Makes the calls on streams that lines ask for, and prints what each answers: lines of a reader, streams of events and reviews,
-//! streams that break, histories, sets after events, lists of steps, and what workers do side by side.
+//! Makes the calls on streams that lines ask for, and prints what each answers: lines of a reader, streams of events and reviews, and
+//! streams that break.
 #![tactic(auto)]
 
 mod broken;
-mod histories;
 mod lines;
-mod sets;
-mod steps;
 mod streams;
-mod workers;
 
 use calls_notation::{Asked, json, quoted, unknown};
 use std::alloc::{AllocError, Global};
 use std::io;
 use std::sync::Wait;
 use std::thread::Threads;
-use std::time::Clock;
 
 fn main(rt: HostRuntime) -> io::Result<()> {
     let lines = io::read_to_string(rt.alloc(), rt.reader())?;
@@ -26,7 +21,7 @@ fn main(rt: HostRuntime) -> io::Result<()> {
     Ok(())
 }
 
-fn answer<R: Threads + Wait + Clock + Sync>(
+fn answer<R: Threads + Wait + Sync>(
     rt: &R,
     alloc: Global,
     line: &str,
@@ -35,7 +30,7 @@ fn answer<R: Threads + Wait + Clock + Sync>(
     quoted(alloc, answer_to(rt, alloc, &Asked::of(&line))?)
 }
 
-fn answer_to<R: Threads + Wait + Clock + Sync>(
+fn answer_to<R: Threads + Wait + Sync>(
     rt: &R,
     alloc: Global,
     asked: &Asked,
@@ -44,10 +39,6 @@ fn answer_to<R: Threads + Wait + Clock + Sync>(
         "broken" => broken::answer(rt, alloc, asked),
         "lines" => lines::answer(alloc, asked),
         "streams" => streams::answer(rt, alloc, asked),
-        "histories" => histories::answer(alloc, asked),
-        "sets" => sets::answer(alloc, asked),
-        "steps" => steps::answer(alloc, asked),
-        "workers" => workers::answer(rt, alloc, asked),
         _ => unknown(alloc),
     }
 }

@@ -17,8 +17,9 @@ use Rattle.vap_programs.specs.declared.programs.Programs.{Programs}
 use Rattle.cel_check.specs.Typing.{types_in}
 use Rattle.vap_kinds.specs.declared.kind.Kind.{Kind}
 use Rattle.vap_objects.specs.Cluster.{Cluster}
-use Rattle.vap_set.specs.Fitted.{Fitted, fitted_at, fitted_to, params_of}
-use Rattle.vap_set.specs.Kinds.{kind_of_params, params_by, params_type, types_at}
+use Rattle.vap_params.specs.Fitted.{Fitted, fitted_at, fitted_to, params_of}
+use Rattle.vap_params.specs.Naming.{kind_of_params}
+use Rattle.vap_set.specs.Kinds.{params_by, params_type, types_at}
 use Rattle.vap_set.specs.Ready.{IsReadyAt, IsReadyBy, type_at}
 use Rattle.vap_set.specs.Sets.{kinds_of, pair_in, params_in}
 use Rattle.vap_set.specs.declared.bound.BoundPolicy.{BoundPolicy}

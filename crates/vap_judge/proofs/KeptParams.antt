@@ -14,9 +14,8 @@ use Rattle.vap_bindings.specs.declared.binding.NotFoundAction.{NotFoundAction}
 use Rattle.vap_fit.specs.declared.fit_fault.FitFault.{FitFault}
 use Rattle.vap_programs.specs.declared.programs.Programs.{Programs}
 use Rattle.vap_read.specs.declared.object.Object.{Object}
-use Rattle.vap_set.specs.Fitted.{Fitted}
-use Rattle.vap_set.specs.Seen.{IsSeenAt}
-use Rattle.vap_set.specs.declared.kind_params.Param.{Param}
+use Rattle.vap_params.specs.Fitted.{Fitted}
+use Rattle.vap_params.specs.Seen.{IsSeenAt, Param}
 use Rattle.vap_slots.specs.Held.{slots_of}
 use Rattle.vap_judge.specs.Evaluations.{Evaluation, Rule}
 use Rattle.vap_judge.specs.Judging.{Case, at_each, at_none, at_param, at_seen}

@@ -1,4 +1,5 @@
 pub mod Fitting
+pub mod InBlocks
 pub mod Joined
 pub mod KeptParams
 pub mod Looked

@@ -9,20 +9,19 @@ use Rattle.std.specs.List.{All}
 use Rattle.cel_value.specs.declared.cel_type.CelType.{CelType}
 use Rattle.vap_programs.specs.declared.programs.Programs.{Programs}
 use Rattle.vap_read.specs.declared.object.Object.{Object}
-use Rattle.vap_set.specs.Seen.{IsSeenAt}
-use Rattle.vap_set.specs.declared.kind_params.Param.{Param}
+use Rattle.vap_params.specs.Seen.{IsSeenAt, Param}
 use Rattle.vap_judge.specs.Evaluations.{Evaluation, Rule}
 use Rattle.vap_judge.specs.Judging.{Case, at_param, at_seen}
 use Rattle.vap_judge.specs.Patterns.{EvaluationMayMatch, OneMayMatch}
 use Rattle.vap_judge.proofs.Joined.{next_of}
 use Rattle.vap_judge.proofs.KeptParams.{next_param}
 
-in_front : (es fs : List Evaluation) → OneMayMatch es → OneMayMatch (es ++ fs)
+pub in_front : (es fs : List Evaluation) → OneMayMatch es → OneMayMatch (es ++ fs)
 in_front [] fs one = elim one [ ]
 in_front (e ∷ es) fs (inl one) = inl one
 in_front (e ∷ es) fs (inr one) = inr (in_front es fs one)
 
-after : (es fs : List Evaluation) → OneMayMatch fs → OneMayMatch (es ++ fs)
+pub after : (es fs : List Evaluation) → OneMayMatch fs → OneMayMatch (es ++ fs)
 after [] fs one = one
 after (e ∷ es) fs one = inr (after es fs one)
 

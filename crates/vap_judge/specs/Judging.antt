@@ -27,7 +27,7 @@ use Rattle.vap_programs.specs.declared.programs.Programs.{Programs}
 use Rattle.vap_read.specs.declared.object.Object.{Object}
 use Rattle.vap_request.specs.declared.request.Admission.{Admission}
 use Rattle.vap_request.specs.declared.request.Request.{Request}
-use Rattle.vap_set.specs.Fitted.{Fitted}
+use Rattle.vap_params.specs.Fitted.{Fitted}
 use Rattle.vap_set.specs.Ready.{type_at}
 use Rattle.vap_set.specs.Sets as sets
 use Rattle.vap_set.specs.Sets.{kinds_of, namespace_in, pair_in, params_in, policies_of}

@@ -13,7 +13,7 @@ use Rattle.vap_programs.specs.declared.names.ParamsType.{ParamsType}
 use Rattle.vap_programs.specs.declared.names.ParamsType.TheVariants.{Absent, Known}
 use Rattle.vap_programs.specs.declared.programs.Programs.{Programs}
 use Rattle.vap_select.specs.Select.{lent_labels}
-use Rattle.vap_set.specs.Fitted.{Fitted}
+use Rattle.vap_params.specs.Fitted.{Fitted}
 use Rattle.vap_set.specs.Kinds.{types_at}
 use Rattle.vap_set.specs.Ready.{IsOneOf, type_at}
 use Rattle.vap_set.specs.Sets.{kinds_of, namespace_in}

@@ -1,6 +1,6 @@
 //! The evaluations of policies at a request, in their order.
 
-ghost use Rattle.std.specs.Prelude.{◌≡◌, ◌≤◌, Some, true, List, [], ◌∷◌, map, filter, IfOk, IsErrOf, OnOk};
+ghost use Rattle.std.specs.Prelude.{◌≡◌, ◌≤◌, Some, true, List, [], ◌∷◌, length, map, filter, IfOk, IsErrOf, OnOk};
 ghost use Rattle.std.specs.List.{All};
 ghost use Rattle.std.specs.Option.{option_copied};
 ghost use Rattle.failing.specs.declared.failed.Failed.TheVariants.{Fault};
@@ -13,6 +13,7 @@ ghost use Rattle.vap_programs.specs.Names.{pair_fault_name};
 ghost use Rattle.vap_programs.specs.Pairs.{most, price_of};
 ghost use Rattle.vap_programs.specs.Ready.{IsReady};
 ghost use Rattle.vap_set.specs.Ready.{AreFew, HasFew, IsReadyAt};
+ghost use Rattle.vap_params.specs.Seen.{IsSeenAt};
 ghost use Rattle.vap_slots.specs.Held.{slots_of};
 ghost use Rattle.vap_judge.specs.Adds.{Adds, case_in};
 ghost use Rattle.vap_judge.specs.Evaluations.{Failed, Ran};
@@ -32,8 +33,9 @@ use cel_value::{CelError, Value};
 use plain::{Keyed, Shared, Text};
 use std::alloc::{AllocError, Global};
 use vap_bindings::{Binding, NotFoundAction, ParamRef};
+use vap_params::{KindParams, Param};
 use vap_programs::{Pair, PairFault, Programs};
-use vap_set::{BoundPolicy, KindParams, Param};
+use vap_set::BoundPolicy;
 
 /// A case, with what is found at it so far.
 #[derive(Drop)]
@@ -139,29 +141,55 @@ impl Judging<'_> {
         }
     }
 
+    /// Evaluates a policy at each of some objects of a kind that are its params.
+    fn each_of(
+        &mut self,
+        rule: &Rule<'_>,
+        programs: &Programs,
+        params: &[Shared<Param>],
+        selection: &Selection<'_>,
+    ) -> Result<(), JudgeError>
+        ghost types: { List CelType }
+        requires ready { CanRun (case_in self.old) (Some selection.now.params.now) types programs.now }
+        requires seen { All (IsSeenAt selection.now.params.now.cel_type) params.now }
+        requires room { HasRoom self.old.findings.charged (length params.now) }
+        ensures adds { OnOk result (Adds self.old self.new
+            (map (at_param (case_in self.old) (lent_rule rule.now) programs.now selection.now.params.now.cel_type)
+            (filter (is_param (lent_place selection.now.place) selection.now.reference.now) (map (λ p. p.object) params.now)))
+            (length params.now)) }
+        ensures pattern { IsErrOf result (Fault Pattern) → OneMayMatch
+            (map (at_param (case_in self.old) (lent_rule rule.now) programs.now selection.now.params.now.cel_type)
+            (filter (is_param (lent_place selection.now.place) selection.now.reference.now) (map (λ p. p.object) params.now))) }
+    {
+        for param in params {
+            let fitted = param.get();
+            if selection.takes(fitted.object.get()) {
+                self.param(rule, programs, fitted)?;
+            }
+        }
+        Ok(())
+    }
+
     /// Evaluates a policy at each of the objects of a kind that are its params.
     fn each(
         &mut self,
         rule: &Rule<'_>,
         programs: &Programs,
-        params: &KindParams,
         selection: &Selection<'_>,
     ) -> Result<(), JudgeError>
         ghost types: { List CelType }
-        requires ready { CanRun (case_in self.old) (Some params.now) types programs.now }
+        requires ready { CanRun (case_in self.old) (Some selection.now.params.now) types programs.now }
         requires room { HasRoom self.old.findings.charged params_of_binding }
         ensures adds { OnOk result (Adds self.old self.new
-            (map (at_param (case_in self.old) (lent_rule rule.now) programs.now params.now.cel_type)
-            (filter (is_param (lent_place selection.now.place) selection.now.reference.now) params.now.objects)) params_of_binding) }
+            (map (at_param (case_in self.old) (lent_rule rule.now) programs.now selection.now.params.now.cel_type)
+            (filter (is_param (lent_place selection.now.place) selection.now.reference.now) selection.now.params.now.objects))
+            params_of_binding) }
         ensures pattern { IsErrOf result (Fault Pattern) → OneMayMatch
-            (map (at_param (case_in self.old) (lent_rule rule.now) programs.now params.now.cel_type)
-            (filter (is_param (lent_place selection.now.place) selection.now.reference.now) params.now.objects)) }
+            (map (at_param (case_in self.old) (lent_rule rule.now) programs.now selection.now.params.now.cel_type)
+            (filter (is_param (lent_place selection.now.place) selection.now.reference.now) selection.now.params.now.objects)) }
     {
-        for param in params.params() {
-            let fitted = param.get();
-            if selection.takes(fitted.object.get()) {
-                self.param(rule, programs, fitted)?;
-            }
+        for block in selection.params.blocks() {
+            self.each_of(rule, programs, block.get().as_slice(), selection)?;
         }
         Ok(())
     }
@@ -171,23 +199,23 @@ impl Judging<'_> {
         &mut self,
         rule: &Rule<'_>,
         programs: &Programs,
-        params: &KindParams,
         selection: &Selection<'_>,
     ) -> Result<(), JudgeError>
         ghost types: { List CelType }
-        requires ready { CanRun (case_in self.old) (Some params.now) types programs.now }
+        requires ready { CanRun (case_in self.old) (Some selection.now.params.now) types programs.now }
         requires room { HasRoom self.old.findings.charged params_of_binding }
         ensures adds { OnOk result (Adds self.old self.new
-            (at_each (case_in self.old) (lent_rule rule.now) programs.now params.now.cel_type
+            (at_each (case_in self.old) (lent_rule rule.now) programs.now selection.now.params.now.cel_type
             selection.now.reference.now.parameter_not_found_action
-            (filter (is_param (lent_place selection.now.place) selection.now.reference.now) params.now.objects)) params_of_binding) }
+            (filter (is_param (lent_place selection.now.place) selection.now.reference.now) selection.now.params.now.objects))
+            params_of_binding) }
         ensures pattern { IsErrOf result (Fault Pattern) → OneMayMatch
-            (at_each (case_in self.old) (lent_rule rule.now) programs.now params.now.cel_type
+            (at_each (case_in self.old) (lent_rule rule.now) programs.now selection.now.params.now.cel_type
             selection.now.reference.now.parameter_not_found_action
-            (filter (is_param (lent_place selection.now.place) selection.now.reference.now) params.now.objects)) }
+            (filter (is_param (lent_place selection.now.place) selection.now.reference.now) selection.now.params.now.objects)) }
     {
-        if selection.takes_one(params) {
-            return self.each(rule, programs, params, selection);
+        if selection.takes_one() {
+            return self.each(rule, programs, selection);
         }
         match selection.reference.parameter_not_found_action {
             NotFoundAction::Allow => Ok(()),
@@ -219,8 +247,12 @@ impl Judging<'_> {
         let given = reference.namespace.as_str();
         match place_of(params.is_namespaced(), given, requested) {
             Some(place) => {
-                let selection = Selection { place, reference };
-                self.selected(rule, programs, params, &selection)
+                let selection = Selection {
+                    place,
+                    reference,
+                    params,
+                };
+                self.selected(rule, programs, &selection)
             }
             None => self.fail(rule, "bad param namespace"),
         }

@@ -1,17 +1,19 @@
 //! Which objects are the params of a policy under a binding.
 
-ghost use Rattle.std.specs.Prelude.{◌≡◌};
+ghost use Rattle.std.specs.Prelude.{◌≡◌, map};
 ghost use Rattle.std.specs.List.{list_any};
 ghost use Rattle.std.specs.Option.{option_copied};
 ghost use Rattle.vap_set.specs.Sets.{params_in};
 ghost use Rattle.vap_judge.specs.Params.{is_chosen, is_in, is_param, place_of};
 ghost use Rattle.vap_judge.specs.Shown.{lent_place, lent_place_of};
 
+use plain::Shared;
 use vap_bindings::ParamRef;
+use vap_params::{KindParams, Param};
 use vap_policies::ParamKind;
 use vap_read::Object;
 use vap_select::{labels_of, selects};
-use vap_set::{KindParams, PolicySet};
+use vap_set::PolicySet;
 
 /// Where params are looked for.
 #[derive(Clone, Copy)]
@@ -55,11 +57,12 @@ fn is_chosen(reference: &ParamRef, object: &Object) -> bool
     }
 }
 
-/// What a binding chooses in a place.
+/// What a binding chooses in a place of the objects of a kind.
 #[derive(Clone, Copy)]
 pub struct Selection<'a> {
     pub place: Place<'a>,
     pub reference: &'a ParamRef,
+    pub params: &'a KindParams,
 }
 
 impl Selection<'_> {
@@ -70,12 +73,24 @@ impl Selection<'_> {
         is_in(self.place, object.key.namespace.as_str()) && is_chosen(self.reference, object)
     }
 
-    /// Whether one of the objects of a kind is a param.
-    pub fn takes_one(&self, params: &KindParams) -> bool
-        ensures { result ≡ list_any (is_param (lent_place self.now.place) self.now.reference.now) params.now.objects }
+    /// Whether one of some objects is a param.
+    fn takes_one_of(&self, params: &[Shared<Param>]) -> bool
+        ensures { result ≡ list_any (is_param (lent_place self.now.place) self.now.reference.now) (map (λ p. p.object) params.now) }
     {
-        for param in params.params() {
+        for param in params {
             if self.takes(param.get().object.get()) {
+                return true;
+            }
+        }
+        false
+    }
+
+    /// Whether one of the objects of the kind is a param.
+    pub fn takes_one(&self) -> bool
+        ensures { result ≡ list_any (is_param (lent_place self.now.place) self.now.reference.now) self.now.params.now.objects }
+    {
+        for block in self.params.blocks() {
+            if self.takes_one_of(block.get().as_slice()) {
                 return true;
             }
         }

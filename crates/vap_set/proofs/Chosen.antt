@@ -3,6 +3,7 @@ use Rattle.std.proofs.Common.{◌≤◌, ℕ, suc, Bool, true, false, cond, List
 use Rattle.std.specs.Prelude.{filter}
 use Rattle.std.specs.List.{All, AllByRecursion}
 use Rattle.std.proofs.lemmas.List.Elements.{All-from_recursion, recursion_from_All}
+use Rattle.vap_params.proofs.InOrder.{no_longer}
 use Rattle.vap_set.specs.Index.{AreEnough}
 use Rattle.vap_set.specs.Ready.{AreFew, HasFew}
 use Rattle.vap_set.specs.declared.bound.BoundPolicy.{BoundPolicy}
@@ -16,14 +17,6 @@ module _ {X : Type 0} (P : X → Type 0) (keep : X → Bool) where
       at true rest = (all.0, rest)
       at false rest = rest
 
-  pub no_longer : (xs : List X) → length (filter keep xs) ≤ length xs
-  no_longer [] = omega arith
-  no_longer (x ∷ xs) = at (keep x) (no_longer xs)
-    where
-      at : (b : Bool) → length (filter keep xs) ≤ length xs → length (cond b (x ∷ filter keep xs) (filter keep xs)) ≤ suc (length xs)
-      at true rest = omega (arith, rest)
-      at false rest = omega (arith, rest)
-
 -- what holds of all policies holds of some
 pub chosen_all : (P : BoundPolicy → Type 0) (g s : List ℕ) (all some : List BoundPolicy) → AreEnough g s all some → All P all → All P some
 chosen_all P g s all some few each =
@@ -32,6 +25,6 @@ chosen_all P g s all some few each =
 -- some of few are few
 pub few_chosen : (g s : List ℕ) (all some : List BoundPolicy) → AreEnough g s all some → AreFew all → AreFew some
 few_chosen g s all some few are = (
-  subst (λ (ps : List BoundPolicy). length ps ≤ 256) (sym few.are) (omega (arith, no_longer HasFew few.keep all, are.0)),
+  subst (λ (ps : List BoundPolicy). length ps ≤ 256) (sym few.are) (omega (arith, no_longer few.keep all, are.0)),
   chosen_all HasFew g s all some few are.1,
 )

@@ -6,6 +6,7 @@ use Rattle.cel_patterns.proofs.Crossing.{patterns_send, patterns_sync}
 use Rattle.cel_value.proofs.Crossing.{type_send, type_sync, value_send, value_sync}
 use Rattle.vap_bindings.proofs.Crossing.{binding_send, binding_sync}
 use Rattle.vap_kinds.proofs.Crossing.{kind_send, kind_sync, read_send, read_sync}
+use Rattle.vap_params.proofs.Crossing.{params_send, params_sync}
 use Rattle.vap_policies.proofs.Crossing.{policy_send, policy_sync, spec_send, spec_sync}
 use Rattle.vap_programs.proofs.Crossing.{pair_send, pair_sync, params_type_send, params_type_sync}
 use Rattle.vap_read.proofs.Crossing.{key_send, key_sync, map_send, map_sync, object_send, object_sync}
@@ -18,8 +19,6 @@ use Rattle.vap_set.specs.contracts.bound.KindPair as kind_pair
 use Rattle.vap_set.specs.contracts.bound.BoundPolicy as bound
 use Rattle.vap_set.specs.contracts.index.Entry as entry
 use Rattle.vap_set.specs.contracts.index.Index as index
-use Rattle.vap_set.specs.contracts.kind_params.Param as param
-use Rattle.vap_set.specs.contracts.kind_params.KindParams as kind_params
 use Rattle.vap_set.specs.contracts.definitions.Definitions as definitions
 use Rattle.vap_set.specs.contracts.rules.Rules as set_rules
 use Rattle.vap_set.specs.contracts.set.PolicySet as policy_set
@@ -75,18 +74,6 @@ index_send = search (bound_send, bound_sync, entry_send, entry_sync, sendable, c
 
 pub index_sync : IsSync index.the_field.row
 index_sync = search (bound_send, bound_sync, entry_send, entry_sync, sendable, crosses) depth 60 fits 200000
-
-pub param_send : IsSend param.the_field.row
-param_send = search (value_send, value_sync, key_send, object_send, object_sync, sendable, crosses) depth 60 fits 200000
-
-pub param_sync : IsSync param.the_field.row
-param_sync = search (value_send, value_sync, key_sync, object_send, object_sync, sendable, crosses) depth 60 fits 200000
-
-pub params_send : IsSend kind_params.the_field.row
-params_send = search (type_send, type_sync, param_send, param_sync, sendable, crosses) depth 60 fits 200000
-
-pub params_sync : IsSync kind_params.the_field.row
-params_sync = search (type_send, type_sync, param_send, param_sync, sendable, crosses) depth 60 fits 200000
 
 pub definitions_send : IsSend definitions.the_field.row
 definitions_send = search (kind_send, read_send, read_sync, map_send, sendable, crosses) depth 60 fits 200000

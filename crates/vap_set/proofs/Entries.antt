@@ -25,7 +25,7 @@ use Rattle.vap_set.specs.declared.bound.BoundPolicy.{BoundPolicy}
 use Rattle.vap_set.specs.declared.index.Entry.{Entry}
 use Rattle.vap_set.specs.declared.places.Place.{Place}
 use Rattle.vap_set.proofs.Covered.{narrow_named}
-use Rattle.vap_set.proofs.Firsts.{itself, same_text}
+use Rattle.vap_params.proofs.Names.{itself, same_text}
 use Rattle.vap_set.proofs.PlaceOrder.{exact_places, place, place_total}
 
 -- ---- places by their texts

@@ -1,12 +1,7 @@
-pub mod Slashes
 pub mod Firsts
-pub mod Once
 pub mod ParamTable
 pub mod Standing
-pub mod ParamKinds
-pub mod InOrder
 pub mod Chosen
-pub mod Placed
 pub mod ReportOrder
 pub mod Named
 pub mod MadeSets

@@ -15,7 +15,7 @@ use Rattle.vap_objects.specs.OfKind.{namespaces_in}
 use Rattle.vap_policies.specs.declared.policy.Policy.{Policy}
 use Rattle.vap_read.specs.declared.key.Key.{Key}
 use Rattle.vap_read.specs.declared.object.Object.{Object}
-use Rattle.vap_set.specs.Fitted.{Fitted, all_params}
+use Rattle.vap_params.specs.Fitted.{Fitted, all_params}
 use Rattle.vap_set.specs.Patterns.{IsChoiceFor, of_policies, of_policy}
 use Rattle.vap_set.specs.Ready.{AreFew, HasFew}
 use Rattle.vap_set.specs.Sets.{Holdings, IsOfObjects, bound_of, held_by, holdings_of, no_choice, of_bound, policies_by}

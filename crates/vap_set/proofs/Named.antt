@@ -18,7 +18,8 @@ use Rattle.vap_programs.specs.declared.names.KindTypes.{KindTypes}
 use Rattle.vap_programs.specs.declared.names.ParamsType.TheVariants.{Absent, Known}
 use Rattle.vap_programs.specs.declared.pair_fault.PairFault.{PairFault}
 use Rattle.vap_programs.specs.declared.programs.Programs.{Programs}
-use Rattle.vap_set.specs.Kinds.{kind_of_params, params_by, params_type, type_or_opaque, types_at}
+use Rattle.vap_params.specs.Naming.{kind_of_params}
+use Rattle.vap_set.specs.Kinds.{params_by, params_type, type_or_opaque, types_at}
 use Rattle.vap_set.specs.Made.{pair_made}
 use Rattle.vap_set.specs.Parts.{part_of}
 use Rattle.vap_set.specs.Ready.{IsFirst, IsOneOf}

@@ -23,7 +23,8 @@ use Rattle.vap_set.specs.Sets.{policies_by}
 use Rattle.vap_set.specs.Ready.{IsFirst, IsOneOf, IsReadyBy, IsReadyAt, HasFew, HasItsParams, AreFew, AreReady}
 use Rattle.vap_set.specs.declared.bound.KindPair.{KindPair}
 use Rattle.vap_set.specs.declared.choice.Choice.{Choice}
-use Rattle.vap_set.proofs.Firsts.{kinds_first, one_kind, same_text}
+use Rattle.vap_set.proofs.Firsts.{kinds_first, one_kind}
+use Rattle.vap_params.proofs.Names.{same_text}
 use Rattle.vap_set.proofs.ParamTable.{each_held}
 
 -- what stands of a policy at a kind

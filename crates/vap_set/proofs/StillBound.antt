@@ -1,7 +1,7 @@
 -- Policies of a set that are bound still as they were.
-use Rattle.std.proofs.Common.{◌≡◌, ℕ, true, List, [], ◌∷◌, map, refl, sym, ap, ◌∙◌, subst}
+use Rattle.std.proofs.Common.{◌≡◌, ℕ, zero, suc, true, List, [], ◌∷◌, drop, map, take, refl, sym, ap, ◌∙◌, subst}
 use Rattle.std.specs.List.{All, AllByRecursion}
-use Rattle.std.proofs.lemmas.List.Elements.{All-from_recursion}
+use Rattle.std.proofs.lemmas.List.Elements.{All-from_recursion, recursion_from_All}
 use Rattle.plain.specs.declared.text.Keyed.{Keyed}
 use Rattle.vap_bindings.specs.declared.binding.Binding.{Binding}
 use Rattle.vap_kinds.specs.Definitions.{is_definition}
@@ -38,6 +38,25 @@ bound_again choice kinds bindings b p is same =
     is
     ∙ ap (λ (n : List ℕ). bound_of choice kinds bindings (record { key = n; value = b.policy })) same.0
     ∙ ap (λ (v : Policy). bound_of choice kinds bindings (record { key = p.key; value = v })) same.1
+
+-- so are some of them that stand in a row
+pub bound_part : (choice : Choice) (kinds : List Kind) (bindings : List (Keyed Binding)) (bs : List BoundPolicy) (n m : ℕ)
+    → AreBound choice kinds bindings bs → AreBound choice kinds bindings (take m (drop n bs))
+bound_part choice kinds bindings bs n m all =
+    All-from_recursion (IsBound choice kinds bindings) (take m (drop n bs))
+    (first m (drop n bs) (rest n bs (recursion_from_All (IsBound choice kinds bindings) bs all)))
+  where
+    first : (i : ℕ) (cs : List BoundPolicy) → AllByRecursion (IsBound choice kinds bindings) cs
+        → AllByRecursion (IsBound choice kinds bindings) (take i cs)
+    first zero cs each = tt
+    first (suc i) [] each = tt
+    first (suc i) (c ∷ cs) each = (each.0, first i cs each.1)
+
+    rest : (i : ℕ) (cs : List BoundPolicy) → AllByRecursion (IsBound choice kinds bindings) cs
+        → AllByRecursion (IsBound choice kinds bindings) (drop i cs)
+    rest zero cs each = each
+    rest (suc i) [] each = tt
+    rest (suc i) (c ∷ cs) each = rest i cs each.1
 
 held_policies : (c : Cluster) (choice : Choice) → (holdings_of c choice).policies ≡ policies_by choice c
 unfolding holdings_of

@@ -1,7 +1,4 @@
 pub mod Kinds
-pub mod Fitted
-pub mod Keyed
-pub mod Seen
 pub mod Made
 pub mod Parts
 pub mod Sets

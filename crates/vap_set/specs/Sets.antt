@@ -21,7 +21,7 @@ use Rattle.vap_programs.specs.declared.programs.Pair.{Pair}
 use Rattle.vap_programs.specs.declared.programs.Pair.TheVariants as pair
 use Rattle.vap_read.specs.declared.key.Key.{Key}
 use Rattle.vap_read.specs.declared.object.Object.{Object}
-use Rattle.vap_set.specs.Fitted.{Fitted, all_params, is_same_kind}
+use Rattle.vap_params.specs.Fitted.{Fitted, all_params, is_same_kind}
 use Rattle.vap_set.specs.Kinds.{is_named_by, params_type, type_or_opaque}
 use Rattle.vap_set.specs.Made.{pair_made}
 use Rattle.vap_set.specs.Parts.{part_of}

@@ -6,7 +6,7 @@ use Rattle.vap_policies.specs.declared.policy.ParamKind.{ParamKind}
 use Rattle.vap_policies.specs.declared.policy.PolicySpec.{PolicySpec}
 use Rattle.vap_programs.specs.declared.programs.Pair.{Pair}
 use Rattle.vap_programs.specs.declared.programs.Pair.TheVariants.{Runs, Misconfigured}
-use Rattle.vap_set.specs.Kinds.{kind_of_params}
+use Rattle.vap_params.specs.Naming.{kind_of_params}
 use Rattle.vap_set.specs.Ready.{IsOneOf}
 use Rattle.vap_set.specs.Sets.{Holdings, is_looked_at, kinds_of, pair_in, policies_of}
 use Rattle.vap_set.specs.declared.bound.BoundPolicy.{BoundPolicy}

@@ -176,7 +176,10 @@ impl Changes {
 }
 
 /// The policies from the first one on whose name is not below this one.
-pub fn not_below<'a>(policies: &'a [Shared<BoundPolicy>], name: &str) -> &'a [Shared<BoundPolicy>] {
+pub fn not_below<'a>(policies: &'a [Shared<BoundPolicy>], name: &str) -> &'a [Shared<BoundPolicy>]
+    ensures { (choice : ChoiceOf) (kinds : List KindOf) (bindings : List (Bound BindingOf)) → AreBound choice kinds bindings policies.now
+        → AreBound choice kinds bindings result.now }
+{
     for place in 0..policies.len() {
         if policies[place].get().name.as_str() >= name {
             return &policies[place..];
@@ -198,6 +201,26 @@ fn same_policy<'a>(
         }
         if old.policy.same(policy) {
             return Some(old);
+        }
+    }
+    None
+}
+
+/// The own texts of the first of policies, as long as they have this name, that says the same.
+fn same_texts<'a>(
+    policies: &'a [Shared<BoundPolicy>],
+    name: &str,
+    policy: &Policy,
+) -> Option<&'a Shared<PolicyTexts>>
+    ensures { IfSome (option_copied result) (λ own. own ≡ policy.now) }
+{
+    for shared in policies {
+        let old = shared.get();
+        if old.name.as_str() != name {
+            return None;
+        }
+        if old.own.get().is_of(policy) {
+            return Some(&old.own);
         }
     }
     None
@@ -225,18 +248,17 @@ fn if_bound_of<'a>(
     }
 }
 
-/// What a policy was bound to, if it is among these, which stand by name.
-fn bound_among<'a>(
+/// What a policy was bound to, if the first of these is of it.
+fn bound_first<'a>(
     still: &'a [Shared<BoundPolicy>],
     policy: &Keyed<Shared<PolicyTexts>>,
 ) -> Option<&'a Shared<BoundPolicy>>
     ensures { (choice : ChoiceOf) (kinds : List KindOf) (bindings : List (Bound BindingOf)) → AreBound choice kinds bindings still.now
         → IfSome (option_copied result) (λ b. b ≡ bound_of choice kinds bindings policy.now) }
 {
-    let name = policy.key.as_str();
-    match still.binary_search_by(|old| old.get().name.as_str().cmp(name)) {
-        Ok(at) => if_bound_of(&still[at], policy),
-        Err(_) => None,
+    match still {
+        [first, ..] => if_bound_of(first, policy),
+        [] => None,
     }
 }
 
@@ -253,7 +275,7 @@ impl<'a> Kept<'a> {
         }
     }
 
-    /// What a policy was bound to, if it is among these and no event put or removed one of its name.
+    /// What a policy was bound to, if the first of these is of it and no event put or removed one of its name.
     pub fn bound(
         &self,
         still: &'a [Shared<BoundPolicy>],
@@ -265,21 +287,31 @@ impl<'a> Kept<'a> {
         if self.changes.has_policy(policy.key.as_str()) {
             None
         } else {
-            bound_among(still, policy)
+            bound_first(still, policy)
         }
     }
 
-    /// A policy as it was before, unless an event put or removed one of its name. Those before `rest` have lesser names.
-    pub fn policy(
+    /// The own texts of a policy, unless an event put or removed one of its name. Those before `rest` have lesser names.
+    pub fn texts(
         &self,
         rest: &'a [Shared<BoundPolicy>],
         name: &str,
         policy: &Policy,
-    ) -> Option<&'a BoundPolicy> {
+    ) -> Option<&'a Shared<PolicyTexts>>
+        ensures { IfSome (option_copied result) (λ own. own ≡ policy.now) }
+    {
         if self.changes.has_policy(name) {
             return None;
         }
-        same_policy(rest, name, policy)
+        same_texts(rest, name, policy)
+    }
+
+    /// A policy as it was before, unless an event put or removed one of its name.
+    pub fn policy(&self, name: &str, policy: &Policy) -> Option<&'a BoundPolicy> {
+        if self.changes.has_policy(name) {
+            return None;
+        }
+        same_policy(not_below(self.policies, name), name, policy)
     }
 
     /// What a policy was at a kind before, unless a definition of the kind changed, or one of that of its params.

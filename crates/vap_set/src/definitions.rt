@@ -3,7 +3,7 @@
 ghost use Rattle.std.specs.Prelude.{◌≡◌, IfOk};
 ghost use Rattle.vap_kinds.specs.Definitions.{is_definition};
 ghost use Rattle.vap_objects.specs.Listed.{kinds_in};
-ghost use Rattle.vap_set.specs.Reuse.{StaysUnless};
+ghost use Rattle.vap_params.specs.Reuse.{StaysUnless};
 
 use plain::{Items, Keyed, Shared};
 use std::alloc::{AllocError, Global};

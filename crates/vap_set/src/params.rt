@@ -1,55 +1,21 @@
-//! Kinds of params, and the types of names.
+//! The types of names, and which kinds rules name.
 
-ghost use Rattle.std.specs.Prelude.{◌≡◌, ◌↔◌, if◌then◌else◌, IfOk, IsTrue};
-ghost use Rattle.std.specs.Option.{option_copied};
+ghost use Rattle.std.specs.Prelude.{◌≡◌, ◌↔◌, IfOk, IsTrue};
 ghost use Rattle.vap_match.specs.Cover.{is_word_or_any, before_slash};
 ghost use Rattle.std.specs.List.{list_any};
-ghost use Rattle.vap_kinds.specs.Kinds.{kind_named};
-ghost use Rattle.vap_set.specs.Fitted.{spelled};
-ghost use Rattle.vap_set.specs.Kinds.{has_slash, is_named_by, kind_of_params, params_by, params_type, rule_names, type_or_opaque};
+ghost use Rattle.vap_set.specs.Kinds.{is_named_by, params_by, params_type, rule_names, type_or_opaque};
 ghost use Rattle.vap_programs.specs.declared.names.ParamsType.TheVariants.{Absent, Unknown};
 ghost use Rattle.vap_set.specs.Kinds.{types_at};
 
 use cel_value::{CelType, same_type};
 use plain::{Shared, Text};
 use std::alloc::{AllocError, Global};
-use vap_kinds::{Kind, find_kind};
+use vap_kinds::Kind;
 use vap_match::Rule;
+use vap_params::kind_of_params;
 use vap_policies::ParamKind;
 use vap_programs::{KindTypes, ParamsType};
 use vap_slots::FixedTypes;
-
-/// The kind of params that a policy names, if it is known or refused.
-pub fn kind_of_params<'a>(kinds: &'a [Kind], params: &ParamKind) -> Option<&'a Kind>
-    ensures { option_copied result ≡ kind_of_params kinds.now params.now }
-{
-    let text = params.api_version.as_str();
-    match text.split_once('/') {
-        Some((group, version)) => find_grouped(kinds, group, version, params.kind.as_str()),
-        None => find_kind(kinds, "", text, params.kind.as_str()),
-    }
-}
-
-/// The kind of a group and a version, which has no slash.
-fn find_grouped<'a>(kinds: &'a [Kind], group: &str, version: &str, kind: &str) -> Option<&'a Kind>
-    ensures { option_copied result
-        ≡ (if has_slash version.now then None else kind_named group.now version.now kind.now kinds.now) }
-{
-    match version.split_once('/') {
-        Some(_) => None,
-        None => find_kind(kinds, group, version, kind),
-    }
-}
-
-/// An apiVersion as objects spell it: without the slash of an empty group.
-pub fn spelled(api_version: &str) -> &str
-    ensures { result.now ≡ spelled api_version.now }
-{
-    match api_version.strip_prefix('/') {
-        Some(version) => version,
-        None => api_version,
-    }
-}
 
 fn params_by(alloc: Global, cel_type: &Option<CelType>) -> Result<ParamsType, AllocError>
     ensures { IfOk result (λ t. t ≡ params_by cel_type.now) }

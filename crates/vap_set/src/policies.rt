@@ -32,13 +32,6 @@ pub struct Workshop<'a> {
     pub kept: &'a Kept<'a>,
 }
 
-fn texts_in(old: Option<&BoundPolicy>) -> Option<&Shared<PolicyTexts>> {
-    match old {
-        Some(old) => Some(&old.own),
-        None => None,
-    }
-}
-
 /// Policies with their own texts, which are read of those that changed.
 pub fn policy_texts(
     alloc: Global,
@@ -51,10 +44,10 @@ pub fn policy_texts(
     let mut rest = kept.policies;
     for policy in policies {
         rest = not_below(rest, policy.key.as_str());
-        let old = kept.policy(rest, policy.key.as_str(), &policy.value);
+        let own = kept.texts(rest, policy.key.as_str(), &policy.value);
         all.push(Keyed {
             key: policy.key.copy()?,
-            value: own_texts(alloc, &policy.value, texts_in(old))?,
+            value: own_texts(alloc, &policy.value, own)?,
         })?;
     }
     Ok(Items::from_vec(all))
@@ -108,23 +101,25 @@ impl Workshop<'_> {
         })
     }
 
-    /// The same, unless it was bound before as it would be now.
+    /// The same, unless the first of these, which are bound as they would be now, is of it.
     fn shared_of(
         &self,
         choice: &Choice,
         bindings: &[Keyed<Binding>],
-        old: Option<&BoundPolicy>,
+        still: &[Shared<BoundPolicy>],
         policy: &Keyed<Shared<PolicyTexts>>,
     ) -> Result<Shared<BoundPolicy>, CompileError>
-        requires still { AreBound self.now.kept.now.choice.now self.now.kinds.now bindings.now self.now.kept.now.still.now }
+        requires still { AreBound choice.now self.now.kinds.now bindings.now still.now }
         ensures bound { IfOk result (λ p. p ≡ bound_of choice.now self.now.kinds.now bindings.now policy.now) }
         ensures unverified { (at : ℕ) → IsErrOf result (Fault (Unverified at))
             → HasUnverified (part_of choice.now policy.now.value.spec) self.now.kinds.now policy.now.value.spec }
     {
-        let still = self.kept.still_by(choice);
         match self.kept.bound(still, policy) {
             Some(bound) => Ok(bound.share()?),
             None => {
+                let old = self
+                    .kept
+                    .policy(policy.key.as_str(), policy.value.get().policy());
                 let bound = self.bound_of(choice, bindings, old, policy)?;
                 Ok(Shared::new(self.alloc, bound)?)
             }
@@ -144,13 +139,10 @@ impl Workshop<'_> {
             → AreUnverified choice.now self.now.kinds.now name policies.now }
     {
         let mut bound = Vec::new(self.alloc);
-        let mut rest = self.kept.policies;
+        let mut still = self.kept.still_by(choice);
         for policy in policies {
-            rest = not_below(rest, policy.key.as_str());
-            let old = self
-                .kept
-                .policy(rest, policy.key.as_str(), policy.value.get().policy());
-            match self.shared_of(choice, bindings, old, policy) {
+            still = not_below(still, policy.key.as_str());
+            match self.shared_of(choice, bindings, still, policy) {
                 Ok(one) => bound.push(one)?,
                 Err(error) => return Err(unbuilt(policy, error)?),
             }

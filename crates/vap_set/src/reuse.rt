@@ -1,15 +1,12 @@
 //! What a set takes over of one before it, where events do not touch that.
 
-ghost use Rattle.std.specs.Prelude.{◌≡◌, true, map, IfOk, IsTrue};
-ghost use Rattle.std.specs.List.{All};
+ghost use Rattle.std.specs.Prelude.{◌≡◌, true, IfOk, IsTrue};
 ghost use Rattle.vap_kinds.specs.Definitions.{is_definition};
 ghost use Rattle.vap_objects.specs.Classes.{all_miss, is_binding, is_namespace};
 ghost use Rattle.vap_objects.specs.OfKind.{namespaces_in};
-ghost use Rattle.vap_set.specs.Fitted.{refitted};
-ghost use Rattle.vap_set.specs.Reuse.{AreStill, StaysUnless};
+ghost use Rattle.vap_params.specs.Reuse.{StaysUnless};
 
-use crate::kind_params::KindParams;
-use plain::{Items, Shared};
+use plain::Shared;
 use std::alloc::{AllocError, Global};
 use vap_objects::{Objects, all_miss_bindings, all_miss_definitions, all_miss_namespaces};
 use vap_read::{Event, ObjectMap};
@@ -36,38 +33,4 @@ pub fn namespaces_after(
     } else {
         Shared::new(alloc, objects.namespaces(alloc)?)
     }
-}
-
-/// The params of a kind after events, fitted to the same type.
-fn kind_params_after(
-    alloc: Global,
-    old: &Shared<KindParams>,
-    objects: &Objects,
-    events: &[Event],
-) -> Result<Shared<KindParams>, AllocError>
-    requires { AreStill objects.now events.now old.now }
-    ensures { IfOk result (λ params. params ≡ refitted objects.now old.now) }
-{
-    if old.get().is_missed(events) {
-        old.share()
-    } else {
-        Shared::new(alloc, old.get().after(alloc, objects, events)?)
-    }
-}
-
-/// The params of each kind after events, fitted to the same types. Fitted are those that an event touches.
-pub fn params_after(
-    alloc: Global,
-    old: &[Shared<KindParams>],
-    objects: &Objects,
-    events: &[Event],
-) -> Result<Items<Shared<KindParams>>, AllocError>
-    requires { All (AreStill objects.now events.now) old.now }
-    ensures { IfOk result (λ all. all ≡ map (refitted objects.now) old.now) }
-{
-    let mut all = Vec::new(alloc);
-    for params in old {
-        all.push(kind_params_after(alloc, params, objects, events)?)?;
-    }
-    Ok(Items::from_vec(all))
 }

@@ -1,7 +1,8 @@
 //! Policies with their own texts: the literal texts that `matches` is given in their expressions.
 
-ghost use Rattle.std.specs.Prelude.{◌≡◌, ◌++◌, ◌↔◌, IfOk, IsTrue, OnOk};
+ghost use Rattle.std.specs.Prelude.{◌≡◌, ◌++◌, ◌↔◌, IfOk, IfSome, IsTrue, OnOk};
 ghost use Rattle.std.specs.List.{flat_map};
+ghost use Rattle.std.specs.Option.{option_copied};
 ghost use Rattle.vap_set.specs.Patterns.{of_annotation, of_message, of_named, of_policy, of_validation};
 
 use cel_expression::gather_texts;
@@ -132,23 +133,25 @@ impl PolicyTexts {
         self.texts.as_slice()
     }
 
-    fn is_of(&self, policy: &Policy) -> bool
+    /// Whether it is this policy.
+    pub fn is_of(&self, policy: &Policy) -> bool
         ensures { IsTrue result ↔ (self.now ≡ policy.now) }
     {
         self.policy.same(policy)
     }
 }
 
-/// A policy with its own texts, which are read unless those that are kept are of the same policy.
+/// A policy with its own texts, which are read unless some are kept.
 pub fn own_texts(
     alloc: Global,
     policy: &Policy,
     kept: Option<&Shared<PolicyTexts>>,
 ) -> Result<Shared<PolicyTexts>, AllocError>
+    requires { IfSome (option_copied kept) (λ own. own ≡ policy.now) }
     ensures { IfOk result (λ own. own ≡ policy.now) }
 {
     match kept {
-        Some(own) if own.get().is_of(policy) => own.share(),
-        _ => Shared::new(alloc, PolicyTexts::new(alloc, policy)?),
+        Some(own) => own.share(),
+        None => Shared::new(alloc, PolicyTexts::new(alloc, policy)?),
     }
 }

@@ -1,6 +1,6 @@
 use Rattle.std.proofs.Common.{Option, Some, sym, ap, subst, ◌∙◌}
 use Rattle.vap_policies.specs.declared.policy.PolicySpec.{PolicySpec}
-use Rattle.vap_set.specs.Fitted.{Fitted}
+use Rattle.vap_params.specs.Fitted.{Fitted}
 use Rattle.vap_set.specs.Sets.{params_in}
 use Rattle.vap_judge.specs.Ready.{CanRun, types_of}
 use Rattle.vap_judge.specs.Shown.{case_of}

@@ -1,95 +1,107 @@
-use Rattle.std.proofs.Common.{◌+◌, arith, get_or, sym, ap, ◌∙◌, subst, [], ◌∷◌, drop, filter, map}
+use Rattle.std.proofs.Common.{◌+◌, ◌++◌, arith, get_or, sym, ap, ◌∙◌, subst, drop, filter, map}
+use Rattle.vap_params.specs.Seen.{IsSeenAt}
+use Rattle.vap_params.specs.Blocks as blocks
 use Rattle.vap_judge.specs.Evaluations.{found_by, joined}
-use Rattle.vap_judge.specs.Judging.{at_param, at_seen}
+use Rattle.vap_judge.specs.Judging.{at_param}
 use Rattle.vap_judge.specs.Params.{is_param}
 use Rattle.vap_judge.specs.Shown.{case_of, findings_of, lent_place, rule_of}
 use Rattle.std.proofs.lemmas.Result.{err_from_is_err_and}
-use Rattle.vap_judge.specs.Patterns.{EvaluationMayMatch}
-use Rattle.vap_judge.proofs.Joined.{next_found}
-use Rattle.vap_judge.proofs.Looked.{one_param}
-use Rattle.vap_judge.proofs.KeptParams.{can_run_at, next_param, other_param, seen_at}
+use Rattle.vap_judge.specs.Patterns.{OneMayMatch}
+use Rattle.vap_judge.proofs.InBlocks.{count_here, count_left, held_at, next_block, none_left, one_in_block}
+use Rattle.vap_judge.proofs.Joined.{joined_none, next_found}
 use Rattle.vap_judge.proofs.evaluations.Judging.each.Goals as goal
-use Rattle.vap_judge.proofs.evaluations.Judging.each.Goals.{then-takes+in_ok-param, else-takes}
 
-pub param-requires : goal.param-requires
-param-requires g c =
-    let l = c.loop-param in
-    let all = c.params-param-items.ensures in
-    let x = c.get-fitted.result.now in
-    let there = c.get-fitted.ensures ∙ c.param-item.is
-    ∙ ap (get_or c.params-param-items.result.now c.loop-param.param-index) (sym c.get-fitted.ensures) in
+pub each_of-requires : goal.each_of-requires
+each_of-requires g c =
+    let l = c.loop-block in
+    let bs = c.blocks-block-items.result.now in
+    let all = c.blocks-block-items.ensures in
+    let b = c.as_slice.result.now in
+    let is = c.as_slice.ensures ∙ c.get.ensures in
+    let there = is ∙ c.block-item.is ∙ ap (get_or bs l.block-index) (sym is) in
+    let left = count_left bs l.block-index in
+    let here = count_here bs l.block-index b c.loop-block-test.true there in
     rw l.invariant.case (
-      c.requires.0.ready,
+      c.requires.0,
       (
-        c.requires.0.within,
-        (
-          can_run_at (case_of c.args.self.now.case.now) c.args.params.now g.types c.args.programs.now x c.requires.0
-              (seen_at c.args.params.now.cel_type c.params-param-items.result.now l.param-index x c.loop-param-test.true there
-              all.seen),
-          omega (arith, c.requires.1, l.invariant.grows, c.loop-param-test.true, all.few),
-        ),
+        held_at (IsSeenAt c.args.selection.now.params.now.cel_type) bs l.block-index b c.loop-block-test.true there all.seen,
+        omega (arith, c.requires.1, l.invariant.grows, all.few, left, here),
       ),
     )
 
-pub loop-param-preserved : goal.loop-param-preserved
-loop-param-preserved g c =
-    let l = c.loop-param in
-    let all = c.params-param-items.ensures in
+pub loop-block-preserved : goal.loop-block-preserved
+loop-block-preserved g c =
+    let l = c.loop-block in
+    let bs = c.blocks-block-items.result.now in
+    let b = c.as_slice.result.now in
+    let is = c.as_slice.ensures ∙ c.get.ensures in
+    let there = is ∙ c.block-item.is ∙ ap (get_or bs l.block-index) (sym is) in
     let case = case_of c.args.self.now.case.now in
     let rule = rule_of c.args.rule.now in
     let ps = c.args.programs.now in
-    let t = c.args.params.now.cel_type in
+    let t = c.args.selection.now.params.now.cel_type in
     let test = is_param (lent_place c.args.selection.now.place) c.args.selection.now.reference.now in
-    let xs = c.params-param-items.result.now in
-    let x = c.get-fitted.result.now in
-    let there = c.get-fitted.ensures ∙ c.param-item.is
-    ∙ ap (get_or c.params-param-items.result.now c.loop-param.param-index) (sym c.get-fitted.ensures) in
-    let rest = map (at_param case rule ps t) (filter test (map (λ p. p.object) (drop (l.param-index + 1) xs))) in
-    let more = map (at_param case rule ps t) (filter test (map (λ p. p.object) (drop l.param-index xs))) in
-    let taken = ap test (sym c.get.ensures) ∙ sym c.takes.ensures in
-    elim c.if-takes.branch [
-      | then-takes+in_ok-param w ↦ record {
-        case = rw w.self-is (w.in_ok-param.ensures.adds.case ∙ l.invariant.case);
-        found = rw w.self-is (
-            next_found (findings_of l.self.findings) (findings_of w.param.new.self.findings) _
-            (at_seen (case_of l.self.case.now) rule ps x.outcome ∷ []) rest more w.in_ok-param.ensures.adds.found
-            (
-            ap (λ k. at_seen (case_of k.now) rule ps x.outcome ∷ rest) l.invariant.case
-            ∙ next_param case rule ps t test xs l.param-index x c.loop-param-test.true there all.seen
-            (taken ∙ w.if-takes.true)
-            )
-            l.invariant.found
-            );
-        grows = rw w.self-is (omega (arith, w.in_ok-param.ensures.adds.grows, l.invariant.grows));
-      }
-      | else-takes w ↦ record {
-        case = rw w.self-is l.invariant.case;
-        found = rw w.self-is (
-            ap (λ es. joined (findings_of l.self.findings) (found_by es))
-            (other_param case rule ps t test xs l.param-index x c.loop-param-test.true there (taken ∙ w.if-takes.false))
-            ∙ l.invariant.found
-            );
-        grows = rw w.self-is (omega (arith, l.invariant.grows));
-      }
-    ]
+    let rest = map (at_param case rule ps t) (filter test (map (λ p. p.object) (blocks.joined (drop (l.block-index + 1) bs)))) in
+    let more = map (at_param case rule ps t) (filter test (map (λ p. p.object) (blocks.joined (drop l.block-index bs)))) in
+    let adds = c.in_ok-each_of.ensures.adds in
+    record {
+      case = adds.case ∙ l.invariant.case;
+      found = next_found (findings_of l.self.findings) (findings_of c.each_of.new.self.findings) _
+          (map (at_param (case_of l.self.case.now) rule ps t) (filter test (map (λ p. p.object) b))) rest more adds.found
+          (
+          ap (λ k. map (at_param (case_of k.now) rule ps t) (filter test (map (λ p. p.object) b)) ++ rest) l.invariant.case
+          ∙ next_block case rule ps t test bs l.block-index b c.loop-block-test.true there
+          )
+          l.invariant.found;
+      grows = omega (
+        arith,
+        adds.grows,
+        l.invariant.grows,
+        count_left bs l.block-index,
+        count_left bs (l.block-index + 1),
+        count_here bs l.block-index b c.loop-block-test.true there,
+      );
+    }
 
--- at the param where the loop is
-pub returns-in_err-param-clause-pattern : goal.returns-in_err-param-clause-pattern
-returns-in_err-param-clause-pattern g c = λ is.
+-- in the block where the loop is
+pub returns-in_err-each_of-clause-pattern : goal.returns-in_err-each_of-clause-pattern
+returns-in_err-each_of-clause-pattern g c = λ is.
     let p = err_from_is_err_and c.from_residual.result c.from_residual.ensures.1 in
     let q = p.1 in
     let r = p.2 in
-    let l = c.loop-param in
-    let all = c.params-param-items.ensures in
-    let x = c.get-fitted.result.now in
-    let there = c.get-fitted.ensures ∙ c.param-item.is
-    ∙ ap (get_or c.params-param-items.result.now c.loop-param.param-index) (sym c.get-fitted.ensures) in
-    let ps = c.args.programs.now in
+    let l = c.loop-block in
+    let bs = c.blocks-block-items.result.now in
+    let b = c.as_slice.result.now in
+    let same = c.as_slice.ensures ∙ c.get.ensures in
+    let there = same ∙ c.block-item.is ∙ ap (get_or bs l.block-index) (sym same) in
     let rule = rule_of c.args.rule.now in
+    let ps = c.args.programs.now in
+    let t = c.args.selection.now.params.now.cel_type in
     let test = is_param (lent_place c.args.selection.now.place) c.args.selection.now.reference.now in
-    one_param (case_of c.args.self.now.case.now) rule ps c.args.params.now.cel_type test c.params-param-items.result.now
-    c.args.params.now.objects l.param-index x all.objects c.loop-param-test.true there all.seen
-    (ap test (sym c.get.ensures) ∙ sym c.takes.ensures ∙ c.if-takes.true)
+    one_in_block (case_of c.args.self.now.case.now) rule ps t test bs c.args.selection.now.params.now.objects l.block-index b
+    c.blocks-block-items.ensures.objects c.loop-block-test.true there
     (
-    subst (λ k. EvaluationMayMatch (at_seen (case_of k.now) rule ps x.outcome)) l.invariant.case (c.in_err-param.ensures.pattern (cc))
+    subst (λ k. OneMayMatch (map (at_param (case_of k.now) rule ps t) (filter test (map (λ p. p.object) b)))) l.invariant.case
+    (c.in_err-each_of.ensures.pattern (cc))
     )
+
+-- behind the last block
+pub returns-clause-adds : goal.returns-clause-adds
+returns-clause-adds g c =
+    let l = c.loop-block in
+    let bs = c.blocks-block-items.result.now in
+    let case = case_of c.args.self.now.case.now in
+    let rule = rule_of c.args.rule.now in
+    let ps = c.args.programs.now in
+    let t = c.args.selection.now.params.now.cel_type in
+    let test = is_param (lent_place c.args.selection.now.place) c.args.selection.now.reference.now in
+    let none = none_left bs l.block-index (omega (arith, c.loop-block-test.false)) in
+    record {
+      case = l.invariant.case;
+      found = sym (joined_none (findings_of l.self.findings))
+          ∙ ap
+          (λ xs. joined (findings_of l.self.findings) (found_by (map (at_param case rule ps t) (filter test (map (λ p. p.object) xs)))))
+          (sym none)
+          ∙ l.invariant.found;
+      grows = omega (arith, l.invariant.grows, count_left bs l.block-index, c.blocks-block-items.ensures.few);
+    }

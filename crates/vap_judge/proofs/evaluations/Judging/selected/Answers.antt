@@ -11,18 +11,18 @@ use Rattle.vap_judge.proofs.evaluations.Judging.selected.Goals as goal
 pub returns-then-takes_one-clause-adds : goal.returns-then-takes_one-clause-adds
 returns-then-takes_one-clause-adds g c =
     rw (
-    there_are (case_of c.args.self.now.case.now) (rule_of c.args.rule.now) c.args.programs.now c.args.params.now.cel_type
+    there_are (case_of c.args.self.now.case.now) (rule_of c.args.rule.now) c.args.programs.now c.args.selection.now.params.now.cel_type
     c.args.selection.now.reference.now.parameter_not_found_action
-    (is_param (lent_place c.args.selection.now.place) c.args.selection.now.reference.now) c.args.params.now.objects
+    (is_param (lent_place c.args.selection.now.place) c.args.selection.now.reference.now) c.args.selection.now.params.now.objects
     (sym c.takes_one.ensures ∙ c.if-takes_one.true)
     ) c.each.ensures.adds
 
 pub returns-in-Allow-clause-adds : goal.returns-in-Allow-clause-adds
 returns-in-Allow-clause-adds g c =
     rw (
-    there_are_none (case_of c.args.self.now.case.now) (rule_of c.args.rule.now) c.args.programs.now c.args.params.now.cel_type
+    there_are_none (case_of c.args.self.now.case.now) (rule_of c.args.rule.now) c.args.programs.now c.args.selection.now.params.now.cel_type
     c.args.selection.now.reference.now.parameter_not_found_action
-    (is_param (lent_place c.args.selection.now.place) c.args.selection.now.reference.now) c.args.params.now.objects
+    (is_param (lent_place c.args.selection.now.place) c.args.selection.now.reference.now) c.args.selection.now.params.now.objects
     (sym c.takes_one.ensures ∙ c.if-takes_one.false)
     ∙ ap (at_none (rule_of c.args.rule.now)) c.in-Allow.is
     ) (record {
@@ -34,9 +34,9 @@ returns-in-Allow-clause-adds g c =
 pub returns-in-Deny-clause-adds : goal.returns-in-Deny-clause-adds
 returns-in-Deny-clause-adds g c =
     rw (
-    there_are_none (case_of c.args.self.now.case.now) (rule_of c.args.rule.now) c.args.programs.now c.args.params.now.cel_type
+    there_are_none (case_of c.args.self.now.case.now) (rule_of c.args.rule.now) c.args.programs.now c.args.selection.now.params.now.cel_type
     c.args.selection.now.reference.now.parameter_not_found_action
-    (is_param (lent_place c.args.selection.now.place) c.args.selection.now.reference.now) c.args.params.now.objects
+    (is_param (lent_place c.args.selection.now.place) c.args.selection.now.reference.now) c.args.selection.now.params.now.objects
     (sym c.takes_one.ensures ∙ c.if-takes_one.false)
     ∙ ap (at_none (rule_of c.args.rule.now)) c.in-Deny.is
     ) (said_adds c.fail.result c.args.self.now c.fail.new.self _ params_of_binding c.fail.ensures.adds)
@@ -44,8 +44,8 @@ returns-in-Deny-clause-adds g c =
 pub returns-then-takes_one-clause-pattern : goal.returns-then-takes_one-clause-pattern
 returns-then-takes_one-clause-pattern g c =
     rw (
-    there_are (case_of c.args.self.now.case.now) (rule_of c.args.rule.now) c.args.programs.now c.args.params.now.cel_type
+    there_are (case_of c.args.self.now.case.now) (rule_of c.args.rule.now) c.args.programs.now c.args.selection.now.params.now.cel_type
     c.args.selection.now.reference.now.parameter_not_found_action
-    (is_param (lent_place c.args.selection.now.place) c.args.selection.now.reference.now) c.args.params.now.objects
+    (is_param (lent_place c.args.selection.now.place) c.args.selection.now.reference.now) c.args.selection.now.params.now.objects
     (sym c.takes_one.ensures ∙ c.if-takes_one.true)
     ) c.each.ensures.pattern

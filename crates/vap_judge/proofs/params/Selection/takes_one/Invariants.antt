@@ -1,10 +1,13 @@
 use Rattle.std.proofs.Common.{◌≡◌, drop, map}
 use Rattle.std.specs.List.{list_any}
+use Rattle.vap_params.specs.Blocks as blocks
 use Rattle.vap_judge.specs.Params.{is_param}
 use Rattle.vap_judge.specs.Shown.{lent_place}
 use Rattle.vap_judge.proofs.params.Selection.takes_one.Given as goal
 
-abbrev pub invariant-loop-param : goal.invariant-loop-param
-invariant-loop-param l =
-    list_any (is_param (lent_place l.self.place) l.self.reference.now) (map (λ p. p.object) (drop l.param-index l.param-items))
-    ≡ list_any (is_param (lent_place l.self.place) l.self.reference.now) l.params.objects
+-- whether one of those in the blocks that are left is a param tells it of all
+abbrev pub invariant-loop-block : goal.invariant-loop-block
+invariant-loop-block l =
+    list_any (is_param (lent_place l.self.place) l.self.reference.now)
+    (map (λ p. p.object) (blocks.joined (drop l.block-index l.block-items)))
+    ≡ list_any (is_param (lent_place l.self.place) l.self.reference.now) l.self.params.now.objects

@@ -3,7 +3,7 @@ use Rattle.plain.specs.declared.text.Keyed.{Keyed}
 use Rattle.vap_kinds.specs.declared.kind.Kind.{Kind}
 use Rattle.vap_objects.specs.Listed.{kinds_in}
 use Rattle.vap_policies.specs.declared.policy.Policy.{Policy}
-use Rattle.vap_set.specs.Fitted.{all_params}
+use Rattle.vap_params.specs.Fitted.{all_params}
 use Rattle.vap_set.specs.Ready.{AreFew}
 use Rattle.vap_set.specs.declared.definitions.Definitions.{Definitions}
 use Rattle.vap_set.specs.declared.rules.Rules.{Rules}

@@ -1,10 +1,11 @@
 use Rattle.std.proofs.Common.{List, sym, ap, ◌∙◌, subst}
 use Rattle.std.specs.List.{All}
-use Rattle.vap_set.specs.Fitted.{Fitted}
-use Rattle.vap_set.specs.Reuse.{AreStill}
+use Rattle.vap_params.specs.Fitted.{Fitted}
+use Rattle.vap_params.specs.Reuse.{AreStill}
 use Rattle.vap_set.specs.Sets.{Holdings}
 use Rattle.vap_set.specs.declared.rules.Rules.{Rules}
-use Rattle.vap_set.proofs.Reused.{all_refitted, kinds_still, namespaces_still, params_still}
+use Rattle.vap_params.proofs.Reused.{all_refitted}
+use Rattle.vap_set.proofs.Reused.{kinds_still, namespaces_still, params_still}
 use Rattle.vap_set.proofs.set.PolicySet.parts_after.Goals as goal
 
 pub definitions_after-requires : goal.definitions_after-requires

@@ -1,10 +1,10 @@
 use Rattle.std.proofs.Common.{◌≡◌, List, map, sym, ap, ◌∙◌, subst}
 use Rattle.std.specs.List.{All}
 use Rattle.vap_objects.specs.Listed.{policies_in}
-use Rattle.vap_set.specs.Fitted.{Fitted, refitted}
+use Rattle.vap_params.specs.Fitted.{Fitted, refitted}
 use Rattle.vap_set.specs.Patterns.{IsChoiceFor, of_policies}
 use Rattle.vap_set.specs.Ready.{AreFew}
-use Rattle.vap_set.specs.Reuse.{AreStill}
+use Rattle.vap_params.specs.Reuse.{AreStill}
 use Rattle.vap_set.specs.Sets.{Holdings, IsChosen, held_by, holdings_of, of_bound}
 use Rattle.vap_set.specs.declared.choice.Choice.{Choice}
 use Rattle.vap_set.specs.declared.rules.Rules.{Rules}

@@ -1,0 +1,11 @@
+pub mod Order
+pub mod Replaced
+pub mod Names
+pub mod Slashes
+pub mod ParamKinds
+pub mod Once
+pub mod ParamTable
+pub mod InOrder
+pub mod Placed
+pub mod Reused
+pub mod Crossing
