@@ -1,9 +1,4 @@
 mod Within
 mod OfImage
-mod Runs
 mod Faults
-mod Matches
-mod PlainCode
-mod PlainTrees
-mod Spelled
 pub mod Crossing

@@ -3,6 +3,7 @@ pub mod Expressions
 pub mod Stages
 pub mod Faulty
 pub mod Images
+pub mod Faithful
 pub mod Holds
 pub mod Patterns
 pub mod Names

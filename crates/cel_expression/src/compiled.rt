@@ -1,22 +1,19 @@
-ghost use Rattle.std.specs.Prelude.{◌≡◌, ◌≤◌, ℕ, true, Some, IfOk, IsErrOf};
+ghost use Rattle.std.specs.Prelude.{◌≡◌, ◌≤◌, ℕ, IfOk, IsErrOf};
 ghost use Rattle.failing.specs.declared.failed.Failed.TheVariants.{Fault};
-ghost use Rattle.cel_machine.specs.declared.fault.RunFault.TheVariants.{Pattern};
-ghost use Rattle.cel_operators.specs.Outcomes.{outcome_fits, slots_fit};
 ghost use Rattle.cel_check.specs.Typing.{types_in};
 ghost use Rattle.cel_code.specs.Compiled.{IsCompiled};
 ghost use Rattle.cel_code.specs.Correct.{Computes, Preserves};
 ghost use Rattle.cel_estimate.specs.Estimate.{budget};
-ghost use Rattle.cel_expression.specs.Expressions.{accepted_of, compiled_of, estimate_at, run_of, type_at};
+ghost use Rattle.cel_expression.specs.Expressions.{accepted_of, compiled_of, estimate_at, type_at};
+ghost use Rattle.cel_expression.specs.Faithful.{IsFaithful};
 ghost use Rattle.cel_expression.specs.Faulty.{IsFaulty, IsUnverified};
 ghost use Rattle.cel_expression.specs.Images.{IsImageOf};
-ghost use Rattle.cel_expression.specs.Patterns.{MayMatch};
 ghost use Rattle.cel_expression.specs.Stages.{IsRated};
 ghost use Rattle.cel_expression.specs.declared.refusal.CompileFault.TheVariants.{Unverified};
 
 use crate::refusal::{CompileError, Refusal};
 use crate::stages::{Accepted, program_of, typed_text};
-use cel_machine::{Matchers, RunError, Slots, run};
-use cel_value::{CelError, CelType, Value};
+use cel_value::CelType;
 use cel_verify::Program;
 use plain::{Items, Keyed, Shared, Text};
 use std::alloc::{AllocError, Global};
@@ -48,14 +45,6 @@ impl Model for Compiled {
     ghost view = { source_of };
 
     ghost invariant = { IsCompiled };
-}
-
-/// What a run came to.
-#[derive(Drop)]
-pub struct Ran {
-    pub outcome: Result<Value, CelError>,
-    /// What it charged.
-    pub charged: u64,
 }
 
 /// The expression of a text in a scope of names, by a choice of texts that are taken as no patterns; or why it is refused:
@@ -159,34 +148,12 @@ impl Compiled {
         &self.text
     }
 
-    /// The program, for its slots.
+    /// The program, which does what the text says.
     pub fn program(&self) -> &Program
         ensures slots { result.now.slots ≡ types_in self.now.names }
         ensures image { IsImageOf self.now result.now }
+        ensures faithful { IsFaithful self.now result.now }
     {
         self.program.get()
-    }
-
-    /// What the definitions say of the text, where its names hold these; it is given up where memory is wanting, or where a
-    /// pattern is found to take too much room to be built: that only where `matches` is given a literal text in it.
-    #[tactic(auto, unfolding(crate::specs::Expressions::run_of, crate::specs::Expressions::type_at, crate::specs::Expressions::estimate_at))]
-    pub fn run(
-        &self,
-        alloc: Global,
-        slots: &Slots<'_>,
-        matchers: &mut Matchers,
-    ) -> Result<Ran, RunError>
-        requires { slots_fit (types_in self.now.names) slots.now ≡ true }
-        ensures run { IfOk result (λ r. run_of self.now slots.now ≡ Some (record { outcome = r.outcome; charged = r.charged })) }
-        ensures fits { IfOk result (λ r. outcome_fits (type_at self.now) (Some r.outcome) ≡ true) }
-        ensures within { IfOk result (λ r. r.charged ≤ estimate_at self.now) }
-        ensures small { IfOk result (λ r. r.charged ≤ budget) }
-        ensures pattern { IsErrOf result (Fault Pattern) → MayMatch self.now }
-    {
-        let ended = run(alloc, self.program.get(), slots, matchers)?;
-        Ok(Ran {
-            outcome: ended.outcome,
-            charged: ended.charged,
-        })
     }
 }

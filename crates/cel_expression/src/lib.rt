@@ -1,9 +1,9 @@
 //! Expressions that may be run, from their texts: [`Compiled`] is seen as its text, where it stands.
 //!
-//! [`compile_text`] reads, types, estimates, compiles and verifies a text, or tells why it is refused; [`Compiled::run`]
-//! answers what the definitions of the language say of the text. [`ask_patterns`] and [`choice_of`] make the choice of texts
-//! that are taken as no patterns, before anything is typed; [`gather_texts`] gathers the texts that may be. [`root_type`] is the
-//! type of a text's expression, whatever it may charge.
+//! [`compile_text`] reads, types, estimates, compiles and verifies a text, or tells why it is refused. The program that
+//! [`Compiled::program`] lends does what the text says; `cel_run` runs it. [`ask_patterns`] and [`choice_of`] make the choice
+//! of texts that are taken as no patterns, before anything is typed; [`gather_texts`] gathers the texts that may be.
+//! [`root_type`] is the type of a text's expression, whatever it may charge.
 #![tactic(auto)]
 
 mod choice;
@@ -13,7 +13,7 @@ mod stages;
 mod texts;
 
 pub use choice::{ask_patterns, choice_of};
-pub use compiled::{Compiled, Ran, compile_text};
+pub use compiled::{Compiled, compile_text};
 pub use refusal::{CompileError, CompileFault, Refusal};
 pub use stages::root_type;
 pub use texts::gather_texts;

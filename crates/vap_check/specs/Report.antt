@@ -5,7 +5,7 @@ use Rattle.cel_value.specs.declared.value.Value.{Value, out-Value}
 use Rattle.cel_value.specs.declared.value.Value.TheOpen.{Value-F}
 use Rattle.cel_operators.specs.Outcomes.{Outcome}
 use Rattle.json_text.specs.JsonText.{json_text}
-use Rattle.cel_expression.specs.declared.compiled.Ran.{Ran}
+use Rattle.cel_run.specs.declared.evaluation.Ran.{Ran}
 use Rattle.vap_fit.specs.Names.{fit_fault_name}
 use Rattle.vap_schema.specs.Names.{schema_fault_name}
 use Rattle.vap_cli.specs.Answer.{refusal_text}

@@ -3,7 +3,7 @@
 ghost use Rattle.std.specs.Prelude.{◌≡◌, IfOk, string_bytes};
 ghost use Rattle.vap_check.specs.Report.{is_true, judgement_lines, ran_lines, status_of_judgement};
 
-use cel_expression::Ran;
+use cel_run::Ran;
 use cel_value::{CelError, Value};
 use json_text::to_json;
 use std::alloc::{AllocError, Global};

@@ -10,6 +10,7 @@ use crate::judgement::Judgement;
 use crate::made::Made;
 use cel_expression::Compiled;
 use cel_machine::{Matchers, RunError, RunFault, Slots};
+use cel_run::run;
 use cel_value::{CelError, Value};
 use serde_json::Value as Json;
 use std::alloc::{AllocError, Global};
@@ -37,7 +38,7 @@ fn run_at(alloc: Global, compiled: &Compiled, value: &Value) -> Result<Judgement
     let made: Vec<Result<Value, CelError>> = Vec::new(alloc);
     let slots = Slots::new(lent.as_slice(), made.as_slice());
     let mut matchers = Matchers::new(alloc);
-    match compiled.run(alloc, &slots, &mut matchers) {
+    match run(alloc, compiled, &slots, &mut matchers) {
         Ok(ran) => Ok(Judgement::Ran(ran)),
         Err(RunError::Fault(RunFault::Pattern)) => Ok(Judgement::Pattern),
         Err(RunError::OutOfMemory) => Err(AllocError),

@@ -10,6 +10,7 @@ use crate::answer::{Answer, Refusal};
 use cel_expression::{CompileError, CompileFault, Compiled, ask_patterns, choice_of, compile_text};
 use cel_machine::{Matchers, RunError, RunFault, Slots};
 use cel_patterns::Patterns;
+use cel_run::run;
 use cel_value::{CelError, CelType, Value};
 use plain::{Items, Keyed, Shared, Text};
 use std::alloc::{AllocError, Global};
@@ -67,7 +68,7 @@ fn answer_of(alloc: Global, compiled: &Compiled) -> Result<Answer, AllocError>
     let made: Vec<Result<Value, CelError>> = Vec::new(alloc);
     let slots = Slots::new(lent.as_slice(), made.as_slice());
     let mut matchers = Matchers::new(alloc);
-    match compiled.run(alloc, &slots, &mut matchers) {
+    match run(alloc, compiled, &slots, &mut matchers) {
         Ok(ran) => match ran.outcome {
             Ok(value) => Ok(Answer::Value(value)),
             Err(error) => Ok(Answer::Error(error)),

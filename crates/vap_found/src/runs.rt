@@ -10,8 +10,9 @@ ghost use Rattle.cel_expression.specs.Expressions.{estimate_at, type_at};
 ghost use Rattle.cel_expression.specs.Patterns.{MayMatch};
 ghost use Rattle.vap_found.specs.Runs.{given, charge, holds, truth_of};
 
-use cel_expression::{Compiled, Ran};
+use cel_expression::Compiled;
 use cel_machine::{Matchers, RunError, Slots};
+use cel_run::Ran;
 use cel_value::{CelError, Value};
 use std::alloc::Global;
 
@@ -31,7 +32,7 @@ pub fn run(
     ensures small { IfOk result (λ r. r.charged ≤ budget) }
     ensures pattern { IsErrOf result (Fault Pattern) → MayMatch expression.now }
 {
-    let ran = expression.run(alloc, slots, matchers)?;
+    let ran = cel_run::run(alloc, expression, slots, matchers)?;
     Ok(ran)
 }
 

@@ -17,8 +17,9 @@ ghost use Rattle.vap_found.specs.Runs.{given, charge};
 ghost use Rattle.vap_found.specs.Variables.{values_from, values_charge};
 
 use crate::runs::run;
-use cel_expression::{Compiled, Ran};
+use cel_expression::Compiled;
 use cel_machine::{Matchers, RunError, Slots};
+use cel_run::Ran;
 use cel_value::{CelError, Value};
 use std::alloc::{AllocError, Global};
 

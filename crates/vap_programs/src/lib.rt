@@ -17,7 +17,7 @@ mod validations;
 mod variables;
 mod wanted;
 
-pub use cel_expression::{CompileError, CompileFault, Compiled, Ran, Refusal};
+pub use cel_expression::{CompileError, CompileFault, Compiled, Refusal};
 pub use names::{KindTypes, ParamsType};
 pub use pair_fault::PairFault;
 pub use pairs::{pair, pairs_are_ready};

@@ -20,7 +20,7 @@ use Rattle.cel_code.specs.Compiled.{IsCompiled, layout_of}
 use Rattle.cel_code.specs.Placed.{Code, code_in, Has, Stands, literal, unary, binary, both, either, conditional, items}
 use Rattle.cel_code.specs.Placed.{StandEach, no_items, first_item, slot, entries, with_text, local, looped, mapped, OpensLoop}
 use Rattle.cel_code.specs.Matches.{is_matches, HasMatches}
-use Rattle.cel_expression.proofs.Matches.{some_of, looks_for, has_matches, matches_is}
+use Rattle.cel_run.proofs.Matches.{some_of, looks_for, has_matches, matches_is}
 
 looks : (op : TextOperator) (number : ℕ) → looks_for op ≡ false → is_matches (WithText op number) ≡ false
 looks Select number h = refl

@@ -46,7 +46,7 @@ use Rattle.cel_check.specs.Typing.{Inside, entered, once_inside, read, Part, par
 use Rattle.cel_check.specs.Typing.{checked, checked_within, is_too_large}
 use Rattle.cel_check.specs.PatternTexts.{patterns_in}
 use Rattle.cel_check.proofs.Levels.{part as form_part, parts, turns_parts}
-use Rattle.cel_expression.proofs.Matches.{some_of, matches_at, has_matches, matches_of_node}
+use Rattle.cel_run.proofs.Matches.{some_of, matches_at, has_matches, matches_of_node}
 
 -- where there is a typed tree, this holds of it
 abbrev In : (TypedTree → Type 0) → Checked → Type 0

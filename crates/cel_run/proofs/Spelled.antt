@@ -17,8 +17,8 @@ use Rattle.cel_expression.specs.declared.refusal.Refusal.TheVariants as refusal
 use Rattle.cel_expression.specs.Expressions.{Typed, names_in, told, typed_at, typed_of, accepted_of, within_budget, capped}
 use Rattle.cel_expression.specs.Patterns.{MayMatch}
 use Rattle.cel_expression.specs.Source.{Source}
-use Rattle.cel_expression.proofs.PlainCode.{matches_in_tree}
-use Rattle.cel_expression.proofs.PlainTrees.{unmatched}
+use Rattle.cel_run.proofs.PlainCode.{matches_in_tree}
+use Rattle.cel_run.proofs.PlainTrees.{unmatched}
 
 -- what checking told of a tree, it found
 told_tree : (c : Checked) (tree : TypedTree) → told c ≡ Ok tree → c ≡ Ok tree

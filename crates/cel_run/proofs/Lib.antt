@@ -1,0 +1,5 @@
+mod Runs
+mod Matches
+mod PlainCode
+mod PlainTrees
+mod Spelled
