@@ -24,6 +24,8 @@ BUILT = re.compile(r"rt: (\w+) (?:proved|is kept)")
 COUNT = re.compile(r"(\d+) passed, (\d+) failed")
 # The memory, in KiB, that has to be free where a check of edits begins beside the proofs.
 ROOM = 6 * 2**20
+# What a check holds at most, in KiB. (`rt ci` by itself counts with nearly twice as much, and lets the longest chain of crates wait.)
+HELD = 5 * 2**20
 
 
 def has_idle_processor():
@@ -36,8 +38,18 @@ def has_idle_processor():
     return True
 
 
+def available():
+    """The memory that may be taken, in KiB."""
+    return int(re.search(r"MemAvailable: +(\d+)", Path("/proc/meminfo").read_text())[1])
+
+
 def has_room():
-    return int(re.search(r"MemAvailable: +(\d+)", Path("/proc/meminfo").read_text())[1]) >= ROOM
+    return available() >= ROOM
+
+
+def side_by_side():
+    """How many checks `rt ci` makes side by side, each with one job: one a processor, where memory holds them."""
+    return os.environ.get("RT_JOBS") or str(max(1, min(os.cpu_count() or 1, available() // HELD)))
 
 
 class Turns:
@@ -60,7 +72,7 @@ class Proofs:
     def __init__(self, words):
         self.built, self.has_ended, self.passed, self.failed = set(), False, 0, 1
         how = {"stdin": subprocess.DEVNULL, "stdout": subprocess.PIPE, "stderr": subprocess.STDOUT, "text": True, "errors": "replace"}
-        self.ran = subprocess.Popen(["rt", "ci", *words], cwd=TOP, **how)
+        self.ran = subprocess.Popen(["rt", "ci", *words], cwd=TOP, env={**os.environ, "RT_JOBS": side_by_side()}, **how)
         self.reader = threading.Thread(target=self.follow)
         self.reader.start()
 

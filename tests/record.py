@@ -11,7 +11,6 @@ import hashlib
 import re
 import subprocess
 from pathlib import Path
-from typing import NamedTuple
 
 PARTS = ("src", "specs", "proofs", "must-fail")
 FUNCTION = re.compile(r"(?P<indent>(?: {4})?)(?P<public>pub )?(?:pub\([a-z]+\) )?(?:const )?(?:unsafe )?fn \w")
@@ -72,20 +71,22 @@ def toolchain():
     return subprocess.run(["rt", "version"], capture_output=True, text=True, check=True).stdout.strip()
 
 
-class Tree(NamedTuple):
-    """The files that refusals rest on: a folder of crates, the folder that has their edits, and the libraries of each crate."""
+class Tree:
+    """The files that refusals rest on, as they stood when they were first looked at: a folder of crates, the folder that has their edits,
+    and the libraries of each crate."""
 
-    crates: Path
-    edits: Path
-    libraries: dict
+    def __init__(self, crates, edits, libraries):
+        self.crates, self.edits, self.libraries, self.stands_on, self.shown = crates, edits, libraries, {}, {}
 
     def below(self, crate):
         """The crates of this repository that a crate stands on."""
-        found = []
-        for name in self.libraries[crate]:
-            if name in self.libraries:
-                found += [it for it in [*self.below(name), name] if it not in found]
-        return found
+        if crate not in self.stands_on:
+            found = []
+            for name in self.libraries[crate]:
+                if name in self.libraries:
+                    found += [it for it in [*self.below(name), name] if it not in found]
+            self.stands_on[crate] = found
+        return self.stands_on[crate]
 
     def files(self, crate, parts):
         for part in parts:
@@ -96,8 +97,10 @@ class Tree(NamedTuple):
 
     def seen_of(self, crate):
         """What a check of a crate above can see of a crate."""
-        found = [(name, seen(file)) for name, file in self.files(crate, ("src", "specs", "proofs"))]
-        return [it for it in found if it[1] is not None]
+        if crate not in self.shown:
+            found = [(name, seen(file)) for name, file in self.files(crate, ("src", "specs", "proofs"))]
+            self.shown[crate] = [it for it in found if it[1] is not None]
+        return self.shown[crate]
 
     def rests_on(self, crate):
         """The checksum of all that the refusal of a crate's edits rests on."""

@@ -138,19 +138,32 @@ def cases():
     yield from calls()
 
 
+def runs(library, words, given, first):
+    """The runs of a program with each of its allocations refused, from this one on in steps of `PARTS`: number, status and output."""
+    with tempfile.TemporaryDirectory() as folder:
+        (Path(folder) / "given").write_bytes(given)
+        environment = {"LD_PRELOAD": str(library), "SWEPT": folder, "FIRST": str(first), "STEP": str(PARTS), "MOST": str(MOST)}
+        how = {"stdin": subprocess.DEVNULL, "stdout": subprocess.PIPE, "stderr": subprocess.DEVNULL}
+        ran = subprocess.run(words, env=environment, timeout=3600, check=True, **how)
+        for number, status in map(str.split, ran.stdout.decode().splitlines()):
+            yield int(number), exit_of(int(status)), (Path(folder) / number).read_bytes()
+
+
+def exit_of(status):
+    """The exit status of a program, or the number of the signal that ended it, below 0."""
+    return -os.WTERMSIG(status) if os.WIFSIGNALED(status) else os.WEXITSTATUS(status)
+
+
 def sweep(library, case, first):
     """How many of a case's allocations were refused, from this one on in steps of `PARTS`, and what went wrong."""
     name, words, given, is_right, is_well = case
-    whys = []
-    for tried, number in enumerate(range(first, MOST, PARTS)):
-        environment = {"LD_PRELOAD": str(library), "REFUSED": str(number)}
-        ran = subprocess.run(words, env=environment, input=given, capture_output=True, timeout=60)
-        if ran.returncode == OVER:
-            if not is_right(ran.stdout):
-                whys.append(f"{name!r} with all its memory: {ran.stdout!r}")
-            return tried, whys
-        if not is_well(ran.returncode, ran.stdout):
-            whys.append(f"{name!r} with allocation {number} refused: {ran.stdout!r}, status {ran.returncode}")
+    tried, whys = 0, []
+    for number, status, out in runs(library, words, given, first):
+        if status == OVER:
+            return tried, whys if is_right(out) else whys + [f"{name!r} with all its memory: {out!r}"]
+        if not is_well(status, out):
+            whys.append(f"{name!r} with allocation {number} refused: {out!r}, status {status}")
+        tried += 1
     return 0, whys + [f"{name!r}: it has not ended at {MOST} allocations"]
 
 
