@@ -13,7 +13,7 @@ use Rattle.cel_value.specs.CelType.{assignable, join}
 use Rattle.cel_value.proofs.Above.{IsAbove, join-above}
 use Rattle.cel_value.proofs.Reflexive.{assignable-refl}
 use Rattle.cel_operators.proofs.Opened.{text_fits}
-use Rattle.cel_grammar.specs.declared.tree.Entry.{Entry}
+use Rattle.cel_tree.specs.declared.expr.Entry.{Entry}
 use Rattle.cel_operators.specs.declared.type_rule.TypeRule.{TypeRule}
 use Rattle.cel_operators.specs.declared.type_rule.TypeRule.TheVariants.{NoOverload}
 use Rattle.cel_operators.specs.declared.operator.Operator.{Operator}
@@ -24,11 +24,12 @@ use Rattle.cel_check.specs.declared.tree.Form.{Form}
 use Rattle.cel_check.specs.declared.tree.Form.TheVariants as form
 use Rattle.cel_operators.specs.Outcomes.{Types}
 use Rattle.cel_operators.specs.Operators.{row, of_limit, type_of_one, type_of_two}
-use Rattle.cel_check.specs.Meaning.{type_of, takes_result, Judged, right_at, judged_step, judged_of, is_right, types_judged, by_turns}
+use Rattle.cel_check.specs.Meaning.{type_of, takes_result, Judged, right_at, judged_step, judged_of, is_right, types_judged}
+use Rattle.cel_tree.specs.Turns.{by_turns}
 use Rattle.cel_check.specs.Meaning.{each_right as all_right, takes_slot, right_loop, right_where}
-use Rattle.cel_check.specs.Loops.{types_inside, loop_type, where_ranged}
-use Rattle.cel_parse.specs.declared.expr.Loop.{Loop}
-use Rattle.cel_parse.specs.declared.expr.Loop.TheVariants as loop
+use Rattle.cel_loops.specs.Loops.{types_inside, loop_type, where_ranged}
+use Rattle.cel_tree.specs.declared.expr.Loop.{Loop}
+use Rattle.cel_tree.specs.declared.expr.Loop.TheVariants as loop
 use Rattle.cel_operators.specs.Lists.{items_type}
 use Rattle.cel_check.specs.Typing.{Trees, tree_in_front, after_items, root_types, typed_by, list_literal, Names, types_in, types_of}
 use Rattle.cel_check.specs.Typing.{Checked, node, after, Pairs, entry_in_front, map_literal, at_name, name_in, selected, is_text}
@@ -45,7 +46,7 @@ use Rattle.cel_operators.specs.declared.text_operator.TextOperator.{TextOperator
 use Rattle.cel_operators.specs.declared.text_operator.TextOperator.TheVariants as text_operator
 use Rattle.cel_patterns.specs.Choice.{refuses}
 use Rattle.cel_check.specs.Opaque.{is_opaque}
-use Rattle.cel_parse.specs.declared.expr.BinaryOperator.{BinaryOperator}
+use Rattle.cel_tree.specs.declared.expr.BinaryOperator.{BinaryOperator}
 
 -- where there is a typed tree, it is well typed
 abbrev pub RightIn : Types → Checked → Type 0

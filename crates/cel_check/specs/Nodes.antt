@@ -5,13 +5,13 @@ use Rattle.std.specs.Str.{bytes_eq}
 use Rattle.plain.specs.declared.text.Keyed.{Keyed}
 use Rattle.cel_value.specs.declared.value.Value as value
 use Rattle.cel_value.specs.declared.value.Value.{Value, out-Value}
-use Rattle.cel_value.specs.declared.value.Value.TheOpen.{Value-F}
+use Rattle.cel_loops.specs.Literals.{literal_text_at}
 use Rattle.cel_value.specs.declared.cel_type.Field.{Field}
 use Rattle.cel_value.specs.declared.cel_type.CelType.{CelType}
 use Rattle.cel_value.specs.declared.cel_type.CelType as type
 use Rattle.cel_value.specs.CelType.{join}
 use Rattle.cel_value.specs.Value.{code_points}
-use Rattle.cel_grammar.specs.declared.tree.Entry.{Entry}
+use Rattle.cel_tree.specs.declared.expr.Entry.{Entry}
 use Rattle.cel_operators.specs.declared.type_rule.TypeRule.{TypeRule}
 use Rattle.cel_operators.specs.declared.type_rule.TypeRule.TheVariants.{UnknownName, NoField, NoOverload, Mixed, OpaqueUse}
 use Rattle.cel_operators.specs.declared.type_rule.TypeRule.TheVariants.{PatternNotLiteral, BadPattern, TooLarge}
@@ -22,16 +22,17 @@ use Rattle.cel_check.specs.declared.tree.TypedTree.{TypedTree, out-TypedTree, ro
 use Rattle.cel_check.specs.declared.tree.Form.{Form}
 use Rattle.cel_check.specs.declared.tree.Form.TheVariants as form
 use Rattle.cel_operators.specs.Operators.{type_of_one}
-use Rattle.cel_check.specs.Meaning.{type_of, by_turns}
+use Rattle.cel_check.specs.Meaning.{type_of}
+use Rattle.cel_tree.specs.Turns.{by_turns}
 use Rattle.cel_operators.specs.Lists.{items_type}
 use Rattle.cel_operators.specs.Maps.{entries_type}
 use Rattle.cel_operators.specs.TextOperators.{row_with}
 use Rattle.cel_operators.specs.Wants.{Contents, Fields, Stored, limit_of, is_there, is_truth}
 use Rattle.cel_operators.specs.declared.operands.Want.TheVariants.{Members, Characters}
 use Rattle.cel_operators.specs.declared.limit.Span.{Span}
-use Rattle.cel_check.specs.Loops.{loop_type}
-use Rattle.cel_parse.specs.declared.expr.Loop.{Loop}
-use Rattle.cel_parse.specs.declared.expr.Loop.TheVariants as loop
+use Rattle.cel_loops.specs.Loops.{loop_type}
+use Rattle.cel_tree.specs.declared.expr.Loop.{Loop}
+use Rattle.cel_tree.specs.declared.expr.Loop.TheVariants as loop
 use Rattle.cel_operators.specs.declared.text_operator.TextOperator.{TextOperator}
 use Rattle.cel_operators.specs.declared.text_operator.TextOperator.TheVariants as text_operator
 use Rattle.cel_names.specs.Selectors.{selects}
@@ -127,11 +128,6 @@ selected place op selector s = at_name place op s (name_in selector (limit_of Me
 -- whether a type may stand where a text is asked
 abbrev pub is_text : CelType → Bool
 is_text t = is_there (limit_of Characters t)
-
--- the text that a literal, whose level is given, is
-abbrev pub literal_text_at : Value-F Value → Option (List ℕ)
-literal_text_at (Value-F.Text bytes) = Some bytes
-literal_text_at _ = None
 
 -- the text that a level of an expression is, where it is a literal text
 abbrev pub literal_text : Form TypedTree → Option (List ℕ)

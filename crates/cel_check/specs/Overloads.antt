@@ -2,10 +2,10 @@
 use Rattle.std.specs.Prelude.{ℕ, List, [], ◌∷◌, Result, Ok, Err, if◌then◌else◌, codes}
 use Rattle.std.specs.Str.{bytes_eq}
 use Rattle.cel_value.specs.declared.cel_type.CelType.{CelType}
-use Rattle.cel_grammar.specs.declared.tree.UnaryOperator.{UnaryOperator}
-use Rattle.cel_grammar.specs.declared.tree.UnaryOperator.TheVariants as unary_operator
-use Rattle.cel_parse.specs.declared.expr.BinaryOperator.{BinaryOperator}
-use Rattle.cel_parse.specs.declared.expr.BinaryOperator.TheVariants as binary_operator
+use Rattle.cel_tree.specs.declared.expr.UnaryOperator.{UnaryOperator}
+use Rattle.cel_tree.specs.declared.expr.UnaryOperator.TheVariants as unary_operator
+use Rattle.cel_tree.specs.declared.expr.BinaryOperator.{BinaryOperator}
+use Rattle.cel_tree.specs.declared.expr.BinaryOperator.TheVariants as binary_operator
 use Rattle.cel_operators.specs.declared.type_rule.TypeRule.{TypeRule}
 use Rattle.cel_operators.specs.declared.type_rule.TypeRule.TheVariants.{NoOverload}
 use Rattle.cel_operators.specs.declared.operator.Operator.{Operator}

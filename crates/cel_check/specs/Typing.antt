@@ -6,13 +6,13 @@ use Rattle.plain.specs.declared.text.Keyed.{Keyed}
 use Rattle.cel_value.specs.declared.value.Value as value
 use Rattle.cel_value.specs.declared.cel_type.CelType.{CelType}
 use Rattle.cel_value.specs.declared.cel_type.CelType as type
-use Rattle.cel_parse.specs.declared.expr.BinaryOperator.{BinaryOperator}
-use Rattle.cel_grammar.specs.declared.tree.Entry.{Entry}
-use Rattle.cel_parse.specs.declared.expr.Expr.{Expr, fold-Expr}
-use Rattle.cel_parse.specs.declared.expr.Expr.TheOpen.{Expr-F}
-use Rattle.cel_parse.specs.declared.expr.Syntax.{Syntax}
-use Rattle.cel_parse.specs.declared.expr.Syntax.TheVariants as syntax
-use Rattle.cel_parse.specs.Sizes.{depth_of, nodes_of}
+use Rattle.cel_tree.specs.declared.expr.BinaryOperator.{BinaryOperator}
+use Rattle.cel_tree.specs.declared.expr.Entry.{Entry}
+use Rattle.cel_tree.specs.declared.expr.Expr.{Expr, fold-Expr}
+use Rattle.cel_tree.specs.declared.expr.Expr.TheOpen.{Expr-F}
+use Rattle.cel_tree.specs.declared.expr.Syntax.{Syntax}
+use Rattle.cel_tree.specs.declared.expr.Syntax.TheVariants as syntax
+use Rattle.cel_tree.specs.Sizes.{depth_of, nodes_of}
 use Rattle.cel_operators.specs.declared.type_rule.TypeRule.TheVariants.{NoOverload, TooLarge}
 use Rattle.cel_check.specs.declared.fault.TypeFault.{TypeFault}
 use Rattle.failing.specs.declared.failed.Failed.{Failed}
@@ -30,7 +30,7 @@ use Rattle.cel_check.specs.Meaning.{type_of}
 use Rattle.cel_operators.specs.Wants.{limit_of}
 use Rattle.cel_operators.specs.declared.operands.Want.TheVariants.{Ranged}
 use Rattle.cel_operators.specs.declared.limit.Span.{Span}
-use Rattle.cel_parse.specs.declared.expr.Loop.{Loop}
+use Rattle.cel_tree.specs.declared.expr.Loop.{Loop}
 use Rattle.cel_operators.specs.declared.text_operator.TextOperator.TheVariants as text_operator
 use Rattle.cel_patterns.specs.Answers.{choice_in}
 use Rattle.cel_check.specs.Opaque.{is_equality}
@@ -38,7 +38,7 @@ pub use Rattle.cel_check.specs.Overloads.{unary_overloads, binary_overloads, ind
 pub use Rattle.cel_check.specs.Overloads.{method_overloads, method_overloads_with, or_later, first_of, first_of_one, first_of_two}
 pub use Rattle.cel_check.specs.Nodes.{Checked, refused, node, after, typed_by, chosen, over_one, over_two, logic, joined_branches}
 pub use Rattle.cel_check.specs.Nodes.{conditional, root_types, list_literal, map_literal, own_name, name_in, with_text, at_name, selected}
-pub use Rattle.cel_check.specs.Nodes.{is_text, literal_text_at, literal_text, with_pattern, matched, method_with, text_literal, slot_from}
+pub use Rattle.cel_check.specs.Nodes.{is_text, literal_text, with_pattern, matched, method_with, text_literal, slot_from}
 pub use Rattle.cel_check.specs.Nodes.{named, or_else, looped, mapped_where, read}
 
 -- the names of the slots, and of the open loops, the innermost first, with their types, and the texts that are taken as no

@@ -4,7 +4,7 @@ ghost use Rattle.failing.specs.Failures.{Answers};
 ghost use Rattle.cel_check.specs.Typing.{index_overloads, function_overloads, method_overloads, method_overloads_with};
 
 use cel_operators::{Operator, Overload, TypeRule, Untyped};
-use cel_parse::{BinaryOperator, UnaryOperator};
+use cel_tree::{BinaryOperator, UnaryOperator};
 use cel_value::CelType;
 use std::alloc::Global;
 

@@ -5,8 +5,8 @@ ghost use Rattle.cel_patterns.specs.Answers.{AsksOnly, Grows};
 ghost use Rattle.cel_check.specs.PatternTexts.{patterns_in, seen, seen_each, seen_entries, AreAnswered};
 ghost use Rattle.cel_check.specs.PatternTexts.{of_each, of_entries, of_method, one_or_none};
 
-use cel_parse::{Entry, Expr, Syntax};
 use cel_patterns::Patterns;
+use cel_tree::{Entry, Expr, Syntax};
 use plain::Text;
 use std::alloc::{AllocError, Global};
 

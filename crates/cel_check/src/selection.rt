@@ -2,7 +2,7 @@
 
 ghost use Rattle.std.specs.Prelude.{◌≡◌, ◌++◌, codes, is_none, option_copied, option_map};
 ghost use Rattle.std.specs.Str.{bytes_eq};
-ghost use Rattle.cel_parse.specs.declared.expr.Expr.{out-Expr};
+ghost use Rattle.cel_tree.specs.declared.expr.Expr.{out-Expr};
 ghost use Rattle.failing.specs.Failures.{Answers};
 ghost use Rattle.cel_check.specs.Typing.{selected, with_text, own_name, name_in, Follows, FollowsUnless};
 ghost use Rattle.cel_check.specs.Typing.{is_word, names_in, part_of, slot_from, variable_in, word_at};
@@ -15,7 +15,7 @@ use crate::node::{new_node, refused, slot_node};
 use crate::tree::{Form, TypedTree};
 use cel_names::selects;
 use cel_operators::{TextOperator, TypeRule, Untyped, without_null};
-use cel_parse::{Expr, Syntax};
+use cel_tree::{Expr, Syntax};
 use cel_value::{CelType, Field};
 use plain::{Boxed, Keyed, Shared, Text};
 use std::alloc::Global;

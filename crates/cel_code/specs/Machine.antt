@@ -11,17 +11,17 @@ use Rattle.cel_operators.specs.Outcomes.{Outcome, Side, and_of, or_of, both_side
 use Rattle.cel_operators.specs.Wants.{side_of, taken}
 use Rattle.cel_operators.specs.declared.operands.Want.TheVariants.{Ranged}
 use Rattle.cel_code.specs.LoopNumbers.{loop_kind}
-use Rattle.cel_check.specs.Loops.{Turn, Closes, GoesOn, nothing_yet, turn, result_of}
-use Rattle.cel_check.specs.declared.accumulator.Accumulator.{Accumulator}
-use Rattle.cel_parse.specs.declared.expr.Loop.{Loop}
-use Rattle.cel_parse.specs.declared.expr.Loop.TheVariants.{Map}
+use Rattle.cel_loops.specs.Loops.{Turn, Closes, GoesOn, nothing_yet, turn, result_of}
+use Rattle.cel_loops.specs.declared.accumulator.Accumulator.{Accumulator}
+use Rattle.cel_tree.specs.declared.expr.Loop.{Loop}
+use Rattle.cel_tree.specs.declared.expr.Loop.TheVariants.{Map}
 use Rattle.cel_value.specs.declared.cel_error.CelError.{CelError}
 use Rattle.cel_operators.specs.declared.operator.Made.{Made}
 use Rattle.cel_operators.specs.Operators.{Row, One, Two, row, operator_of, at_one, at_two}
 use Rattle.cel_operators.specs.Lists.{list_made}
 use Rattle.cel_operators.specs.Maps.{map_made}
 use Rattle.cel_operators.specs.TextOperators.{row_with}
-use Rattle.cel_check.specs.Typing.{literal_text_at}
+use Rattle.cel_loops.specs.Literals.{literal_text_at}
 use Rattle.cel_operators.specs.declared.text_operator.TextOperator.{TextOperator}
 
 -- an open loop: the number of its LOOP and where it leads, what it makes of its items, the item at which it is, those that

@@ -1,16 +1,10 @@
-//! Flat code for CEL: the instructions that typed expressions compile to, and the images that hold these.
-//!
-//! [`compile`] turns what `cel_check` answers for an expression into an [`Image`].
+//! Flat code for CEL: the instructions of the machine, and the images that hold these. What a run does is defined here.
 #![tactic(auto)]
 
-mod compiler;
-mod constants;
 mod image;
 mod instr;
-mod key;
 mod loop_numbers;
 
-pub use compiler::compile;
 pub use image::{Image, Target};
 pub use instr::Instr;
 pub use loop_numbers::{loop_kind, loop_number};

@@ -6,16 +6,16 @@ use Rattle.std.proofs.Math.Nat.{mul-le-mul_right}
 use Rattle.std.proofs.lemmas.Bool.{and_parts, and_from}
 use Rattle.std.specs.Prelude.{Result, Ok, Err}
 use Rattle.std.specs.List.{list_all}
-use Rattle.cel_grammar.specs.declared.tree.Entry.{Entry}
+use Rattle.cel_tree.specs.declared.expr.Entry.{Entry}
 use Rattle.cel_value.specs.declared.value.Value.{Value}
 use Rattle.cel_value.specs.declared.cel_type.CelType.{CelType}
 use Rattle.cel_value.specs.declared.cel_type.CelType as type
 use Rattle.cel_value.specs.declared.cel_error.CelError.{CelError}
 use Rattle.cel_value.specs.CelType.{fits, assignable}
-use Rattle.cel_parse.specs.declared.expr.Loop.{Loop}
-use Rattle.cel_parse.specs.declared.expr.Loop.TheVariants as loop
+use Rattle.cel_tree.specs.declared.expr.Loop.{Loop}
+use Rattle.cel_tree.specs.declared.expr.Loop.TheVariants as loop
 use Rattle.cel_check.specs.declared.typed.Typed.{Typed}
-use Rattle.cel_check.specs.declared.accumulator.Accumulator.{Accumulator}
+use Rattle.cel_loops.specs.declared.accumulator.Accumulator.{Accumulator}
 use Rattle.cel_check.specs.declared.tree.TypedTree.{TypedTree, roll-TypedTree}
 use Rattle.cel_check.specs.declared.tree.TypedTree.TheOpen.{TypedTree-F}
 use Rattle.cel_check.specs.declared.tree.TypedTree.TheFolds.{map-TypedTree, fold-roll-TypedTree, fold_out-TypedTree, ind-TypedTree}
@@ -33,18 +33,19 @@ use Rattle.cel_operators.specs.TextOperators.{row_with}
 use Rattle.cel_operators.specs.declared.type_rule.TypeRule.{TypeRule}
 use Rattle.cel_operators.specs.Lists.{each_there, list_where, items_type}
 use Rattle.cel_operators.specs.Maps.{map_where, entries_type, entries_greatest}
-use Rattle.cel_check.specs.Loops.{Turn, Closes, GoesOn, inside, types_inside, nothing_yet, cost_of_items, charged_behind, cost_over}
-use Rattle.cel_check.specs.Loops.{where_ranged, loop_type}
+use Rattle.cel_loops.specs.Loops.{Turn, Closes, GoesOn, inside, types_inside, nothing_yet, cost_of_items, charged_behind, cost_over}
+use Rattle.cel_loops.specs.Loops.{where_ranged, loop_type}
 use Rattle.cel_check.specs.Meaning.{Valuation, Priced, cost_at, priced_step, priced_of, value_of, cost_of, values_at, values_priced}
-use Rattle.cel_check.specs.Meaning.{costs_at, by_turns}
+use Rattle.cel_check.specs.Meaning.{costs_at}
+use Rattle.cel_tree.specs.Turns.{by_turns}
 use Rattle.cel_check.specs.Meaning.{Judged, judged_of, judged_step, right_at, is_right, takes_result, types_judged, each_right}
 use Rattle.cel_check.specs.Meaning.{loop_turns, where_turns, where_cost, right_loop, right_where, type_of}
 use Rattle.cel_check.proofs.Levels.{part, parts, fused, value_is}
 use Rattle.cel_operators.proofs.Rows.{MadeRight, row_right, one_operand, two_operands}
 use Rattle.cel_operators.proofs.Taking.{Taken, taken_fits}
 use Rattle.cel_operators.proofs.FieldRows.{row_with_right}
-use Rattle.cel_check.proofs.Literals.{EachFits, literal_made}
-use Rattle.cel_check.proofs.MapLiterals.{paired_turns, paired_mapped, literal_map_made}
+use Rattle.cel_loops.proofs.Literals.{EachFits, literal_made}
+use Rattle.cel_loops.proofs.MapLiterals.{paired_turns, paired_mapped, literal_map_made}
 use Rattle.cel_check.proofs.Preserved.{preserved}
 use Rattle.cel_estimate.specs.Estimate.{Rated, sum_of, types_rated, span_max, items_most, estimate_at, rated_step, rated_of, estimate_of}
 

@@ -1,16 +1,17 @@
 -- The equations of an estimate, level by level.
 use Rattle.std.proofs.Common.{◌≡◌, ℕ, ◌+◌, ◌*◌, List, [], ◌∷◌, map, length, refl, sym, ap, ◌∙◌, arith}
-use Rattle.cel_grammar.specs.declared.tree.Entry.{Entry}
+use Rattle.cel_tree.specs.declared.expr.Entry.{Entry}
 use Rattle.cel_value.specs.declared.cel_type.CelType.{CelType}
-use Rattle.cel_parse.specs.declared.expr.Loop.{Loop}
+use Rattle.cel_tree.specs.declared.expr.Loop.{Loop}
 use Rattle.cel_check.specs.declared.tree.TypedTree.{TypedTree, out-TypedTree}
 use Rattle.cel_check.specs.declared.tree.TypedTree.TheFolds.{fold_out-TypedTree}
 use Rattle.cel_check.specs.declared.tree.Form.{Form}
 use Rattle.cel_check.specs.declared.tree.Form.TheVariants as form
 use Rattle.cel_operators.specs.Maps.{keys_by_turns, keys_greatest, entries_greatest}
-use Rattle.cel_check.specs.Meaning.{type_of, IsForm, by_turns}
+use Rattle.cel_check.specs.Meaning.{type_of, IsForm}
+use Rattle.cel_tree.specs.Turns.{by_turns}
 use Rattle.cel_check.proofs.Levels.{part, parts, turns_parts}
-use Rattle.cel_check.proofs.MapLiterals.{keys_of_turns}
+use Rattle.cel_loops.proofs.MapLiterals.{keys_of_turns}
 use Rattle.cel_estimate.specs.Estimate.{Rated, sum_of, types_rated, items_most, estimate_at, rated_step, rated_of, estimate_of}
 use Rattle.cel_estimate.specs.Estimate.{estimates_of, keys_most}
 

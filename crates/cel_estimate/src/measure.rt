@@ -2,13 +2,14 @@
 
 ghost use Rattle.std.specs.Prelude.{◌≡◌, ℕ, ◌+◌, ◌*◌, ◌≤◌, ◌<◌, ◌^◌, ◌-◌, min, List, IsTrue, MatchResult};
 ghost use Rattle.cel_operators.specs.Outcomes.{Outcome, slots_fit, outside};
-ghost use Rattle.cel_check.specs.Meaning.{cost_of, by_turns};
+ghost use Rattle.cel_check.specs.Meaning.{cost_of};
+ghost use Rattle.cel_tree.specs.Turns.{by_turns};
 ghost use Rattle.cel_estimate.specs.Estimate.{estimate_of, estimates_of, items_most, keys_most, budget};
 
 use crate::limits::{greatest_of_key, range_max};
 use crate::over_budget::OverBudget;
 use cel_check::{Form, Typed, TypedTree, greatest_of_one, greatest_of_two};
-use cel_parse::Entry;
+use cel_tree::Entry;
 use cel_value::CelType;
 
 // The most that an expression may charge.

@@ -1,8 +1,8 @@
 ghost use Rattle.std.specs.Prelude.{◌≡◌, ◌≤◌, ℕ, IfOk, IsErrOf};
 ghost use Rattle.failing.specs.declared.failed.Failed.TheVariants.{Fault};
 ghost use Rattle.cel_check.specs.Typing.{types_in};
-ghost use Rattle.cel_code.specs.Compiled.{IsCompiled};
-ghost use Rattle.cel_code.specs.Correct.{Computes, Preserves};
+ghost use Rattle.cel_compile.specs.Compiled.{IsCompiled};
+ghost use Rattle.cel_compile.specs.Correct.{Computes, Preserves};
 ghost use Rattle.cel_estimate.specs.Estimate.{budget};
 ghost use Rattle.cel_expression.specs.Expressions.{accepted_of, compiled_of, estimate_at, type_at};
 ghost use Rattle.cel_expression.specs.Faithful.{IsFaithful};

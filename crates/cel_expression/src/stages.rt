@@ -2,8 +2,8 @@
 
 ghost use Rattle.std.specs.Prelude.{◌≡◌, ℕ, Ok, IfOk, IsErrOf};
 ghost use Rattle.cel_check.specs.Typing.{names_of, types_in};
-ghost use Rattle.cel_code.specs.Compiled.{IsCompiled};
-ghost use Rattle.cel_code.specs.Correct.{Computes, Preserves};
+ghost use Rattle.cel_compile.specs.Compiled.{IsCompiled};
+ghost use Rattle.cel_compile.specs.Correct.{Computes, Preserves};
 ghost use Rattle.cel_expression.specs.Expressions.{accepted_of, root_type, typed_at, typed_of, within_budget};
 ghost use Rattle.cel_expression.specs.Faulty.{IsFaulty};
 ghost use Rattle.cel_expression.specs.Stages.{IsFound};
@@ -12,9 +12,10 @@ ghost use Rattle.cel_expression.specs.declared.refusal.CompileFault.TheVariants.
 
 use crate::refusal::{CompileError, Refusal};
 use cel_check::{CheckError, Typed, check_by};
-use cel_code::compile;
+use cel_compile::compile;
 use cel_estimate::estimate;
-use cel_parse::{Expr, ParseError, parse};
+use cel_parse::{ParseError, parse};
+use cel_tree::Expr;
 use cel_value::CelType;
 use cel_verify::{Program, verify};
 use plain::{Keyed, Text};

@@ -4,8 +4,8 @@ use Rattle.std.specs.Prelude.{◌⊎◌}
 use Rattle.cel_lex.specs.declared.token.Infix.TheVariants as op
 use Rattle.cel_lex.specs.declared.token.TokenKind.TheVariants as kind
 use Rattle.cel_lex.specs.declared.token.Token.{Token}
-use Rattle.cel_grammar.specs.declared.tree.Entry.{Entry}
-use Rattle.cel_grammar.specs.declared.tree.UnaryOperator.TheVariants.{Not}
+use Rattle.cel_tree.specs.declared.expr.Entry.{Entry}
+use Rattle.cel_tree.specs.declared.expr.UnaryOperator.TheVariants.{Not}
 use Rattle.cel_grammar.specs.declared.heads.Closer.{Closer}
 use Rattle.cel_grammar.specs.declared.heads.Closer.TheVariants as closer
 use Rattle.cel_grammar.specs.declared.tree.Tree.{Tree}

@@ -2,8 +2,8 @@
 use Rattle.std.proofs.Common.{◌≡◌, ℕ, ◌+◌, ◌<◌, Bool, true, false, List}
 use Rattle.std.proofs.Common.{[], ◌∷◌, refl, sym, ap, subst, ◌∙◌, arith}
 use Rattle.std.specs.Prelude.{max, map, ◌&&◌}
-use Rattle.cel_grammar.specs.declared.tree.UnaryOperator.{UnaryOperator}
-use Rattle.cel_grammar.specs.declared.tree.Entry.{Entry}
+use Rattle.cel_tree.specs.declared.expr.UnaryOperator.{UnaryOperator}
+use Rattle.cel_tree.specs.declared.expr.Entry.{Entry}
 use Rattle.cel_grammar.specs.declared.tree.Joint.{Joint}
 use Rattle.cel_grammar.specs.declared.tree.Tree.{Tree, roll-Tree, Null as null, Truth as truth, Number as number}
 use Rattle.cel_grammar.specs.declared.tree.Tree.{Unsigned as unsigned, Text as text, Name as name, Call as call, Select as select}

@@ -1,6 +1,6 @@
 -- One level of a tree, over what is known of the trees inside.
 use Rattle.std.proofs.Common.{◌≡◌, List, [], ◌∷◌, map, refl, ap, subst, ◌∙◌}
-use Rattle.cel_grammar.specs.declared.tree.Entry.{Entry}
+use Rattle.cel_tree.specs.declared.expr.Entry.{Entry}
 use Rattle.cel_grammar.specs.declared.tree.Tree.{Tree, roll-Tree, fold-Tree}
 use Rattle.cel_grammar.specs.declared.tree.Tree.TheOpen.{Tree-F}
 use Rattle.cel_grammar.specs.declared.tree.Tree.TheFolds.{map-Tree, fold-roll-Tree, ind-Tree}

@@ -4,7 +4,7 @@ use Rattle.std.proofs.Common.{ap, ◌∙◌, arith, le_refl, le_trans}
 use Rattle.cel_lex.specs.declared.token.TokenKind.{TokenKind}
 use Rattle.cel_lex.specs.declared.token.TokenKind.TheVariants as kind
 use Rattle.cel_lex.specs.declared.token.Token.{Token}
-use Rattle.cel_grammar.specs.declared.tree.Entry.{Entry}
+use Rattle.cel_tree.specs.declared.expr.Entry.{Entry}
 use Rattle.cel_grammar.specs.declared.heads.Closer.{Closer}
 use Rattle.cel_grammar.specs.declared.heads.Closer.TheVariants as closer
 use Rattle.cel_grammar.specs.declared.tree.Tree.{Tree, Call as call, List as list, Map as map}

@@ -6,8 +6,8 @@ use Rattle.cel_lex.specs.declared.token.Infix.TheVariants as op
 use Rattle.cel_lex.specs.declared.token.TokenKind.{TokenKind}
 use Rattle.cel_lex.specs.declared.token.TokenKind.TheVariants as kind
 use Rattle.cel_lex.specs.declared.token.Token.{Token}
-use Rattle.cel_grammar.specs.declared.tree.UnaryOperator.{UnaryOperator}
-use Rattle.cel_grammar.specs.declared.tree.UnaryOperator.TheVariants.{Not, Negate}
+use Rattle.cel_tree.specs.declared.expr.UnaryOperator.{UnaryOperator}
+use Rattle.cel_tree.specs.declared.expr.UnaryOperator.TheVariants.{Not, Negate}
 use Rattle.cel_grammar.specs.declared.fault.ParseFault.{ParseFault}
 use Rattle.cel_grammar.specs.declared.tree.Tree.{Tree, Number as number, Unary as unary}
 use Rattle.cel_grammar.specs.Grammar.{Expression, Unary, Nots, Minuses, Member, IsLone, Derives, bare, nots, minuses, not_one}

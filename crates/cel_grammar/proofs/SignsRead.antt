@@ -5,8 +5,8 @@ use Rattle.std.specs.Prelude.{◌⊎◌}
 use Rattle.cel_lex.specs.declared.token.Infix.TheVariants as op
 use Rattle.cel_lex.specs.declared.token.TokenKind.TheVariants as kind
 use Rattle.cel_lex.specs.declared.token.Token.{Token}
-use Rattle.cel_grammar.specs.declared.tree.UnaryOperator.{UnaryOperator}
-use Rattle.cel_grammar.specs.declared.tree.UnaryOperator.TheVariants.{Negate}
+use Rattle.cel_tree.specs.declared.expr.UnaryOperator.{UnaryOperator}
+use Rattle.cel_tree.specs.declared.expr.UnaryOperator.TheVariants.{Negate}
 use Rattle.cel_grammar.specs.declared.heads.Suffix.{Suffix}
 use Rattle.cel_grammar.specs.declared.tree.Tree.{Tree, Number as number, Unary as unary}
 use Rattle.cel_grammar.specs.Grammar.{IsLone}

@@ -3,9 +3,9 @@ use Rattle.std.proofs.Common.{◌≡◌, ℕ, ◌+◌, ◌<◌, ◌≤◌, Bool,
 use Rattle.std.proofs.Common.{[], ◌∷◌, length, map, sym, ap, ◌∙◌, arith}
 use Rattle.cel_lex.specs.declared.token.Token.{Token}
 use Rattle.cel_grammar.specs.declared.heads.Closer.{Closer}
-use Rattle.cel_grammar.specs.declared.tree.Entry.{Entry}
-use Rattle.cel_grammar.specs.declared.tree.UnaryOperator.{UnaryOperator}
-use Rattle.cel_grammar.specs.declared.tree.UnaryOperator.TheVariants.{Not, Negate}
+use Rattle.cel_tree.specs.declared.expr.Entry.{Entry}
+use Rattle.cel_tree.specs.declared.expr.UnaryOperator.{UnaryOperator}
+use Rattle.cel_tree.specs.declared.expr.UnaryOperator.TheVariants.{Not, Negate}
 use Rattle.cel_grammar.specs.declared.tree.Joint.{Joint}
 use Rattle.cel_grammar.specs.declared.tree.Tree.{Tree, roll-Tree, fold-Tree, Null as null, Truth as truth}
 use Rattle.cel_grammar.specs.declared.tree.Tree.{Number as number, Unsigned as unsigned, Text as text, Name as name, Call as call}

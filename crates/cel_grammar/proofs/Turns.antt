@@ -7,7 +7,7 @@ use Rattle.cel_grammar.specs.declared.fault.ParseFault.TheVariants.{TooDeep}
 use Rattle.failing.specs.declared.failed.Failed.{Failed}
 use Rattle.failing.specs.declared.failed.Failed.TheVariants as failed
 use Rattle.cel_grammar.specs.declared.tree.Tree.{Tree}
-use Rattle.cel_grammar.specs.declared.tree.UnaryOperator.TheVariants.{Not}
+use Rattle.cel_tree.specs.declared.expr.UnaryOperator.TheVariants.{Not}
 use Rattle.cel_grammar.specs.declared.nodes.Taken.{Taken}
 use Rattle.cel_grammar.specs.Views.{seen, Fails, Gives}
 use Rattle.cel_grammar.specs.Descent.{◌>>=◌, Found, Read, Reader, head_if, is_bang, is_minus}

@@ -5,7 +5,7 @@ use Rattle.cel_lex.specs.declared.token.Infix.TheVariants as op
 use Rattle.cel_lex.specs.declared.token.TokenKind.{TokenKind}
 use Rattle.cel_lex.specs.declared.token.TokenKind.TheVariants as kind
 use Rattle.cel_lex.specs.declared.token.Token.{Token}
-use Rattle.cel_grammar.specs.declared.tree.UnaryOperator.TheVariants.{Not}
+use Rattle.cel_tree.specs.declared.expr.UnaryOperator.TheVariants.{Not}
 use Rattle.cel_grammar.specs.declared.tree.Joint.TheVariants.{Infix}
 use Rattle.cel_grammar.specs.declared.tree.Tree.{Number as number, Truth as truth, Unary as unary, Binary as binary, List as list}
 use Rattle.cel_grammar.specs.Words.{word_at}

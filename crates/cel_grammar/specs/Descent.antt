@@ -6,9 +6,9 @@ use Rattle.cel_lex.specs.declared.token.Infix.TheVariants as op
 use Rattle.cel_lex.specs.declared.token.TokenKind.{TokenKind}
 use Rattle.cel_lex.specs.declared.token.TokenKind.TheVariants as kind
 use Rattle.cel_lex.specs.declared.token.Token.{Token}
-use Rattle.cel_grammar.specs.declared.tree.UnaryOperator.{UnaryOperator}
-use Rattle.cel_grammar.specs.declared.tree.UnaryOperator.TheVariants.{Not, Negate}
-use Rattle.cel_grammar.specs.declared.tree.Entry.{Entry}
+use Rattle.cel_tree.specs.declared.expr.UnaryOperator.{UnaryOperator}
+use Rattle.cel_tree.specs.declared.expr.UnaryOperator.TheVariants.{Not, Negate}
+use Rattle.cel_tree.specs.declared.expr.Entry.{Entry}
 use Rattle.cel_grammar.specs.declared.fault.ParseFault.{ParseFault}
 use Rattle.cel_grammar.specs.declared.fault.ParseFault.TheVariants.{Unexpected, TooDeep}
 use Rattle.cel_grammar.specs.declared.heads.Closer.{Closer}

@@ -17,8 +17,9 @@ use crate::nodes::{
     Taken, both, called, entered, indexed, leaf, listed, literal_of, mapped, method, negative,
     opened, selected, signed, three, within,
 };
-use crate::tree::{Entry, Tree, UnaryOperator};
+use crate::tree::Tree;
 use cel_lex::{Token, TokenKind};
+use cel_tree::{Entry, UnaryOperator};
 use plain::{Boxed, Items};
 use std::alloc::Global;
 

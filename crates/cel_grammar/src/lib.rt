@@ -13,5 +13,5 @@ mod word;
 
 pub use descent::tree_of;
 pub use fault::{ParseError, ParseFault};
-pub use tree::{Entry, Joint, Tree, UnaryOperator};
+pub use tree::{Joint, Tree};
 pub use word::{is_has, word_at};

@@ -10,9 +10,10 @@ ghost use Rattle.cel_grammar.specs.Descent.{called, selected, method, indexed_be
 
 use crate::fault::{ParseError, ParseFault};
 use crate::heads::{Closer, closing_at, end_at, spare_comma_at, unexpected_at};
-use crate::tree::{Entry, Joint, Tree, UnaryOperator};
+use crate::tree::{Joint, Tree};
 use crate::word::is_has;
 use cel_lex::{Token, TokenKind};
+use cel_tree::{Entry, UnaryOperator};
 use plain::{Boxed, Items};
 use std::alloc::{AllocError, Global};
 

@@ -1,27 +1,14 @@
 //! What the grammar derives: trees whose numbers have a sign and a magnitude, and whose macros are calls.
 
 use cel_lex::Infix;
+use cel_tree::{Entry, UnaryOperator};
 use plain::{Boxed, Items, Text};
-
-/// An operator before one operand.
-#[derive(Clone, Copy)]
-pub enum UnaryOperator {
-    Not,
-    Negate,
-}
 
 /// What stands between two operands.
 #[derive(Clone, Copy)]
 pub enum Joint {
     Infix(Infix),
     In,
-}
-
-/// A key and the value under it.
-#[derive(Drop)]
-pub struct Entry<T> {
-    pub key: T,
-    pub value: T,
 }
 
 /// A tree of the grammar. Each node has the byte at which its operator, name, selector, opening bracket or `?` begins,

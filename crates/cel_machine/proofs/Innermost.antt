@@ -7,10 +7,10 @@ use Rattle.std.proofs.lemmas.List.{reverse-append}
 use Rattle.cel_value.specs.declared.value.Value.{Value}
 use Rattle.cel_operators.specs.Outcomes.{Outcome, Side}
 use Rattle.cel_operators.specs.Wants.{side_of}
-use Rattle.cel_parse.specs.declared.expr.Loop.{Loop}
-use Rattle.cel_parse.specs.declared.expr.Loop.TheVariants.{All, Exists, ExistsOne, Filter, Map}
-use Rattle.cel_check.specs.Loops.{GoesOn, turn}
-use Rattle.cel_check.specs.declared.accumulator.Accumulator.{Accumulator}
+use Rattle.cel_tree.specs.declared.expr.Loop.{Loop}
+use Rattle.cel_tree.specs.declared.expr.Loop.TheVariants.{All, Exists, ExistsOne, Filter, Map}
+use Rattle.cel_loops.specs.Loops.{GoesOn, turn}
+use Rattle.cel_loops.specs.declared.accumulator.Accumulator.{Accumulator}
 use Rattle.cel_code.specs.Machine.{Frame, on, Goes, gone_on, turned as turn_done}
 use Rattle.cel_machine.specs.declared.turns.Turned.{Turned}
 use Rattle.cel_machine.specs.declared.turns.Turned.TheVariants as turned

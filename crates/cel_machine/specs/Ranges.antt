@@ -3,8 +3,8 @@ use Rattle.std.specs.Prelude.{ℕ, List, [], ◌∷◌, Option, Some, None, get_
 use Rattle.cel_value.specs.declared.value.Value.{Value}
 use Rattle.cel_value.specs.declared.value.Value as value
 use Rattle.cel_operators.specs.Wants.{keys_of}
-use Rattle.cel_check.specs.declared.accumulator.Accumulator.{Accumulator}
-use Rattle.cel_parse.specs.declared.expr.Loop.{Loop}
+use Rattle.cel_loops.specs.declared.accumulator.Accumulator.{Accumulator}
+use Rattle.cel_tree.specs.declared.expr.Loop.{Loop}
 use Rattle.cel_code.specs.Machine.{Frame, frame}
 use Rattle.cel_machine.specs.declared.range.Range.{Range}
 use Rattle.cel_machine.specs.declared.range.Range.TheVariants.{Lent, Own, LentKeys, OwnKeys}

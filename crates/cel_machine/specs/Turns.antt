@@ -1,11 +1,11 @@
 -- How the turns of loops follow their definition.
 use Rattle.std.specs.Prelude.{Bool, true, false, Option, Some, None, Ok, option_map}
 use Rattle.cel_value.specs.declared.value.Value.{Value}
-use Rattle.cel_parse.specs.declared.expr.Loop.{Loop}
-use Rattle.cel_parse.specs.declared.expr.Loop.TheVariants.{All, Exists, ExistsOne, Filter, Map}
-use Rattle.cel_check.specs.declared.accumulator.Accumulator.{Accumulator}
+use Rattle.cel_tree.specs.declared.expr.Loop.{Loop}
+use Rattle.cel_tree.specs.declared.expr.Loop.TheVariants.{All, Exists, ExistsOne, Filter, Map}
+use Rattle.cel_loops.specs.declared.accumulator.Accumulator.{Accumulator}
 use Rattle.cel_operators.specs.Outcomes.{Side}
-use Rattle.cel_check.specs.Loops.{Turn, Closes, GoesOn, turn_all, turn_exists, turn_exists_one, turn_filter}
+use Rattle.cel_loops.specs.Loops.{Turn, Closes, GoesOn, turn_all, turn_exists, turn_exists_one, turn_filter}
 use Rattle.cel_machine.specs.declared.turns.Turned.{Turned}
 use Rattle.cel_machine.specs.declared.turns.Turned.TheVariants as turned
 

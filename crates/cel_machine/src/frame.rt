@@ -1,15 +1,15 @@
 //! Open loops.
 
 ghost use Rattle.std.specs.Prelude.{◌≡◌, ◌+◌, ◌<◌, ◌^◌, [], length, IfOk, IfSome, MatchBool, Some};
-ghost use Rattle.cel_check.specs.Loops.{turn as turn_of, result_of as result_of_loop};
+ghost use Rattle.cel_loops.specs.Loops.{turn as turn_of, result_of as result_of_loop};
 ghost use Rattle.cel_machine.specs.Ranges.{range_items, opened_over, taking, with_gathered};
 ghost use Rattle.cel_machine.specs.Turns.{turn_by};
 
 use crate::operand::Operand;
 use crate::range::Range;
 use crate::turns::{Turned, nothing_yet, result_of, turn};
-use cel_check::Accumulator;
-use cel_parse::Loop;
+use cel_loops::Accumulator;
+use cel_tree::Loop;
 use cel_value::{CelError, Value};
 use std::alloc::{AllocError, Global};
 use std::marker::Model;

@@ -18,7 +18,7 @@ use crate::step::Move;
 use crate::turns::{Turned, nothing_yet, result_of};
 use cel_apply::truth;
 use cel_code::loop_kind;
-use cel_parse::Loop;
+use cel_tree::Loop;
 use cel_value::{CelError, Value};
 use std::alloc::{AllocError, Global};
 

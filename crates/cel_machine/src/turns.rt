@@ -1,16 +1,16 @@
 //! What loops gather from their items.
 
 ghost use Rattle.std.specs.Prelude.{◌≡◌, ◌<◌, Some, IfOk, length, option_map};
-ghost use Rattle.cel_check.specs.Loops.{GoesOn, nothing_yet, with_error, with_item, error_or, result_of, turn};
-ghost use Rattle.cel_check.specs.Loops.{turn_all, turn_exists, turn_exists_one, turn_filter, turn_map};
+ghost use Rattle.cel_loops.specs.Loops.{GoesOn, nothing_yet, with_error, with_item, error_or, result_of, turn};
+ghost use Rattle.cel_loops.specs.Loops.{turn_all, turn_exists, turn_exists_one, turn_filter, turn_map};
 ghost use Rattle.cel_machine.specs.Ranges.{range_items, item_at};
 ghost use Rattle.cel_machine.specs.Turns.{passes, turn_by, turn_side};
 
 use crate::operand::{Operand, outcome_of, read};
 use crate::range::Range;
 use cel_apply::truth;
-use cel_check::{Accumulator, Tally};
-use cel_parse::Loop;
+use cel_loops::{Accumulator, Tally};
+use cel_tree::Loop;
 use cel_value::{CelError, Value};
 use plain::Items;
 use std::alloc::{AllocError, Global};

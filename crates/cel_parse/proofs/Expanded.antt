@@ -1,8 +1,8 @@
 -- The expression of each node whose parts are a list.
 use Rattle.std.proofs.Common.{◌≡◌, ℕ, List, ◌++◌, Result, Ok, sym, ap, subst, ◌∙◌}
-use Rattle.cel_parse.specs.declared.expr.Expr.{Expr}
-use Rattle.cel_grammar.specs.declared.tree.Entry.{Entry}
-use Rattle.cel_parse.specs.declared.expr.Syntax.TheVariants as syntax
+use Rattle.cel_tree.specs.declared.expr.Expr.{Expr}
+use Rattle.cel_tree.specs.declared.expr.Entry.{Entry}
+use Rattle.cel_tree.specs.declared.expr.Syntax.TheVariants as syntax
 use Rattle.cel_grammar.specs.declared.fault.ParseFault.{ParseFault}
 use Rattle.failing.specs.declared.failed.Failed.{Failed}
 use Rattle.cel_grammar.specs.declared.tree.Tree.{Tree, roll-Tree, Call as call, Method as method, List as list, Map as map_tree}

@@ -3,7 +3,7 @@ use Rattle.std.proofs.Common.{◌≡◌, ℕ, ◌+◌, ◌≤◌, Bool, true, fa
 use Rattle.std.proofs.Common.{◌∷◌, map, Option, Some, None, Ok, Err, sym, subst, arith}
 use Rattle.cel_lex.specs.declared.token.Infix.TheVariants as op
 use Rattle.cel_grammar.specs.declared.fault.ParseFault.{ParseFault}
-use Rattle.cel_grammar.specs.declared.tree.Entry.{Entry}
+use Rattle.cel_tree.specs.declared.expr.Entry.{Entry}
 use Rattle.cel_grammar.specs.declared.tree.Joint.{Joint}
 use Rattle.cel_grammar.specs.declared.tree.Joint.TheVariants as joint
 use Rattle.cel_grammar.specs.declared.tree.Tree.{Tree, roll-Tree}
@@ -12,15 +12,15 @@ use Rattle.cel_grammar.specs.declared.tree.Tree.TheFolds.{map-Tree}
 use Rattle.cel_grammar.specs.Words.{is_has, word_at}
 use Rattle.cel_grammar.proofs.Levels.{Such, fold_level, every_tree}
 use Rattle.cel_grammar.proofs.Sizes.{total as tree_total, total_entries as tree_total_entries, size_at, size}
-use Rattle.cel_parse.specs.declared.expr.BinaryOperator.TheVariants as binary
-use Rattle.cel_parse.specs.declared.expr.Expr.{Expr}
-use Rattle.cel_parse.specs.declared.expr.Expr.TheFolds.{map-Expr, fold-roll-Expr}
-use Rattle.cel_parse.specs.declared.expr.Loop.{Loop}
-use Rattle.cel_parse.specs.declared.expr.Loop.TheVariants as loop
-use Rattle.cel_parse.specs.declared.expr.Syntax.{Syntax}
-use Rattle.cel_parse.specs.declared.expr.Syntax.TheVariants as syntax
+use Rattle.cel_tree.specs.declared.expr.BinaryOperator.TheVariants as binary
+use Rattle.cel_tree.specs.declared.expr.Expr.{Expr}
+use Rattle.cel_tree.specs.declared.expr.Expr.TheFolds.{map-Expr, fold-roll-Expr}
+use Rattle.cel_tree.specs.declared.expr.Loop.{Loop}
+use Rattle.cel_tree.specs.declared.expr.Loop.TheVariants as loop
+use Rattle.cel_tree.specs.declared.expr.Syntax.{Syntax}
+use Rattle.cel_tree.specs.declared.expr.Syntax.TheVariants as syntax
 use Rattle.cel_parse.specs.Macros.{loop_of}
-use Rattle.cel_parse.specs.Sizes.{total, total_entries, nodes_at, nodes_of, entry_sizes}
+use Rattle.cel_tree.specs.Sizes.{total, total_entries, nodes_at, nodes_of, entry_sizes}
 use Rattle.cel_parse.specs.Expansion.{expr, signed, form_of, is_in_range, number_of, Expanded, Role, names, selects}
 use Rattle.cel_parse.specs.Expansion.{other, Expansion, each, each_entry, plain_call, has_by, has_of, plain_method, loop_by}
 use Rattle.cel_parse.specs.Expansion.{where_by, loop_of_kind, method_by, expanded_at, role_at, expansion, expanded}

@@ -2,13 +2,13 @@
 use Rattle.std.proofs.Common.{◌≡◌, ◌≤◌, ℕ, List, [], length, refl, sym, ap, subst, ◌∙◌, arith}
 use Rattle.cel_lex.specs.declared.token.Token.{Token}
 use Rattle.cel_lex.specs.declared.fault.LexFault.{LexFault}
-use Rattle.cel_parse.specs.declared.expr.Expr.{Expr}
+use Rattle.cel_tree.specs.declared.expr.Expr.{Expr}
 use Rattle.cel_grammar.specs.declared.fault.ParseFault.{ParseFault}
 use Rattle.cel_grammar.specs.declared.fault.ParseFault.TheVariants.{Lex, Unexpected, BadMacro}
 use Rattle.cel_grammar.specs.declared.tree.Tree.{Tree}
 use Rattle.cel_lex.specs.Lexis.{IsCut}
 use Rattle.cel_grammar.specs.Limits.{depth}
-use Rattle.cel_parse.specs.Sizes.{depth_of, nodes_of}
+use Rattle.cel_tree.specs.Sizes.{depth_of, nodes_of}
 use Rattle.cel_parse.specs.Macros.{first_wrong}
 use Rattle.cel_parse.specs.Expansion.{expanded}
 use Rattle.cel_parse.proofs.FewTokens.{few_tokens}

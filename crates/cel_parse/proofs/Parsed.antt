@@ -16,14 +16,14 @@ use Rattle.cel_grammar.specs.Descent.{◌>>=◌, all_of}
 use Rattle.cel_grammar.specs.Trees.{IsTree}
 use Rattle.cel_grammar.specs.Views.{same, Fails, Gives}
 use Rattle.cel_grammar.proofs.Answered.{answered_tree, answered_fault}
-use Rattle.cel_parse.specs.declared.expr.Expr.{Expr}
+use Rattle.cel_tree.specs.declared.expr.Expr.{Expr}
 use Rattle.cel_parse.specs.Macros.{first_wrong}
 use Rattle.cel_parse.specs.Expansion.{Expanded, expanded}
 use Rattle.cel_parse.specs.Parsed.{lexed, unless_wrong, parsed_tree, parsed}
 use Rattle.cel_parse.specs.Parsing.{IsAsDeep, IsParsed, IsRefused, no_cut, no_tree, bad_macro, no_expression}
 use Rattle.cel_parse.specs.Total.{IsAnswered, is_parsed, is_refused}
 use Rattle.cel_parse.proofs.FewTokens.{few_tokens}
-use Rattle.cel_parse.specs.Sizes.{depth_of, nodes_of}
+use Rattle.cel_tree.specs.Sizes.{depth_of, nodes_of}
 use Rattle.cel_parse.proofs.OneExpression.{same_expression, not_both, parsed_depth, parsed_shallow, parsed_small}
 
 -- a text spells this expression, or is refused for this fault

@@ -3,10 +3,10 @@ use Rattle.std.proofs.Common.{◌≡◌, ℕ, Bool, true, false, cond, List, [],
 use Rattle.std.proofs.Common.{Option, Some, None, Result, Ok, Err, refl, sym, subst}
 use Rattle.std.specs.Prelude.{map}
 use Rattle.cel_lex.specs.declared.fault.LexFault.{LexFault}
-use Rattle.cel_parse.specs.declared.expr.Expr.{Expr}
-use Rattle.cel_grammar.specs.declared.tree.Entry.{Entry}
-use Rattle.cel_parse.specs.declared.expr.Loop.{Loop}
-use Rattle.cel_parse.specs.declared.expr.Loop.TheVariants as loop
+use Rattle.cel_tree.specs.declared.expr.Expr.{Expr}
+use Rattle.cel_tree.specs.declared.expr.Entry.{Entry}
+use Rattle.cel_tree.specs.declared.expr.Loop.{Loop}
+use Rattle.cel_tree.specs.declared.expr.Loop.TheVariants as loop
 use Rattle.cel_grammar.specs.declared.fault.ParseFault.{ParseFault}
 use Rattle.cel_grammar.specs.declared.fault.ParseFault.TheVariants.{Lex}
 use Rattle.cel_grammar.specs.declared.tree.Tree.{Tree, roll-Tree}

@@ -3,13 +3,13 @@ use Rattle.std.specs.Prelude.{ℕ, ◌^◌, ℤ, pos, negsuc, zero, suc, Bool, t
 use Rattle.std.specs.Prelude.{◌∷◌, map, Option, Some, None, Result, Ok, Err, nat_le, nat_lt, if◌then◌else◌}
 use Rattle.cel_lex.specs.declared.token.Infix.TheVariants as op
 use Rattle.cel_lex.specs.declared.fault.LexFaultKind.TheVariants.{IntRange}
-use Rattle.cel_parse.specs.declared.expr.BinaryOperator.TheVariants as binary
-use Rattle.cel_parse.specs.declared.expr.Loop.{Loop}
-use Rattle.cel_parse.specs.declared.expr.Loop.TheVariants as loop
-use Rattle.cel_grammar.specs.declared.tree.Entry.{Entry}
-use Rattle.cel_parse.specs.declared.expr.Syntax.{Syntax}
-use Rattle.cel_parse.specs.declared.expr.Syntax.TheVariants as syntax
-use Rattle.cel_parse.specs.declared.expr.Expr.{Expr, roll-Expr}
+use Rattle.cel_tree.specs.declared.expr.BinaryOperator.TheVariants as binary
+use Rattle.cel_tree.specs.declared.expr.Loop.{Loop}
+use Rattle.cel_tree.specs.declared.expr.Loop.TheVariants as loop
+use Rattle.cel_tree.specs.declared.expr.Entry.{Entry}
+use Rattle.cel_tree.specs.declared.expr.Syntax.{Syntax}
+use Rattle.cel_tree.specs.declared.expr.Syntax.TheVariants as syntax
+use Rattle.cel_tree.specs.declared.expr.Expr.{Expr, roll-Expr}
 use Rattle.cel_grammar.specs.declared.fault.ParseFault.{ParseFault}
 use Rattle.cel_grammar.specs.declared.fault.ParseFault.TheVariants.{Lex}
 use Rattle.cel_grammar.specs.declared.tree.Joint.{Joint}

@@ -2,9 +2,9 @@
 use Rattle.std.specs.Prelude.{ℕ, min, Bool, true, false, ◌&&◌, not, List}
 use Rattle.std.specs.Prelude.{[], ◌∷◌, map, Option, Some, None, if◌then◌else◌, codes}
 use Rattle.std.specs.Str.{bytes_eq}
-use Rattle.cel_parse.specs.declared.expr.Loop.{Loop}
-use Rattle.cel_parse.specs.declared.expr.Loop.TheVariants as loop
-use Rattle.cel_grammar.specs.declared.tree.Entry.{Entry}
+use Rattle.cel_tree.specs.declared.expr.Loop.{Loop}
+use Rattle.cel_tree.specs.declared.expr.Loop.TheVariants as loop
+use Rattle.cel_tree.specs.declared.expr.Entry.{Entry}
 use Rattle.cel_parse.specs.declared.macros.Shape.{Shape}
 use Rattle.cel_parse.specs.declared.macros.Shape.TheVariants as shape
 use Rattle.cel_grammar.specs.declared.tree.Tree.{Tree, fold-Tree}

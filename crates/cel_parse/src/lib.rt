@@ -5,10 +5,8 @@
 #![tactic(auto)]
 
 mod expansion;
-mod expr;
 mod macros;
 mod parser;
 
-pub use cel_grammar::{Entry, ParseError, ParseFault, UnaryOperator};
-pub use expr::{BinaryOperator, Expr, Loop, Syntax};
+pub use cel_grammar::{ParseError, ParseFault};
 pub use parser::{one_expression, parse};

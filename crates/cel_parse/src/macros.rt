@@ -5,8 +5,8 @@ ghost use Rattle.cel_parse.specs.Macros.{loop_of, lesser, mark, marks, least, le
 ghost use Rattle.cel_parse.specs.Macros.{wrong_if, suits_has, suits_loop, wrong_method, first_wrong};
 ghost use Rattle.cel_grammar.specs.Words.{is_has, word_at};
 
-use crate::expr::Loop;
-use cel_grammar::{Entry, Tree, is_has, word_at};
+use cel_grammar::{Tree, is_has, word_at};
+use cel_tree::{Entry, Loop};
 
 /// The loop that the word at a place is the macro of, if there is one.
 #[tactic(auto, unfolding(crate::specs::Macros::loop_of))]

@@ -3,21 +3,21 @@
 ghost use Rattle.std.specs.Prelude.{◌≡◌, ◌≤◌, ◌↔◌, ℕ, List, Ok, Err, IfOk, IfErr, IsErrOf};
 ghost use Rattle.cel_lex.specs.declared.fault.LexFault.{LexFault};
 ghost use Rattle.cel_lex.specs.Lexis.{IsCut};
-ghost use Rattle.cel_parse.specs.declared.expr.Expr.{Expr};
+ghost use Rattle.cel_tree.specs.declared.expr.Expr.{Expr};
 ghost use Rattle.cel_grammar.specs.declared.fault.ParseFault.{ParseFault};
 ghost use Rattle.cel_grammar.specs.declared.fault.ParseFault.TheVariants.{Lex, Unexpected, BadMacro};
 ghost use Rattle.failing.specs.declared.failed.Failed.TheVariants as failed;
 ghost use Rattle.cel_grammar.specs.Views.{same, Fails, Gives};
-ghost use Rattle.cel_parse.specs.Sizes.{depth_of, nodes_of};
+ghost use Rattle.cel_tree.specs.Sizes.{depth_of, nodes_of};
 ghost use Rattle.cel_parse.specs.Parsed.{parsed};
 ghost use Rattle.cel_parse.specs.Parsing.{IsParsed, IsRefused, IsAsDeep};
 ghost use Rattle.cel_parse.specs.Total.{IsAnswered};
 
 use crate::expansion::expand;
-use crate::expr::Expr;
 use crate::macros::first_wrong;
 use cel_grammar::{ParseError, ParseFault, tree_of};
 use cel_lex::{Token, tokens};
+use cel_tree::Expr;
 use failing::Failed;
 use std::alloc::Global;
 

@@ -9,7 +9,7 @@ use Rattle.cel_check.specs.declared.tree.TypedTree.TheFolds.{fold-roll-TypedTree
 use Rattle.cel_check.specs.declared.tree.Form.{Form}
 use Rattle.cel_check.specs.declared.tree.Form.TheVariants.{Literal, Slot, Local, Unary, Binary, And, Or, Conditional, ListOf, MapOf}
 use Rattle.cel_check.specs.declared.tree.Form.TheVariants.{WithText, Loop, MapWhere}
-use Rattle.cel_check.specs.Meaning.{by_turns}
+use Rattle.cel_tree.specs.Turns.{by_turns}
 use Rattle.cel_check.specs.Typing.{node}
 use Rattle.cel_check.proofs.Levels.{part}
 

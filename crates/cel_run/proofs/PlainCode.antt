@@ -7,18 +7,18 @@ use Rattle.std.proofs.lemmas.Bool.{cases_lt, cases_Bool, or_parts, true≢false}
 use Rattle.cel_value.specs.declared.cel_type.CelType.{CelType}
 use Rattle.cel_operators.specs.declared.text_operator.TextOperator.{TextOperator}
 use Rattle.cel_operators.specs.declared.text_operator.TextOperator.TheVariants.{Select, Has as HasField, Matches}
-use Rattle.cel_parse.specs.declared.expr.Loop.{Loop}
-use Rattle.cel_parse.specs.declared.expr.Loop.TheVariants as loop
+use Rattle.cel_tree.specs.declared.expr.Loop.{Loop}
+use Rattle.cel_tree.specs.declared.expr.Loop.TheVariants as loop
 use Rattle.cel_check.specs.declared.tree.TypedTree.{TypedTree}
 use Rattle.cel_check.specs.declared.tree.Form.TheVariants as form
-use Rattle.cel_check.specs.Meaning.{by_turns}
+use Rattle.cel_tree.specs.Turns.{by_turns}
 use Rattle.cel_check.proofs.Levels.{turns_parts}
 use Rattle.cel_code.specs.declared.image.Image.{Image}
 use Rattle.cel_code.specs.declared.instr.Instr.{Instr}
 use Rattle.cel_code.specs.declared.instr.Instr.TheVariants.{WithText, End}
-use Rattle.cel_code.specs.Compiled.{IsCompiled, layout_of}
-use Rattle.cel_code.specs.Placed.{Code, code_in, Has, Stands, literal, unary, binary, both, either, conditional, items}
-use Rattle.cel_code.specs.Placed.{StandEach, no_items, first_item, slot, entries, with_text, local, looped, mapped, OpensLoop}
+use Rattle.cel_compile.specs.Compiled.{IsCompiled, layout_of}
+use Rattle.cel_compile.specs.Placed.{Code, code_in, Has, Stands, literal, unary, binary, both, either, conditional, items}
+use Rattle.cel_compile.specs.Placed.{StandEach, no_items, first_item, slot, entries, with_text, local, looped, mapped, OpensLoop}
 use Rattle.cel_code.specs.Matches.{is_matches, HasMatches}
 use Rattle.cel_run.proofs.Matches.{some_of, looks_for, has_matches, matches_is}
 

@@ -10,13 +10,13 @@ use Rattle.cel_value.specs.Value.{code_points}
 use Rattle.cel_value.specs.declared.cel_type.CelType.{CelType}
 use Rattle.cel_value.specs.declared.cel_type.CelType as type
 use Rattle.cel_value.specs.CelType.{join}
-use Rattle.cel_grammar.specs.declared.tree.Entry.{Entry}
-use Rattle.cel_parse.specs.declared.expr.Expr.{Expr, roll-Expr}
-use Rattle.cel_parse.specs.declared.expr.Expr.TheOpen.{Expr-F}
-use Rattle.cel_parse.specs.declared.expr.Expr.TheFolds.{map-Expr, fold-roll-Expr, ind-Expr}
-use Rattle.cel_parse.specs.declared.expr.Syntax.{Syntax}
-use Rattle.cel_parse.specs.declared.expr.Syntax.TheVariants as syntax
-use Rattle.cel_parse.specs.declared.expr.Loop.TheVariants as loop
+use Rattle.cel_tree.specs.declared.expr.Entry.{Entry}
+use Rattle.cel_tree.specs.declared.expr.Expr.{Expr, roll-Expr}
+use Rattle.cel_tree.specs.declared.expr.Expr.TheOpen.{Expr-F}
+use Rattle.cel_tree.specs.declared.expr.Expr.TheFolds.{map-Expr, fold-roll-Expr, ind-Expr}
+use Rattle.cel_tree.specs.declared.expr.Syntax.{Syntax}
+use Rattle.cel_tree.specs.declared.expr.Syntax.TheVariants as syntax
+use Rattle.cel_tree.specs.declared.expr.Loop.TheVariants as loop
 use Rattle.cel_operators.specs.declared.type_rule.TypeRule.{TypeRule}
 use Rattle.cel_operators.specs.declared.type_rule.TypeRule.TheVariants.{NoOverload, TooLarge, BadPattern, OpaqueUse}
 use Rattle.cel_operators.specs.declared.operator.Operator.{Operator}
@@ -27,8 +27,9 @@ use Rattle.cel_operators.specs.declared.operands.Want.TheVariants.{Members, Rang
 use Rattle.cel_operators.specs.Wants.{limit_of, is_truth}
 use Rattle.cel_operators.proofs.Opened.{out-Bool, out-Int, out-Null, out-Uint}
 use Rattle.cel_patterns.specs.Choice.{refuses}
-use Rattle.cel_check.specs.Loops.{loop_type}
-use Rattle.cel_check.specs.Meaning.{type_of, by_turns}
+use Rattle.cel_loops.specs.Loops.{loop_type}
+use Rattle.cel_check.specs.Meaning.{type_of}
+use Rattle.cel_tree.specs.Turns.{by_turns}
 use Rattle.cel_check.specs.Opaque.{is_opaque, is_equality}
 use Rattle.cel_check.specs.PatternTexts.{Seen, seen, seen_step, of_each, of_entries, of_method, one_or_none}
 use Rattle.cel_check.specs.declared.fault.TypeFault.{TypeFault}
@@ -39,7 +40,8 @@ use Rattle.cel_check.specs.declared.tree.Form.TheVariants as form
 use Rattle.cel_check.specs.Typing.{Names, Checked, refused, node, after, after_each, after_items, after_entries, typed_by, chosen}
 use Rattle.cel_check.specs.Typing.{Trees, tree_in_front, each_tree, Pairs, entry_in_front, each_entry, list_literal, map_literal}
 use Rattle.cel_check.specs.Typing.{joined_branches, at_name, name_in, or_else, variable_in, named, slot_from}
-use Rattle.cel_check.specs.Typing.{literal_text, literal_text_at, is_text, with_pattern, matched}
+use Rattle.cel_check.specs.Typing.{literal_text, is_text, with_pattern, matched}
+use Rattle.cel_loops.specs.Literals.{literal_text_at}
 use Rattle.cel_check.specs.Typing.{unary_overloads, binary_overloads, index_overloads, function_overloads, method_overloads}
 use Rattle.cel_check.specs.Typing.{method_overloads_with, first_of_one, first_of_two, called, called_on, over_two, beside_null, equated}
 use Rattle.cel_check.specs.Typing.{Inside, entered, once_inside, read, Part, part_of, part_step, found_at, found}

@@ -9,7 +9,7 @@ use Rattle.cel_operators.specs.Outcomes.{Outcome, outcome_fits, slots_fit, outsi
 use Rattle.cel_code.specs.declared.image.Image.{Image}
 use Rattle.cel_code.specs.Machine.{Run}
 use Rattle.cel_code.specs.Matches.{HasMatches}
-use Rattle.cel_code.proofs.OneRun.{one_run}
+use Rattle.cel_compile.proofs.OneRun.{one_run}
 use Rattle.cel_expression.specs.Expressions.{Ran, ran_in, run_of, type_in, type_at, estimate_in, estimate_at}
 use Rattle.cel_expression.specs.Faithful.{IsFaithful}
 use Rattle.cel_expression.specs.Images.{IsImageOf}

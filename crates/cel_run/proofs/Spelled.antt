@@ -4,12 +4,12 @@ use Rattle.std.specs.Prelude.{Result, Ok, Err, nat_lt}
 use Rattle.std.proofs.lemmas.Bool.{true≢false}
 use Rattle.cel_value.specs.declared.cel_type.CelType.{CelType}
 use Rattle.cel_grammar.specs.declared.fault.ParseFault.{ParseFault}
-use Rattle.cel_parse.specs.declared.expr.Expr.{Expr}
+use Rattle.cel_tree.specs.declared.expr.Expr.{Expr}
 use Rattle.cel_parse.specs.Parsed.{parsed}
 use Rattle.cel_check.specs.declared.tree.TypedTree.{TypedTree}
 use Rattle.cel_check.specs.Typing.{Names, Checked, checked_within}
 use Rattle.cel_code.specs.declared.image.Image.{Image}
-use Rattle.cel_code.specs.Compiled.{IsCompiled}
+use Rattle.cel_compile.specs.Compiled.{IsCompiled}
 use Rattle.cel_code.specs.Matches.{HasMatches}
 use Rattle.cel_estimate.specs.Estimate.{estimate_of, budget}
 use Rattle.cel_expression.specs.declared.refusal.Refusal.{Refusal}

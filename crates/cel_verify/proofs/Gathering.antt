@@ -11,17 +11,17 @@ use Rattle.cel_value.specs.declared.cel_type.CelType.{CelType}
 use Rattle.cel_value.specs.declared.cel_type.CelType as type
 use Rattle.cel_value.specs.declared.cel_error.CelError.{CelError}
 use Rattle.cel_value.specs.CelType.{fits, assignable}
-use Rattle.cel_parse.specs.declared.expr.Loop.{Loop}
-use Rattle.cel_parse.specs.declared.expr.Loop.TheVariants.{All, Exists, ExistsOne, Filter, Map}
+use Rattle.cel_tree.specs.declared.expr.Loop.{Loop}
+use Rattle.cel_tree.specs.declared.expr.Loop.TheVariants.{All, Exists, ExistsOne, Filter, Map}
 use Rattle.cel_operators.specs.declared.type_rule.TypeRule.{TypeRule}
-use Rattle.cel_check.specs.declared.accumulator.Accumulator.{Accumulator}
+use Rattle.cel_loops.specs.declared.accumulator.Accumulator.{Accumulator}
 use Rattle.cel_operators.specs.declared.operands.Want.TheVariants.{Truth}
 use Rattle.cel_operators.specs.Outcomes.{Outcome, Side}
 use Rattle.cel_operators.specs.Wants.{Limit, limit_of, is_there}
 use Rattle.cel_operators.specs.declared.limit.Span.{Span}
-use Rattle.cel_check.specs.Loops.{is_one, one_more, nothing_yet, first_error, Turn, Closes, GoesOn}
-use Rattle.cel_check.specs.Loops.{turn_all, turn_exists, turn_exists_one, turn_filter, turn_map}
-use Rattle.cel_check.specs.Loops.{turn, error_or, result_of, by_predicate, loop_type}
+use Rattle.cel_loops.specs.Loops.{is_one, one_more, nothing_yet, first_error, Turn, Closes, GoesOn}
+use Rattle.cel_loops.specs.Loops.{turn_all, turn_exists, turn_exists_one, turn_filter, turn_map}
+use Rattle.cel_loops.specs.Loops.{turn, error_or, result_of, by_predicate, loop_type}
 use Rattle.cel_operators.proofs.Opened.{bool_fits, list_fits}
 use Rattle.cel_operators.proofs.Rows.{wider}
 use Rattle.cel_verify.specs.StackTypes.{Fits}

@@ -6,9 +6,9 @@ use Rattle.std.specs.Prelude.{Ok, slice_get}
 use Rattle.std.proofs.lemmas.Bool.{and_parts}
 use Rattle.cel_value.specs.declared.value.Value.{Value}
 use Rattle.cel_value.specs.CelType.{assignable}
-use Rattle.cel_check.specs.declared.accumulator.Accumulator.{Accumulator}
+use Rattle.cel_loops.specs.declared.accumulator.Accumulator.{Accumulator}
 use Rattle.cel_operators.specs.Outcomes.{Outcome}
-use Rattle.cel_check.specs.Loops.{result_of}
+use Rattle.cel_loops.specs.Loops.{result_of}
 use Rattle.cel_operators.proofs.Rows.{wider}
 use Rattle.cel_code.specs.declared.instr.Instr.{Instr}
 use Rattle.cel_code.specs.declared.instr.Instr.TheVariants.{End, Item, Next}

@@ -10,13 +10,13 @@ use Rattle.cel_value.specs.declared.cel_type.CelType.{CelType}
 use Rattle.cel_value.specs.declared.cel_type.CelType as type
 use Rattle.cel_value.specs.declared.cel_error.CelError.{CelError}
 use Rattle.cel_value.specs.CelType.{fits, assignable}
-use Rattle.cel_parse.specs.declared.expr.Loop.{Loop}
-use Rattle.cel_parse.specs.declared.expr.Loop.TheVariants as loop
+use Rattle.cel_tree.specs.declared.expr.Loop.{Loop}
+use Rattle.cel_tree.specs.declared.expr.Loop.TheVariants as loop
 use Rattle.cel_operators.specs.declared.type_rule.TypeRule.{TypeRule}
 use Rattle.cel_operators.specs.Outcomes.{Outcome, Side}
 use Rattle.cel_operators.specs.Wants.{taken, limit_of, is_truth}
 use Rattle.cel_operators.specs.declared.operands.Want.TheVariants.{Ranged}
-use Rattle.cel_check.specs.Loops.{loop_type, nothing_yet, turn, result_of, Turn, Closes, GoesOn as TurnsOn}
+use Rattle.cel_loops.specs.Loops.{loop_type, nothing_yet, turn, result_of, Turn, Closes, GoesOn as TurnsOn}
 use Rattle.cel_operators.proofs.Rows.{wider}
 use Rattle.cel_operators.proofs.Taking.{Taken, taken_fits}
 use Rattle.cel_code.specs.declared.instr.Instr.TheVariants.{Local, Item, When, Next}

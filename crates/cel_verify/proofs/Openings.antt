@@ -11,9 +11,9 @@ use Rattle.std.proofs.lemmas.Option.{slice_get-get_or, slice_get_past}
 use Rattle.failing.specs.Failures.{Fails}
 use Rattle.cel_value.specs.declared.cel_type.CelType.{CelType}
 use Rattle.cel_value.specs.declared.cel_type.CelType as type
-use Rattle.cel_parse.specs.declared.expr.Loop.{Loop}
+use Rattle.cel_tree.specs.declared.expr.Loop.{Loop}
 use Rattle.cel_operators.specs.declared.type_rule.TypeRule.{TypeRule}
-use Rattle.cel_check.specs.Loops.{loop_type}
+use Rattle.cel_loops.specs.Loops.{loop_type}
 use Rattle.cel_operators.specs.Wants.{limit_of}
 use Rattle.cel_operators.specs.declared.limit.Span.{Span}
 use Rattle.cel_operators.specs.declared.operands.Want.TheVariants.{Ranged}

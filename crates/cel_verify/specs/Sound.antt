@@ -5,12 +5,12 @@ use Rattle.std.specs.Prelude.{slice_get, if◌then◌else◌, Option, Some, None
 use Rattle.cel_value.specs.declared.cel_type.CelType.{CelType}
 use Rattle.cel_value.specs.declared.cel_type.CelType as type
 use Rattle.cel_value.specs.CelType.{assignable}
-use Rattle.cel_parse.specs.declared.expr.Loop.{Loop}
-use Rattle.cel_parse.specs.declared.expr.Loop.TheVariants as loop
+use Rattle.cel_tree.specs.declared.expr.Loop.{Loop}
+use Rattle.cel_tree.specs.declared.expr.Loop.TheVariants as loop
 use Rattle.cel_operators.specs.Wants.{limit_of, is_there, is_truth}
 use Rattle.cel_operators.specs.declared.limit.Span.{Span}
 use Rattle.cel_operators.specs.declared.operands.Want.TheVariants.{Ranged}
-use Rattle.cel_check.specs.Loops.{loop_type}
+use Rattle.cel_loops.specs.Loops.{loop_type}
 pub use Rattle.cel_verify.specs.declared.open_loop.Open.{Open}
 use Rattle.cel_verify.specs.Bodies.{same_body, is_item, is_next}
 use Rattle.cel_operators.specs.declared.type_rule.TypeRule.{TypeRule}

@@ -4,7 +4,7 @@ use Rattle.std.specs.List.{list_all}
 use Rattle.cel_value.specs.declared.cel_type.CelType.{CelType}
 use Rattle.cel_value.specs.declared.cel_type.CelType as type
 use Rattle.cel_value.specs.CelType.{fits, assignable}
-use Rattle.cel_check.specs.Loops.{loop_type, result_of}
+use Rattle.cel_loops.specs.Loops.{loop_type, result_of}
 use Rattle.cel_code.specs.declared.instr.Instr.{Instr}
 use Rattle.cel_code.specs.declared.instr.Instr.TheVariants.{Item}
 use Rattle.cel_code.specs.declared.image.Image.{Image}

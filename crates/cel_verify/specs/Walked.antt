@@ -5,11 +5,11 @@ use Rattle.std.specs.Prelude.{slice_get, slice_index, reverse, ◌∷◌, Option
 use Rattle.cel_value.specs.declared.cel_type.CelType.{CelType}
 use Rattle.cel_value.specs.declared.cel_type.CelType as type
 use Rattle.cel_value.specs.declared.value.Value.{Value}
-use Rattle.cel_parse.specs.declared.expr.Loop.{Loop}
+use Rattle.cel_tree.specs.declared.expr.Loop.{Loop}
 use Rattle.cel_operators.specs.Wants.{limit_of}
 use Rattle.cel_operators.specs.declared.limit.Span.{Span}
 use Rattle.cel_operators.specs.declared.operands.Want.TheVariants.{Ranged}
-use Rattle.cel_check.specs.Loops.{loop_type}
+use Rattle.cel_loops.specs.Loops.{loop_type}
 use Rattle.cel_code.specs.declared.instr.Instr.{Instr}
 use Rattle.cel_code.specs.declared.instr.Instr.TheVariants as instr
 use Rattle.cel_code.specs.declared.instr.Instr.TheVariants.{End}

@@ -10,8 +10,8 @@ ghost use Rattle.cel_verify.specs.Walked.{charge_on_one, charge_on_two};
 use crate::constants::constant_text;
 use crate::map_rule::map_charge;
 use crate::type_stack::TypeStack;
-use cel_check::{Operands, Operator, TextOperator, greatest_of_one, greatest_of_two};
 use cel_code::{Image, Instr};
+use cel_operators::{Operands, Operator, TextOperator, greatest_of_one, greatest_of_two};
 use cel_value::CelType;
 
 /// The greatest charge of an instruction at the types of the stack; nothing where it is not reached.

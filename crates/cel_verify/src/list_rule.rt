@@ -9,7 +9,7 @@ ghost use Rattle.cel_verify.specs.Walked.{Follows};
 use crate::fault::{Refusal, VerifyRule};
 use crate::rules::given;
 use crate::type_stack::TypeStack;
-use cel_check::{Untyped, join_next, plain_list};
+use cel_operators::{Untyped, join_next, plain_list};
 use cel_value::CelType;
 use std::alloc::{AllocError, Global};
 

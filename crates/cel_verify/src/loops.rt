@@ -3,8 +3,8 @@
 ghost use Rattle.std.specs.Prelude.{◌≡◌, ◌<◌, ◌∷◌, [], true, Option, Some, Ok, MatchResult, length, reverse, slice_get};
 ghost use Rattle.failing.specs.Failures.{Fails};
 ghost use Rattle.cel_value.specs.declared.cel_type.CelType as type;
-ghost use Rattle.cel_parse.specs.declared.expr.Loop.{Loop as LoopKind};
-ghost use Rattle.cel_check.specs.Loops.{loop_type as type_of_loop};
+ghost use Rattle.cel_tree.specs.declared.expr.Loop.{Loop as LoopKind};
+ghost use Rattle.cel_loops.specs.Loops.{loop_type as type_of_loop};
 ghost use Rattle.cel_code.specs.LoopNumbers.{loop_kind as kind_of_loop};
 ghost use Rattle.cel_verify.specs.declared.fault.VerifyRule.TheVariants.{WrongKind};
 ghost use Rattle.cel_verify.specs.StackTypes.{StackTypes, all_assignable};
@@ -19,9 +19,10 @@ use crate::open_loop::Open;
 use crate::opens::Opens;
 use crate::targets::entry;
 use crate::type_stack::TypeStack;
-use cel_check::{Span, Untyped, is_truth, loop_type, span_of};
 use cel_code::{Image, loop_kind};
-use cel_parse::Loop;
+use cel_loops::loop_type;
+use cel_operators::{Span, Untyped, is_truth, span_of};
+use cel_tree::Loop;
 use cel_value::CelType;
 use std::alloc::Global;
 

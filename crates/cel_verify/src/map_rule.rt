@@ -15,7 +15,7 @@ use crate::fault::{Refusal, VerifyRule};
 use crate::list_rule::taken_off;
 use crate::rules::given;
 use crate::type_stack::TypeStack;
-use cel_check::{Untyped, greater_limit, join_next, map_type, text_limit};
+use cel_operators::{Untyped, greater_limit, join_next, map_type, text_limit};
 use cel_value::{CelType, tenths};
 use std::alloc::{AllocError, Global};
 

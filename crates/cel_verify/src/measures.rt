@@ -11,8 +11,8 @@ ghost use Rattle.cel_verify.specs.Walked.{AreMeasures, Measured, labelled};
 use crate::charges::charge;
 use crate::opens::Opens;
 use crate::type_stack::TypeStack;
-use cel_check::most_items;
 use cel_code::{Image, Instr};
+use cel_operators::most_items;
 use cel_value::CelType;
 use std::alloc::{AllocError, Global};
 

@@ -1,5 +1,5 @@
 use crate::type_stack::TypeStack;
-use cel_parse::Loop;
+use cel_tree::Loop;
 use cel_value::CelType;
 use plain::Shared;
 

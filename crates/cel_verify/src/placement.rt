@@ -10,7 +10,7 @@ use crate::arrivals::Arrivals;
 use crate::bodies::{body_at, instr_at};
 use crate::opens::Opens;
 use cel_code::{Image, Instr};
-use cel_parse::Loop;
+use cel_tree::Loop;
 
 /// Whether an instruction stands where it may, and its jumps stay in the body in which it stands.
 pub fn is_nested(image: &Image, arrivals: &Arrivals, at: usize, instr: Instr, opens: &Opens) -> bool

@@ -20,8 +20,8 @@ use crate::map_rule::mapped;
 use crate::opens::Opens;
 use crate::targets::entry;
 use crate::type_stack::TypeStack;
-use cel_check::{Operands, Operator, TextOperator, TypeRule, Untyped, is_truth};
 use cel_code::{Image, Instr};
+use cel_operators::{Operands, Operator, TextOperator, TypeRule, Untyped, is_truth};
 use cel_value::{CelType, assignable};
 use std::alloc::Global;
 

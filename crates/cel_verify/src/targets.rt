@@ -7,8 +7,8 @@ ghost use Rattle.cel_verify.specs.Walked.{IsEntry};
 
 use crate::arrivals::Arrivals;
 use crate::constants::{constant_text, constant_type};
-use cel_check::Operator;
 use cel_code::{Image, Instr, loop_kind};
+use cel_operators::Operator;
 use cel_value::CelType;
 
 /// The types where jumps arrive at an instruction, or behind the last one, the bottom first.

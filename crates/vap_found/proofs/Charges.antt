@@ -18,7 +18,7 @@ use Rattle.cel_grammar.specs.declared.fault.ParseFault.{ParseFault}
 use Rattle.cel_operators.specs.Outcomes.{Outcome, Side, outcome_fits, outside, slots_fit, types_outside}
 use Rattle.cel_operators.specs.declared.type_rule.TypeRule.TheVariants.{TooLarge}
 use Rattle.cel_parse.specs.Parsed.{parsed}
-use Rattle.cel_parse.specs.declared.expr.Expr.{Expr}
+use Rattle.cel_tree.specs.declared.expr.Expr.{Expr}
 use Rattle.cel_value.specs.declared.cel_type.CelType.{CelType}
 use Rattle.vap_programs.specs.Pairs.{annotation_estimate, check_estimate, condition_estimate, message_estimate, price_of}
 use Rattle.vap_programs.specs.Ready.{AreAnnotationsAt, AreChecksAt, AreConditionsAt, Follow, IsAt, IsMessageAt, IsReady, all_types}

@@ -8,7 +8,8 @@ use Rattle.core.proofs.ledger.Sent.{book_send, share_send}
 use Rattle.std.specs.declared.sync.ledger.Ledger as ledger
 use Rattle.cel_patterns.proofs.Crossing.{matchers_send}
 use Rattle.vap_answer.proofs.Crossing.{verdict_send, verdict_sync}
-use Rattle.vap_watch.proofs.Crossing.{log_send, log_sync, snapshot_sync, reader_send}
+use Rattle.board.proofs.Crossing.{told_sync}
+use Rattle.vap_watch.proofs.Crossing.{reader_send}
 use Rattle.vap_audit.proofs.Crossing.{request_send, request_sync, history_send}
 use Rattle.vap_plane.specs.declared.closing.Plan as plan
 use Rattle.vap_plane.specs.declared.jobs.Batch as batch
@@ -41,7 +42,7 @@ module _ (B : RattleType) (g : batch.Ghosts B.Denot) where
   job_send = search (request_send, sendable, crosses) depth 60 fits 200000
 
   pub answers_send : IsSend (answers.the_field B g).row
-  answers_send = search (log_send, log_sync, verdict_send, sendable, crosses) depth 60 fits 200000
+  answers_send = search (verdict_send, sendable, crosses) depth 60 fits 200000
 
 module _ (B : RattleType) (g : batch.Ghosts B.Denot) where
   pub reply_send : IsSend (reply.the_field B g).row
@@ -49,7 +50,7 @@ module _ (B : RattleType) (g : batch.Ghosts B.Denot) where
 
 module _ (B : RattleType) (g : batch.Ghosts B.Denot) where
   pub post_sync : IsSync (post.the_field B g).row
-  post_sync = search (job_send, reply_send, snapshot_sync, sendable, crosses) depth 60 fits 200000
+  post_sync = search (job_send, reply_send, sendable, crosses) depth 60 fits 200000
 
 module _ (L : RattleType) (p : plan.Ghosts L.Denot) (g : ledger.Ghosts L.Denot) where
   shared_row_sync : IsSync (shared_history.the_row L p g)
@@ -59,18 +60,24 @@ module _ (B : RattleType) (g : batch.Ghosts B.Denot) where
   post_row_sync : IsSync (post.the_row B g)
   post_row_sync = recorded_sync (post.the_field B g).row _ _ (post.the_type B g).to_one (post_sync B g)
 
-module _ (r p s g : NamedLft) (L B R G : RattleType) (a : plan.Ghosts L.Denot) (b : batch.Ghosts B.Denot)
+module _ (r t p s g : NamedLft) (L B R G : RattleType) (a : plan.Ghosts L.Denot) (b : batch.Ghosts B.Denot)
     (l : ledger.Ghosts L.Denot) where
-  pub service_sync : IsSync R → IsSync G → IsSync (service.the_field r p s g L B R G a b l).row
+  pub service_sync : IsSync R → IsSync G → IsSync (service.the_field r t p s g L B R G a b l).row
   service_sync one other =
       let posted = post_row_sync B b in
       let history = shared_row_sync L a l in
-      struct_sync (shape (service.the_type r p s g L B R G a b l)) (
+      struct_sync (shape (service.the_type r t p s g L B R G a b l)) (
         search (one, shr_sync),
-        (search sendable depth 20, (search (posted, shr_sync), (search (history, shr_sync), (search (other, shr_sync), tt)))),
+        (
+          search sendable depth 20,
+          (
+            search (told_sync, sendable, shr_sync, crosses),
+            (search (posted, shr_sync), (search (history, shr_sync), (search (other, shr_sync), tt))),
+          ),
+        ),
       )
 
-  pub service_row_sync : IsSync R → IsSync G → IsSync (service.the_row r p s g L B R G a b l)
+  pub service_row_sync : IsSync R → IsSync G → IsSync (service.the_row r t p s g L B R G a b l)
   service_row_sync one other =
-      recorded_sync (service.the_field r p s g L B R G a b l).row _ _ (service.the_type r p s g L B R G a b l).to_one
+      recorded_sync (service.the_field r t p s g L B R G a b l).row _ _ (service.the_type r t p s g L B R G a b l).to_one
       (service_sync one other)

@@ -2,3 +2,4 @@ pub mod Closed
 pub mod Numbered
 pub mod Replies
 pub mod Crossing
+pub mod There

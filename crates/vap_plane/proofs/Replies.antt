@@ -1,86 +1,101 @@
 -- Answers that came, one further, and in order.
-use Rattle.std.proofs.Common.{◌≡◌, ℕ, ◌+◌, ◌<◌, List, [], ◌∷◌, ◌++◌, length, map, refl, sym, ap, subst, length-append, ◌∙◌, zero}
-use Rattle.std.proofs.Common.{suc, arith}
+use Rattle.std.proofs.Common.{◌≡◌, ℕ, ◌+◌, ◌<◌, List, [], ◌∷◌, ◌++◌, length, get_or, refl, sym, ap, subst, ◌∙◌, zero, suc}
+use Rattle.std.proofs.Common.{arith, length-append}
 use Rattle.std.proofs.lemmas.List.Elements.{All-append}
 use Rattle.std.proofs.lemmas.Bool.Decides.{nat_tests}
-use Rattle.std.specs.Prelude.{◌==◌, slice_get, Option, Some, None, Bool, true, false, if◌then◌else◌}
+use Rattle.std.proofs.lemmas.Option.{slice_get_read}
+use Rattle.std.specs.Prelude.{◌==◌, slice_get, Some, Bool, true, false, if◌then◌else◌}
 use Rattle.std.specs.List.{All}
+use Rattle.board.specs.Shown.{Shown}
 use Rattle.vap_request.specs.declared.request.Request.{Request}
 use Rattle.vap_answer.specs.declared.verdict.Verdict.{Verdict}
-use Rattle.vap_watch.specs.Logs.{verdict_at}
+use Rattle.vap_watch.specs.Logs.{StartsWith, verdict_at}
+use Rattle.vap_watch.specs.Seen.{Known, Learns, Looks, SeesMore}
 use Rattle.vap_watch.specs.declared.log.Logged.{Logged}
+use Rattle.vap_watch.proofs.Begins.{starts_further}
+use Rattle.vap_watch.proofs.Grows.{sees_still}
 use Rattle.vap_watch.proofs.Revisions.{verdict_revision}
-use Rattle.vap_plane.specs.Answers.{AreAnswers, AreAt, AreKept, AreRight, IsAnswer, IsAt, verdicts_at}
+use Rattle.vap_plane.specs.Answers.{AreAnswers, AreRight, BeginsWithOneOf, IsAnswer, KnowsOneOf}
 use Rattle.vap_plane.specs.Numbered.{IsListOf, came, once_more}
 use Rattle.vap_plane.specs.declared.gathering.Came.{Came}
 use Rattle.vap_plane.specs.declared.gathering.Came.TheVariants.{Never, Once, Again}
-use Rattle.vap_plane.proofs.Numbered.{get_mapped, mapped_length}
 
--- the verdict at a log on the request of a number
-pub asked_at : (log seen : List Logged) (requests : List Request) (number : ℕ) (request : Request) (verdict : Verdict) → log ≡ seen
-    → slice_get requests number ≡ Some request → verdict ≡ verdict_at seen request → IsAt log requests number verdict
-asked_at log seen requests number request verdict same asked right =
-    get_mapped (verdict_at log) requests number request asked
-    ∙ ap Some (ap (λ (l : List Logged). verdict_at l request) same ∙ sym right)
+-- what follows a told log follows one that was told
+pub begins_further : (told : List (Shown Logged)) (log more : List Logged) → BeginsWithOneOf told log → StartsWith more log
+    → BeginsWithOneOf told more
+begins_further told log more begins further = record {
+  place = begins.place;
+  one = begins.one;
+  there = begins.there;
+  begins = starts_further more log begins.one.list further begins.begins;
+}
 
-module _ {X Y : Type 0} where
-  -- what is at a place of a list that was made of another
-  mapped_back : (f : X → Y) (xs : List X) (n : ℕ) (y : Y) → slice_get (map f xs) n ≡ Some y
-      → (x : X) × (slice_get xs n ≡ Some x) × (y ≡ f x)
-  mapped_back f [] n y e = let p : ⊥ = cc in absurd p
-  mapped_back f (x ∷ xs) zero y e = let s : f x ≡ y = cc in (x, refl, sym s)
-  mapped_back f (x ∷ xs) (suc n) y e = mapped_back f xs n y e
-
--- the verdict at a log is an answer
-answered : (log : List Logged) (requests : List Request) (number : ℕ) (verdict : Verdict) → IsAt log requests number verdict
-    → IsAnswer requests number verdict
-answered log requests number verdict at =
-    let back = mapped_back (verdict_at log) requests number verdict at in
+-- who learns one of the told logs knows it
+pub knows_one : (told held : List (Shown Logged)) (place : ℕ) (one learnt : Shown Logged) (before after : Known Logged)
+    → held ≡ told → place < length held → one ≡ get_or held place one → learnt ≡ one → Learns before after learnt.list
+    → KnowsOneOf told after
+knows_one told held place one learnt before after same inside is copied learns =
+    let there : slice_get held place ≡ Some one = slice_get_read held (length held) place one refl inside is in
     record {
-      request = back.0;
-      asked = back.1;
-      log = log;
-      right = back.2;
-      named = ap (λ (v : Verdict). v.revision) back.2 ∙ verdict_revision log back.0;
+      place = place;
+      one = one;
+      there = subst (λ (l : List (Shown Logged)). slice_get l place ≡ Some one) same there;
+      begins = subst (λ (s : Shown Logged). StartsWith after.told s.list) copied learns.told;
     }
 
+-- and knows it still whatever it sees
+pub knows_still : (told : List (Shown Logged)) (before after : Known Logged) → KnowsOneOf told before → SeesMore before after
+    → KnowsOneOf told after
+knows_still told before after knows more = subst (BeginsWithOneOf told) (sym more.told) knows
+
+-- who is as before has seen no less, and so has who is as one that has
+pub sees_same : (before after : Known Logged) → after ≡ before → SeesMore before after
+sees_same before after same = subst (λ (k : Known Logged). SeesMore before k) (sym same) (sees_still before)
+
+pub sees_on : (before after last : Known Logged) → SeesMore before after → last ≡ after → SeesMore before last
+sees_on before after last more same = subst (λ (k : Known Logged). SeesMore before k) (sym same) more
+
+-- a verdict at what is seen is an answer
+pub answered : (told : List (Shown Logged)) (requests : List Request) (number : ℕ) (request : Request) (verdict : Verdict)
+    (before after : Known Logged) → KnowsOneOf told before → slice_get requests number ≡ Some request → Looks before after
+    → verdict ≡ verdict_at after.seen request → IsAnswer told requests number verdict
+answered told requests number request verdict before after knows asked looks right = record {
+  request = request;
+  asked = asked;
+  log = after.seen;
+  begins = begins_further told before.told after.seen knows looks.told;
+  right = right;
+  named = ap (λ (v : Verdict). v.revision) right ∙ verdict_revision after.seen request;
+}
+
 module _ {X : Type 0} where
-  all_one : (P : X → Type 0) (x : X) → P x → All P (x ∷ [])
+  pub all_one : (P : X → Type 0) (x : X) → P x → All P (x ∷ [])
   all_one P x p zero d lt = p
   all_one P x p (suc k) d lt = absurd (omega arith)
 
-  all_rest : (P : X → Type 0) (x : X) (xs : List X) → All P (x ∷ xs) → All P xs
+  pub all_rest : (P : X → Type 0) (x : X) (xs : List X) → All P (x ∷ xs) → All P xs
   all_rest P x xs h k d lt = h (suc k) d (omega arith)
 
 -- one answer more
-pub one_more : (log : List Logged) (requests : List Request) (answers : List (ℕ × Verdict)) (number : ℕ) (verdict : Verdict)
-    → AreAt log requests answers → IsAt log requests number verdict → AreAt log requests (answers ++ (number, verdict) ∷ [])
-one_more log requests answers number verdict all at =
-    All-append (λ (a : ℕ × Verdict). IsAt log requests a.0 a.1) answers ((number, verdict) ∷ []) all
-    (all_one (λ (a : ℕ × Verdict). IsAt log requests a.0 a.1) (number, verdict) at)
+pub one_more : (told : List (Shown Logged)) (requests : List Request) (answers all : List (ℕ × Verdict)) (number : ℕ) (verdict : Verdict)
+    → AreRight told requests answers → IsAnswer told requests number verdict → all ≡ answers ++ (number, verdict) ∷ []
+    → AreRight told requests all
+one_more told requests answers all number verdict right answer whole =
+    subst (AreRight told requests) (sym whole)
+    (All-append (λ (a : ℕ × Verdict). IsAnswer told requests a.0 a.1) answers ((number, verdict) ∷ []) right
+    (all_one (λ (a : ℕ × Verdict). IsAnswer told requests a.0 a.1) (number, verdict) answer))
 
 -- no answer yet
-pub none_kept : (shown : List Logged) (requests : List Request) (are_shown : Bool) (answers : List (ℕ × Verdict)) → answers ≡ []
-    → AreKept shown requests are_shown answers
-none_kept shown requests are_shown answers none =
-    subst (λ (l : List (ℕ × Verdict)). AreKept shown requests are_shown l) (sym none) (record {
-      right = λ k d lt. absurd (omega arith);
-      at = λ is k d lt. absurd (omega arith);
-    })
+pub none_right : (told : List (Shown Logged)) (requests : List Request) (answers : List (ℕ × Verdict)) → answers ≡ []
+    → AreRight told requests answers
+none_right told requests answers none = subst (AreRight told requests) (sym none) (λ k d lt. absurd (omega arith))
 
 -- the answers of one worker more
-pub kept_more : (shown log : List Logged) (requests : List Request) (b d e : Bool) (old more all : List (ℕ × Verdict))
-    → AreKept shown requests b old → AreAt log requests more → (d ≡ true → log ≡ shown) → (e ≡ true → (b ≡ true) × (d ≡ true))
-    → all ≡ old ++ more → AreKept shown requests e all
-kept_more shown log requests b d e old more all kept at is both whole =
-    subst (λ (l : List (ℕ × Verdict)). AreKept shown requests e l) (sym whole) (record {
-      right =
-          All-append (λ (a : ℕ × Verdict). IsAnswer requests a.0 a.1) old more kept.right
-          (λ k d lt. answered log requests _ _ (at k d lt));
-      at = λ yes.
-          All-append (λ (a : ℕ × Verdict). IsAt shown requests a.0 a.1) old more (kept.at (both yes).0)
-          (subst (λ (l : List Logged). AreAt l requests more) (is (both yes).1) at);
-    })
+pub more_right : (told : List (Shown Logged)) (requests : List Request) (old more all : List (ℕ × Verdict))
+    → AreRight told requests old → AreRight told requests more → all ≡ old ++ more → AreRight told requests all
+more_right told requests old more all right others whole =
+    subst (AreRight told requests) (sym whole)
+    (All-append (λ (a : ℕ × Verdict). IsAnswer told requests a.0 a.1) old more right others)
 
 nat_same : (n m : ℕ) → (m == n) ≡ true → m ≡ n
 nat_same n m e = grind (arith, nat_tests)
@@ -111,28 +126,9 @@ pub within_seam : {X : Type 0} (all xs : List X) (x : X) (ys : List X) → xs ++
 within_seam all xs x ys e = (let l = ap length e in omega (arith, length-append xs (x ∷ ys)))
 
 -- answers in order
-pub all_answered : (requests : List Request) (count : ℕ) (pairs : List (ℕ × Verdict)) (vs : List Verdict) → count ≡ length requests
-    → IsListOf count pairs vs → AreRight requests pairs → AreAnswers requests vs
-all_answered requests count pairs vs len is all = record {
+pub all_answered : (told : List (Shown Logged)) (requests : List Request) (count : ℕ) (pairs : List (ℕ × Verdict)) (vs : List Verdict)
+    → count ≡ length requests → IsListOf count pairs vs → AreRight told requests pairs → AreAnswers told requests vs
+all_answered told requests count pairs vs len is all = record {
   whole = is.whole ∙ len;
-  each = λ n v at. came_of (λ (p : ℕ × Verdict). IsAnswer requests p.0 p.1) n v pairs all (is.each n v at);
+  each = λ n v at. came_of (λ (p : ℕ × Verdict). IsAnswer told requests p.0 p.1) n v pairs all (is.each n v at);
 }
-
--- two lists with the same elements in the same places
-by_places : {X : Type 0} (xs ys : List X) → length xs ≡ length ys
-    → ((n : ℕ) (x : X) → slice_get xs n ≡ Some x → slice_get ys n ≡ Some x) → xs ≡ ys
-by_places [] [] len each = refl
-by_places [] (y ∷ ys) len each = absurd (omega arith)
-by_places (x ∷ xs) [] len each = absurd (omega arith)
-by_places {X = X} (x ∷ xs) (y ∷ ys) len each =
-    let first : ◌≡◌ {A = Option X} (Some y) (Some x) = each 0 x refl in
-    let same : y ≡ x = cc in
-    let rest : xs ≡ ys = by_places xs ys (omega arith) (λ n z at. each (suc n) z at) in
-    ap (λ (z : X). z ∷ xs) (sym same) ∙ ap (λ (l : List X). y ∷ l) rest
-
--- the verdicts at the log that was shown, in order
-pub all_at : (shown : List Logged) (requests : List Request) (count : ℕ) (pairs : List (ℕ × Verdict)) (vs : List Verdict)
-    → count ≡ length requests → IsListOf count pairs vs → AreAt shown requests pairs → vs ≡ verdicts_at shown requests
-all_at shown requests count pairs vs len is all =
-    by_places vs (verdicts_at shown requests) (is.whole ∙ (len ∙ sym (mapped_length (verdict_at shown) requests)))
-    (λ n v at. came_of (λ (p : ℕ × Verdict). IsAt shown requests p.0 p.1) n v pairs all (is.each n v at))

@@ -4,7 +4,7 @@ use Rattle.vap_audit.specs.declared.entry.Entry.{Entry}
 use Rattle.failing.specs.declared.failed.Failed.{Failed}
 use Rattle.failing.specs.declared.failed.Failed.TheVariants.{OutOfMemory, Fault}
 use Rattle.vap_plane.specs.declared.fault.PlaneFault.{PlaneFault}
-use Rattle.vap_plane.specs.declared.fault.PlaneFault.TheVariants.{Double, Stranger, Lost, Judge, Audit}
+use Rattle.vap_plane.specs.declared.fault.PlaneFault.TheVariants.{Double, Stranger, Lost, Judge, Audit, Gone}
 use Rattle.vap_watch.specs.declared.log.Logged.{Logged}
 use Rattle.vap_request.specs.declared.request.Request.{Request}
 use Rattle.vap_answer.specs.declared.verdict.Verdict.{Verdict}
@@ -13,9 +13,17 @@ use Rattle.vap_answer.specs.declared.verdict.Verdict.{Verdict}
 abbrev pub entry_of : ℕ → List Logged → Request → Verdict → ℕ → Entry
 entry_of call log request verdict worker = record { call = call; log = log; request = request; verdict = verdict; worker = worker }
 
+-- the call has no verdict, or there is no memory
+abbrev pub IsUndecided : ℕ → Failed PlaneFault → Type 0
+IsUndecided call error = (error ≡ Fault (Judge call)) ⊎ (error ≡ OutOfMemory)
+
+-- the writer is gone, or there is no memory
+abbrev pub IsUnseen : ℕ → Failed PlaneFault → Type 0
+IsUnseen call error = (error ≡ Fault (Gone call)) ⊎ (error ≡ OutOfMemory)
+
 -- the call is not judged, or there is no memory
 abbrev pub IsUnjudged : ℕ → Failed PlaneFault → Type 0
-IsUnjudged call error = (error ≡ Fault (Judge call)) ⊎ (error ≡ OutOfMemory)
+IsUnjudged call error = (error ≡ Fault (Gone call)) ⊎ IsUndecided call error
 
 -- the call is not recorded, or there is no memory
 abbrev pub IsUnrecorded : ℕ → Failed PlaneFault → Type 0
@@ -23,7 +31,7 @@ IsUnrecorded call error = (error ≡ Fault (Audit call)) ⊎ (error ≡ OutOfMem
 
 -- the call is not judged or not recorded, or there is no memory
 abbrev pub IsUnanswered : ℕ → Failed PlaneFault → Type 0
-IsUnanswered call error = (error ≡ Fault (Judge call)) ⊎ IsUnrecorded call error
+IsUnanswered call error = (error ≡ Fault (Gone call)) ⊎ ((error ≡ Fault (Judge call)) ⊎ IsUnrecorded call error)
 
 -- the name of a fault, as it is printed
 abbrev pub plane_fault_name : PlaneFault → List ℕ
@@ -32,3 +40,4 @@ plane_fault_name (Stranger call) = codes "Stranger"
 plane_fault_name (Lost call) = codes "Lost"
 plane_fault_name (Judge call) = codes "Judge"
 plane_fault_name (Audit call) = codes "Audit"
+plane_fault_name (Gone call) = codes "Gone"

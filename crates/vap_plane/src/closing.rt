@@ -9,8 +9,8 @@ use crate::kept::Kept;
 use crate::worker::{Pass, Worker};
 use std::alloc::{AllocError, Global};
 use std::marker::Brand;
-use std::sync::Mutex;
-use std::sync::ledger::{Blank, Ledger};
+use std::sync::ledger::{Blank, Ledger, Share};
+use std::sync::{Mutex, Wait};
 use thiserror::Error;
 use vap_audit::{History, Stray};
 use vap_watch::{Snapshot, Writer, revision_of};
@@ -86,15 +86,8 @@ pub fn settle<L: Ledger>(
     ensures kept { All IsKept kept.history }
     ensures sum { length kept.history ≡ sum_by (λ w. w.count) workers.items }
 {
-    let mut workers = workers;
     let (history, mut book) = kept.parts();
-    let Some(last) = workers.pop() else {
-        unreachable!()
-    };
-    let mut all = last.into_share();
-    for worker in workers {
-        all.merge(worker.into_share());
-    }
+    let mut all = merged(workers);
     book.audit(&mut all);
     let entries = history.len();
     history.check(snapshot)?;
@@ -104,9 +97,28 @@ pub fn settle<L: Ledger>(
     })
 }
 
+/// The shares of all workers in one.
+fn merged<L: Ledger>(workers: Vec<Worker<L>>) -> Share<L>
+    requires { (0 < L.parts) × (0 < vec_len workers) }
+    ensures parts { result.parts ≡ vec_len workers }
+    ensures apart { result.parts ≤ L.parts }
+    ensures amount { result.amount ≡ sum_by (λ w. w.count) workers.items }
+{
+    let mut workers = workers;
+    let Some(last) = workers.pop() else {
+        unreachable!()
+    };
+    let mut all = last.into_share();
+    for worker in workers {
+        all.merge(worker.into_share());
+    }
+    all
+}
+
 /// Closes the history of all workers, when they are joined: it compares each entry with the log that the writer published last. The
 /// writer, the history and the workers are given up in any case.
-pub fn close<L: Plan>(
+pub fn close<L: Plan, R: Wait>(
+    rt: &R,
     writer: Writer,
     shared: SharedHistory<L>,
     workers: Vec<Worker<L>>,
@@ -117,6 +129,23 @@ pub fn close<L: Plan>(
     ensures closed { ClosesSome writer.published result }
     ensures sum { IfOk result (λ report. report.entries ≡ sum_by (λ w. w.count) workers.items) }
 {
+    let closed = close_at(writer.snapshot(), shared, workers);
+    writer.end(rt);
+    closed
+}
+
+/// [`close`] at the final snapshot.
+fn close_at<L: Plan>(
+    snapshot: &Snapshot,
+    shared: SharedHistory<L>,
+    workers: Vec<Worker<L>>,
+) -> Result<Report, CloseError>
+    requires { (0 < L.parts) × (L.workers ≡ L.parts) }
+    ensures missing { vec_len workers < L.workers → result ≡ Err CloseError.Missing }
+    ensures given { IfErr result (λ error. error ≡ CloseError.Missing → vec_len workers < L.workers) }
+    ensures closed { ClosesSome snapshot.now result }
+    ensures sum { IfOk result (λ report. report.entries ≡ sum_by (λ w. w.count) workers.items) }
+{
     let SharedHistory {
         kept,
         workers: wanted,
@@ -124,7 +153,7 @@ pub fn close<L: Plan>(
     if (workers.len() as u64) < wanted {
         return Err(CloseError::Missing);
     }
-    match settle(kept.into_inner(), workers, writer.snapshot()) {
+    match settle(kept.into_inner(), workers, snapshot) {
         Ok(report) => Ok(report),
         Err(stray) => Err(CloseError::Stray(stray)),
     }

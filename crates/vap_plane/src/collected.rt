@@ -1,7 +1,7 @@
 //! What came back of a batch, and what it comes to.
 
-ghost use Rattle.std.specs.Prelude.{◌≡◌, ◌++◌, [], true, IfOk, OnOk};
-ghost use Rattle.vap_plane.specs.Answers.{AreKept};
+ghost use Rattle.std.specs.Prelude.{◌≡◌, ◌++◌, [], IfOk, OnOk};
+ghost use Rattle.vap_plane.specs.Answers.{AreRight};
 ghost use Rattle.vap_plane.specs.Numbered.{IsListOf};
 
 use crate::fault::{PlaneError, PlaneFault};
@@ -11,11 +11,10 @@ use crate::messages::{Answers, Failure};
 use std::alloc::{AllocError, Global};
 use vap_answer::Verdict;
 
-/// Numbered answers, whether all are at the log that was shown, and of the requests that are not answered that of the least number.
+/// Numbered answers, and of the requests that are not answered that of the least number.
 #[derive(Drop)]
 pub(crate) struct Collected {
     pub(crate) answers: Vec<(u64, Verdict)>,
-    pub(crate) are_shown: bool,
     pub(crate) failure: Option<Failure>,
 }
 
@@ -26,36 +25,25 @@ impl Collected {
     {
         Collected {
             answers: Vec::new(alloc),
-            are_shown: true,
             failure: None,
         }
     }
 
     /// Keeps the answers of one worker.
-    #[tactic(auto, using(crate::proofs::Replies::kept_more))]
+    #[tactic(auto, using(crate::proofs::Replies::more_right))]
     pub(crate) fn keep<B: Batch>(&mut self, answers: Answers<B>) -> Result<(), AllocError>
-        requires { AreKept B.log B.requests self.old.are_shown self.old.answers.items }
-        ensures { OnOk result (AreKept B.log B.requests self.new.are_shown self.new.answers.items) }
+        requires { AreRight B.told B.requests self.old.answers.items }
+        ensures { OnOk result (AreRight B.told B.requests self.new.answers.items) }
     {
-        let (verdicts, is_shown) = answers.parts();
-        append(&mut self.answers, verdicts)?;
-        self.are_shown = are_both(self.are_shown, is_shown);
-        Ok(())
+        append(&mut self.answers, answers.into_verdicts())
     }
 
     /// Keeps the failure of the lesser number.
     pub(crate) fn note(&mut self, failure: Failure)
-        ensures answers { self.new.answers.items ≡ self.old.answers.items }
-        ensures shown { self.new.are_shown ≡ self.old.are_shown }
+        ensures { self.new.answers.items ≡ self.old.answers.items }
     {
         self.failure = Some(lesser(self.failure, failure));
     }
-}
-
-fn are_both(one: bool, other: bool) -> bool
-    ensures { result ≡ true → (one ≡ true) × (other ≡ true) }
-{
-    one && other
 }
 
 /// Puts answers after others.
@@ -77,24 +65,19 @@ fn lesser(first: Option<Failure>, other: Failure) -> Failure {
     }
 }
 
-/// The verdicts in order, and whether all are at the log that was shown; or the error of the least call that has one.
+/// The verdicts in order, or the error of the least call that has one.
 pub(crate) fn joined(
     alloc: Global,
     first: u64,
     count: u64,
     collected: Collected,
-) -> Result<(Vec<Verdict>, bool), PlaneError>
-    ensures list { IfOk result (λ found. IsListOf count collected.answers.items found.0.items) }
-    ensures shown { IfOk result (λ found. found.1 ≡ collected.are_shown) }
+) -> Result<Vec<Verdict>, PlaneError>
+    ensures { IfOk result (λ verdicts. IsListOf count collected.answers.items verdicts.items) }
 {
-    let Collected {
-        answers,
-        are_shown,
-        failure,
-    } = collected;
+    let Collected { answers, failure } = collected;
     match gather(alloc, count, answers) {
         Ok(verdicts) => match failure {
-            None => Ok((verdicts, are_shown)),
+            None => Ok(verdicts),
             Some(failure) => Err(failure.error),
         },
         Err(error) => Err(error_of(first, error, failure)),

@@ -20,6 +20,8 @@ pub enum PlaneFault {
     Judge(u64),
     #[error("call {0} is not recorded: the history has as many entries as it may have")]
     Audit(u64),
+    #[error("call {0} is not judged: the writer is gone")]
+    Gone(u64),
 }
 
 impl PlaneFault {
@@ -33,6 +35,7 @@ impl PlaneFault {
             PlaneFault::Lost(_) => "Lost",
             PlaneFault::Judge(_) => "Judge",
             PlaneFault::Audit(_) => "Audit",
+            PlaneFault::Gone(_) => "Gone",
         }
     }
 }

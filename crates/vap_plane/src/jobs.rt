@@ -1,24 +1,25 @@
 //! The requests of one batch, on their way to workers.
 
 ghost use Rattle.std.specs.Prelude.{◌≡◌, List, [], slice_get, Some};
+ghost use Rattle.board.specs.Shown.{Shown};
 ghost use Rattle.vap_request.specs.declared.request.Request.{Request as RequestOf};
 ghost use Rattle.vap_watch.specs.declared.log.Logged.{Logged as LoggedOf};
 
 use std::marker::{Brand, PhantomData};
 use vap_request::Request;
-use vap_watch::Snapshot;
+use vap_watch::Told;
 
-/// The requests that are judged together, and the log that is shown to the workers, if one is.
+/// The requests that are judged together, and what the workers are told before.
 pub trait Batch {
     ghost requests: { List RequestOf };
 
-    ghost log: { List LoggedOf };
+    ghost told: { List (Shown LoggedOf) };
 }
 
 impl Batch for Brand {
     ghost requests = { [] };
 
-    ghost log = { [] };
+    ghost told = { [] };
 }
 
 /// A request with its number among those of its batch, and its call.
@@ -44,10 +45,10 @@ impl<B: Batch> Job<B> {
     }
 }
 
-/// Requests that are judged together, whose calls are numbered from `first`, and the snapshot that is shown to the workers, if one is.
+/// Requests that are judged together, whose calls are numbered from `first`, and what each worker is told before.
 #[derive(Drop)]
 pub(crate) struct Round {
     pub(crate) first: u64,
     pub(crate) requests: Vec<Request>,
-    pub(crate) shown: Option<Snapshot>,
+    pub(crate) told: Vec<Told>,
 }

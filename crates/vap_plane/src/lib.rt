@@ -2,9 +2,10 @@
 //!
 //! A [`SharedHistory`] is a history under its lock, with a [`Pass`] for each of its workers. A [`Worker`] has a reader of its own:
 //! [`Worker::judge`] enters at what is published and judges there, [`Worker::record`] puts what was judged last in the history that
-//! the lock lends, and [`Worker::admit`] does both. [`run_workers`] has requests judged by several workers side by side, each in a
-//! thread, and answers the verdicts in order; [`run_workers_at`] has them all judged at one snapshot. [`close`] compares each entry
-//! with the final log when all is done, and counts the entries. `vap_steps` has the same actions, one after the other, without threads.
+//! the lock lends, and [`Worker::admit`] does both. What a worker was told of by [`Worker::learn`] it sees from then on.
+//! [`run_workers`] has requests judged by several workers side by side, each in a thread, and answers the verdicts in order. [`close`]
+//! compares each entry with the final log when all is done, and counts the entries. `vap_steps` has the same actions, one after the
+//! other, without threads.
 #![tactic(auto)]
 
 mod closing;
@@ -25,5 +26,5 @@ pub use gate::{Gate, Open};
 pub use gathering::{GatherError, GatherFault, gather};
 pub use jobs::Batch;
 pub use kept::Kept;
-pub use running::{run_workers, run_workers_at};
+pub use running::{run_workers, told_to};
 pub use worker::{Judged, Pass, Worker};

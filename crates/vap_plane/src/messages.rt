@@ -1,50 +1,44 @@
 //! What workers answer, on its way back.
 
-ghost use Rattle.std.specs.Prelude.{◌≡◌, true, OnErr, OnOk};
-ghost use Rattle.vap_plane.specs.Answers.{AreAt, IsAt, no_answer, with_answer};
+ghost use Rattle.std.specs.Prelude.{◌≡◌, ◌++◌, ◌∷◌, [], OnErr, OnOk};
+ghost use Rattle.vap_plane.specs.Answers.{AreRight, IsAnswer};
 
 use crate::fault::PlaneError;
 use crate::jobs::Batch;
-use plain::Shared;
 use std::alloc::{AllocError, Global};
 use std::marker::{Model, PhantomData};
 use vap_answer::Verdict;
-use vap_watch::Log;
 
-/// What one worker answered at one log: numbered verdicts, and whether the log is the one that was shown to all.
+/// What one worker answered: numbered verdicts, each the answer to the request of its number.
 #[derive(Drop)]
 pub(crate) struct Answers<B: Batch> {
-    log: Shared<Log>,
-    is_shown: bool,
     verdicts: Vec<(u64, Verdict)>,
     of: PhantomData<B>,
 }
 
 impl<B: Batch> Model for Answers<B> {
-    ghost use Rattle.std.specs.Prelude.{◌≡◌, true};
+    ghost use Rattle.std.specs.Prelude.{ℕ, List};
     ghost use Rattle.std.specs.Coded.{codes};
     ghost use Rattle.vap_answer.specs.contracts.verdict.Verdict as answer;
-    ghost use Rattle.vap_read.specs.contracts.event.Event as event;
-    ghost use Rattle.vap_plane.specs.Answers.{AreAt, Answered};
+    ghost use Rattle.vap_answer.specs.declared.verdict.Verdict.{Verdict as VerdictOf};
+    ghost use Rattle.vap_plane.specs.Answers.{AreRight};
 
-    ghost Value = { Answered };
+    ghost Value = { List (ℕ × VerdictOf) };
 
-    ghost coded = { Prim.hlevel (codes, event.the_row.coded, answer.the_row.coded) };
+    ghost coded = { Prim.hlevel (codes, answer.the_row.coded) };
 
-    ghost view = { λ a. record { log = a.log; is_shown = a.is_shown; verdicts = a.verdicts.items } };
+    ghost view = { λ a. a.verdicts.items };
 
-    ghost invariant = { λ a. AreAt a.log B.requests a.verdicts.items × (a.is_shown ≡ true → a.log ≡ B.log) };
+    ghost invariant = { λ a. AreRight B.told B.requests a.verdicts.items };
 }
 
 impl<B: Batch> Answers<B> {
-    /// No answer yet at this log.
-    pub(crate) fn new(alloc: Global, log: Shared<Log>, is_shown: bool) -> Answers<B>
-        requires { is_shown ≡ true → log ≡ B.log }
-        ensures { result ≡ no_answer log is_shown }
+    /// No answer yet.
+    #[tactic(auto, using(crate::proofs::Replies::none_right))]
+    pub(crate) fn new(alloc: Global) -> Answers<B>
+        ensures { result ≡ [] }
     {
         Answers {
-            log,
-            is_shown,
             verdicts: Vec::new(alloc),
             of: PhantomData,
         }
@@ -57,8 +51,8 @@ impl<B: Batch> Answers<B> {
     /// One answer more. If it is refused, nothing has changed.
     #[tactic(auto, using(crate::proofs::Replies::one_more))]
     pub(crate) fn push(&mut self, number: u64, verdict: Verdict) -> Result<(), AllocError>
-        requires { IsAt self.old.log B.requests number verdict }
-        ensures pushed { OnOk result (self.new ≡ with_answer self.old number verdict) }
+        requires { IsAnswer B.told B.requests number verdict }
+        ensures pushed { OnOk result (self.new ≡ self.old ++ (number, verdict) ∷ []) }
         ensures refused { OnErr result (self.new ≡ self.old) }
     {
         self.verdicts.reserve(1)?;
@@ -66,18 +60,12 @@ impl<B: Batch> Answers<B> {
         Ok(())
     }
 
-    pub(crate) fn parts(self) -> (Vec<(u64, Verdict)>, bool)
-        ensures verdicts { result.0.items ≡ self.verdicts }
-        ensures at { AreAt self.log B.requests result.0.items }
-        ensures shown { result.1 ≡ true → self.log ≡ B.log }
+    pub(crate) fn into_verdicts(self) -> Vec<(u64, Verdict)>
+        ensures verdicts { result.items ≡ self }
+        ensures right { AreRight B.told B.requests result.items }
     {
-        let Answers {
-            log: _,
-            is_shown,
-            verdicts,
-            of: _,
-        } = self;
-        (verdicts, is_shown)
+        let Answers { verdicts, of: _ } = self;
+        verdicts
     }
 }
 

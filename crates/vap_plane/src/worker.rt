@@ -1,23 +1,24 @@
 //! Workers.
 
-ghost use Rattle.std.specs.Prelude.{◌≡◌, ◌++◌, ◌∷◌, ◌+◌, [], false, length, IfErr, IfOk, MatchResult, OnErr};
+ghost use Rattle.std.specs.Prelude.{◌≡◌, ◌++◌, ◌∷◌, ◌+◌, [], length, IfErr, MatchResult, OnErr, OnOk};
 ghost use Rattle.failing.specs.declared.failed.Failed.TheVariants.{Fault};
 ghost use Rattle.vap_audit.specs.Entries.{most_entries};
 ghost use Rattle.vap_watch.specs.Logs.{verdict_at};
-ghost use Rattle.vap_plane.specs.Recorded.{IsUnanswered, IsUnjudged, IsUnrecorded, entry_of};
+ghost use Rattle.vap_watch.specs.Seen.{Learns, Looks, SeesMore};
+ghost use Rattle.vap_plane.specs.Recorded.{IsUnanswered, IsUndecided, IsUnjudged, IsUnrecorded, IsUnseen, entry_of};
 
 use crate::closing::{Plan, SharedHistory};
 use crate::fault::{PlaneError, PlaneFault};
 use crate::kept::Kept;
 use plain::Shared;
-use std::alloc::{AllocError, Global};
+use std::alloc::Global;
 use std::sync::Wait;
 use std::sync::ledger::{Ledger, Share};
 use vap_answer::Verdict;
 use vap_audit::{AuditFault, Entry};
 use vap_judge::{JudgeError, Matchers, RunFault};
 use vap_request::Request;
-use vap_watch::{Log, Reader, Snapshot};
+use vap_watch::{Log, Reader, ReaderError, Told};
 
 /// The right to be the worker of this number: of each number there is one.
 #[derive(Drop)]
@@ -118,48 +119,49 @@ impl<L: Ledger> Worker<L> {
         self.count
     }
 
-    /// Takes in what is published, and answers whether it is another snapshot than the one that was seen last.
-    pub(crate) fn look<R: Wait>(&mut self, rt: &R) -> Result<bool, AllocError>
-        ensures seen { IfOk result (λ another. another ≡ false → self.new.reader ≡ self.old.reader) }
+    /// Takes in what a writer told: from now on the worker judges at logs that begin with this one.
+    pub fn learn(&mut self, told: Told)
+        requires { told.board ≡ self.old.reader.board }
+        ensures told { Learns self.old.reader self.new.reader told.list }
+        ensures same { (self.new.count ≡ self.old.count) × (self.new.number ≡ self.old.number) }
+    {
+        self.reader.learn(told);
+    }
+
+    /// Takes in what is published.
+    fn look(&mut self, call: u64) -> Result<(), PlaneError>
+        ensures seen { OnOk result (Looks self.old.reader self.new.reader) }
         ensures refused { OnErr result (self.new.reader ≡ self.old.reader) }
+        ensures fault { IfErr result (λ error. IsUnseen call error) }
         ensures same { (self.new.count ≡ self.old.count) × (self.new.number ≡ self.old.number) }
     {
-        self.reader.look(rt)
+        match self.reader.look() {
+            Ok(_) => Ok(()),
+            Err(error) => Err(unseen(call, error)),
+        }
     }
 
-    /// Is shown a snapshot of the writer that its reader was opened with, which it has then seen.
-    pub(crate) fn see(&mut self, snapshot: Snapshot)
-        ensures seen { self.new.reader ≡ snapshot }
-        ensures same { (self.new.count ≡ self.old.count) × (self.new.number ≡ self.old.number) }
-    {
-        self.reader.see(snapshot);
-    }
-
-    /// The log that was seen last.
-    pub(crate) fn log(&self) -> Result<Shared<Log>, AllocError>
-        ensures { IfOk result (λ log. log ≡ self.now.reader) }
-    {
-        self.reader.seen().share_log()
-    }
-
-    /// Judges a request at the published log, which the worker has then seen. Where it is refused, the request comes back.
-    pub fn judge<R: Wait>(
+    /// Judges a request at the published log, which the worker has then seen. This log begins with all that it had seen, and with all
+    /// that it was told of. Where it is refused, the request comes back.
+    #[tactic(auto, using(crate::proofs::Replies::sees_same))]
+    pub fn judge(
         &mut self,
-        rt: &R,
         alloc: Global,
         call: u64,
         request: Request,
     ) -> Result<Judged, (PlaneError, Request)>
         ensures judged { MatchResult result
-            (λ judged. (judged.call ≡ call) × (judged.log ≡ self.new.reader) × (judged.request ≡ request)
-            × (judged.verdict ≡ verdict_at self.new.reader request))
+            (λ judged. (judged.call ≡ call) × (judged.log ≡ self.new.reader.seen) × (judged.request ≡ request)
+            × (judged.verdict ≡ verdict_at self.new.reader.seen request))
             (λ refused. refused.1 ≡ request) }
+        ensures seen { OnOk result (Looks self.old.reader self.new.reader) }
+        ensures unseen { OnErr result (SeesMore self.old.reader self.new.reader) }
         ensures fault { IfErr result (λ refused. IsUnjudged call refused.0) }
         ensures same { (self.new.count ≡ self.old.count) × (self.new.number ≡ self.old.number) }
     {
-        let Ok(_) = self.look(rt) else {
-            return Err((PlaneError::OutOfMemory, request));
-        };
+        if let Err(error) = self.look(call) {
+            return Err((error, request));
+        }
         self.judge_there(alloc, call, request)
     }
 
@@ -171,10 +173,10 @@ impl<L: Ledger> Worker<L> {
         request: Request,
     ) -> Result<Judged, (PlaneError, Request)>
         ensures judged { MatchResult result
-            (λ judged. (judged.call ≡ call) × (judged.log ≡ self.old.reader) × (judged.request ≡ request)
-            × (judged.verdict ≡ verdict_at self.old.reader request))
+            (λ judged. (judged.call ≡ call) × (judged.log ≡ self.old.reader.seen) × (judged.request ≡ request)
+            × (judged.verdict ≡ verdict_at self.old.reader.seen request))
             (λ refused. refused.1 ≡ request) }
-        ensures fault { IfErr result (λ refused. IsUnjudged call refused.0) }
+        ensures fault { IfErr result (λ refused. IsUndecided call refused.0) }
         ensures same { (self.new.count ≡ self.old.count) × (self.new.number ≡ self.old.number) }
         ensures reader { self.new.reader ≡ self.old.reader }
     {
@@ -248,6 +250,7 @@ impl<L: Ledger> Worker<L> {
 
 impl<L: Plan> Worker<L> {
     /// Judges, then records under the lock. Where it is refused, the request comes back.
+    #[tactic(auto, using(crate::proofs::Replies::sees_on))]
     pub fn admit<R: Wait>(
         &mut self,
         rt: &R,
@@ -256,42 +259,36 @@ impl<L: Plan> Worker<L> {
         call: u64,
         request: Request,
     ) -> Result<Verdict, (PlaneError, Request)>
-        ensures verdict { MatchResult result (λ verdict. verdict ≡ verdict_at self.new.reader request) (λ refused. refused.1 ≡ request) }
+        ensures verdict { MatchResult result (λ verdict. verdict ≡ verdict_at self.new.reader.seen request)
+            (λ refused. refused.1 ≡ request) }
+        ensures seen { OnOk result (Looks self.old.reader self.new.reader) }
+        ensures unseen { OnErr result (SeesMore self.old.reader self.new.reader) }
         ensures count { MatchResult result (λ _. self.new.count ≡ self.old.count + 1) (λ _. self.new.count ≡ self.old.count) }
         ensures fault { IfErr result (λ refused. IsUnanswered call refused.0) }
         ensures same { self.new.number ≡ self.old.number }
     {
-        let Ok(_) = self.look(rt) else {
-            return Err((PlaneError::OutOfMemory, request));
-        };
-        self.admit_there(rt, alloc, shared, call, request)
-    }
-
-    /// Judges at the log that was seen last, then records under the lock, which is held while the entry is put last and no longer.
-    pub(crate) fn admit_there<R: Wait>(
-        &mut self,
-        rt: &R,
-        alloc: Global,
-        shared: &SharedHistory<L>,
-        call: u64,
-        request: Request,
-    ) -> Result<Verdict, (PlaneError, Request)>
-        ensures verdict { MatchResult result (λ verdict. verdict ≡ verdict_at self.old.reader request) (λ refused. refused.1 ≡ request) }
-        ensures count { MatchResult result (λ _. self.new.count ≡ self.old.count + 1) (λ _. self.new.count ≡ self.old.count) }
-        ensures fault { IfErr result (λ refused. IsUnanswered call refused.0) }
-        ensures same { (self.new.number ≡ self.old.number) × (self.new.reader ≡ self.old.reader) }
-    {
-        let judged = self.judge_there(alloc, call, request)?;
+        let judged = self.judge(alloc, call, request)?;
         let Ok(verdict) = judged.verdict.copy() else {
             return Err((PlaneError::OutOfMemory, judged.into_request()));
         };
         let mut kept = shared.kept.lock(rt);
         let appended = self.append(&mut *kept, judged);
+        // The lock is held while the entry is put last, and no longer.
         drop(kept);
         match appended {
             Ok(()) => Ok(verdict),
             Err((error, judged)) => Err((error, judged.into_request())),
         }
+    }
+}
+
+/// Why nothing is seen.
+fn unseen(call: u64, error: ReaderError) -> PlaneError
+    ensures { IsUnseen call result }
+{
+    match error {
+        ReaderError::Fault(_) => PlaneError::Fault(PlaneFault::Gone(call)),
+        ReaderError::OutOfMemory => PlaneError::OutOfMemory,
     }
 }
 

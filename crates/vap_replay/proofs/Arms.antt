@@ -7,7 +7,7 @@ use Rattle.vap_read.specs.declared.event.Event.{Event}
 use Rattle.vap_request.specs.declared.request.Request.{Request}
 use Rattle.vap_lines.specs.Counted.{inner_of}
 use Rattle.vap_lines.specs.declared.counted.Counted.{Counted}
-use Rattle.vap_watch.specs.Places.{Position}
+use Rattle.vap_watch.specs.Places.{Written}
 use Rattle.vap_watch.specs.declared.log.Logged.{Logged}
 use Rattle.vap_audit.specs.Entries.{most_entries}
 use Rattle.vap_audit.specs.declared.entry.Entry.{Entry}
@@ -131,7 +131,7 @@ waits_last request old new room writer lines history group =
       log = writer;
       lines = lines;
       entries =
-          ap (λ (p : Position). new.history ++ group_entries p.published (length new.history) new.group.items) writer
+          ap (λ (p : Written). new.history ++ group_entries p.published (length new.history) new.group.items) writer
           ∙ (ap (λ (es : List Entry). es ++ group_entries log (length es) new.group.items) history
           ∙ (ap (λ (g : List Request). old.history ++ group_entries log n g) group
           ∙ (ap (λ (es : List Entry). old.history ++ es) last

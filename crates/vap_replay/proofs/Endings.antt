@@ -9,7 +9,7 @@ use Rattle.std.proofs.lemmas.List.{map-append, take-append-drop}
 use Rattle.vap_lines.specs.Counted.{inner_of}
 use Rattle.vap_lines.specs.Lines.{lines_of}
 use Rattle.vap_lines.specs.declared.counted.Counted.{Counted}
-use Rattle.vap_watch.specs.Places.{Position}
+use Rattle.vap_watch.specs.Places.{Written}
 use Rattle.vap_audit.specs.declared.entry.Entry.{Entry}
 use Rattle.vap_replay.specs.Moves.{IsRead, Reaches, after_lines}
 use Rattle.vap_replay.specs.Replay.{Choices, Replayed, answer_line, answers_text, audit_line, audit_lines, audit_where, beginning}
@@ -46,7 +46,7 @@ pub answered_same : (old new : Session) → Answered old new → sofar_of new �
 answered_same old new done =
     let none : (sofar_of new).entries ≡ new.history = none_waiting new done.none in
     ap (λ (n : ℕ). so_far n new.writer.published (sofar_of new).entries) done.lines
-    ∙ (ap (λ (w : Position). so_far old.lines w.published (sofar_of new).entries) done.log
+    ∙ (ap (λ (w : Written). so_far old.lines w.published (sofar_of new).entries) done.log
     ∙ ap (λ (es : List Entry). so_far old.lines old.writer.published es) (none ∙ done.entries))
 
 -- the input is read to its end, and the last group is answered

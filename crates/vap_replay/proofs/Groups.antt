@@ -6,7 +6,7 @@ use Rattle.vap_request.specs.declared.request.Request.{Request}
 use Rattle.vap_answer.specs.declared.verdict.Verdict.{Verdict}
 use Rattle.vap_plane.specs.Answers.{verdicts_at}
 use Rattle.vap_watch.specs.Logs.{verdict_at}
-use Rattle.vap_watch.specs.Places.{Position}
+use Rattle.vap_watch.specs.Places.{Written}
 use Rattle.vap_watch.specs.declared.log.Logged.{Logged}
 use Rattle.vap_audit.specs.declared.entry.Entry.{Entry}
 use Rattle.vap_replay.specs.Replay.{answer_line, answers_text, entry_of}
@@ -45,18 +45,18 @@ grown_length (x ∷ old) new e grown =
     let all : length new ≡ suc (length (old ++ e ∷ [])) = ap (λ (es : List Entry). length es) grown in
     omega (arith, all, grown_length old (old ++ e ∷ []) e refl)
 
-pub decided_next : (w v : Position) (old new : List Entry) (request : Request) (left rest : List Request) (all : List Entry) → v ≡ w
+pub decided_next : (w v : Written) (old new : List Entry) (request : Request) (left rest : List Request) (all : List Entry) → v ≡ w
     → new ≡ old ++ entry_of w.published (length old) request ∷ [] → left ≡ request ∷ rest
     → old ++ group_entries w.published (length old) left ≡ all → new ++ group_entries v.published (length new) rest ≡ all
 decided_next w v old new request left rest all same grown is so =
     let e : Entry = entry_of w.published (length old) request in
-    ap (λ (p : Position). new ++ group_entries p.published (length new) rest) same
+    ap (λ (p : Written). new ++ group_entries p.published (length new) rest) same
     ∙ (ap (λ (n : ℕ). new ++ group_entries w.published n rest) (grown_length old new e grown)
     ∙ (ap (λ (es : List Entry). es ++ group_entries w.published (length old + 1) rest) grown
     ∙ (append_assoc old (e ∷ []) (group_entries w.published (length old + 1) rest)
     ∙ (ap (λ (g : List Request). old ++ group_entries w.published (length old) g) (sym is) ∙ so))))
 
-pub told_next : (w v : Position) (old new : List Entry) (request : Request) (left rest : List Request) (text more all : List ℕ)
+pub told_next : (w v : Written) (old new : List Entry) (request : Request) (left rest : List Request) (text more all : List ℕ)
     → v ≡ w → new ≡ old ++ entry_of w.published (length old) request ∷ [] → left ≡ request ∷ rest
     → more ≡ text ++ answers_text (entry_of w.published (length old) request ∷ [])
     → text ++ answers_text (group_entries w.published (length old) left) ≡ all
@@ -64,7 +64,7 @@ pub told_next : (w v : Position) (old new : List Entry) (request : Request) (lef
 told_next w v old new request left rest text more all same grown is put so =
     let e : Entry = entry_of w.published (length old) request in
     let others : List Entry = group_entries w.published (length old + 1) rest in
-    ap (λ (p : Position). more ++ answers_text (group_entries p.published (length new) rest)) same
+    ap (λ (p : Written). more ++ answers_text (group_entries p.published (length new) rest)) same
     ∙ (ap (λ (n : ℕ). more ++ answers_text (group_entries w.published n rest)) (grown_length old new e grown)
     ∙ (ap (λ (l : List ℕ). l ++ answers_text others) put
     ∙ (append_assoc text (answers_text (e ∷ [])) (answers_text others)

@@ -1,6 +1,7 @@
 pub mod Arms
 pub mod Auditing
 pub mod Choosing
+pub mod Crews
 pub mod Endings
 pub mod Given
 pub mod Groups

@@ -8,7 +8,7 @@ use Rattle.vap_read.specs.declared.event.Event.{Event}
 use Rattle.vap_request.specs.declared.request.Request.{Request}
 use Rattle.vap_watch.specs.Given.{AreUnverified, Choice, takes}
 use Rattle.vap_watch.specs.Logs.{objects_after, objects_of, publication}
-use Rattle.vap_watch.specs.Places.{Position, at, most_events, objects_at}
+use Rattle.vap_watch.specs.Places.{Written, at, most_events, objects_at, place_of, writes}
 use Rattle.vap_watch.specs.declared.log.Logged.{Logged}
 use Rattle.failing.specs.declared.failed.Failed.{Failed}
 use Rattle.failing.specs.declared.failed.Failed.TheVariants as failed
@@ -106,12 +106,12 @@ took_review request old one new on writer lines entries choices agrees =
     let room : length es < most_entries = rw (← entries) on.room in
     let same : new.writer ≡ old.writer = on.log ∙ writer in
     let more : (sofar_of new).entries ≡ es ++ entry_of log (length es) request ∷ [] =
-    on.entries ∙ (ap (λ (w : Position). (sofar_of one).entries ++ entry_of w.published (length (sofar_of one).entries) request ∷ []) writer
+    on.entries ∙ (ap (λ (w : Written). (sofar_of one).entries ++ entry_of w.published (length (sofar_of one).entries) request ∷ []) writer
     ∙ ap (λ (l : List Entry). l ++ entry_of log (length l) request ∷ []) entries) in
     let all : List Entry = es ++ entry_of log (length es) request ∷ [] in
     ap (λ (b : Bool). if b then so_far (old.lines + 1) log all else Err fault.AuditFull) (lt-ltb (length es) most_entries room)
     ∙ (ap (λ (n : ℕ). so_far n log all) (sym (on.lines ∙ lines))
-    ∙ (ap (λ (w : Position). so_far new.lines w.published all) (sym same)
+    ∙ (ap (λ (w : Written). so_far new.lines w.published all) (sym same)
     ∙ ap (λ (l : List Entry). so_far new.lines new.writer.published l) (sym more)))
 
 -- a review that the history has no room for
@@ -149,11 +149,12 @@ unverified_only line (failed.Fault publishing.Unverified) number is = (cc, refl)
 unverified_only line failed.OutOfMemory number is = cc
 
 -- the objects after the one event that is staged
-pub one_staged : (old new : Position) (event : Event) → new ≡ at old.published (old.staged ++ event ∷ []) → old.staged ≡ []
-    → AreUnverified (objects_at new) → AreUnverified (objects_after (objects_of old.published) (event ∷ []))
+pub one_staged : (old new : Written) (event : Event) → new ≡ writes old.board (at old.published (old.staged ++ event ∷ []))
+    → old.staged ≡ [] → AreUnverified (objects_at (place_of new)) → AreUnverified (objects_after (objects_of old.published) (event ∷ []))
 one_staged old new event staged none are =
-    let one : new ≡ at old.published (event ∷ []) = staged ∙ ap (λ (es : List Event). at old.published (es ++ event ∷ [])) none in
-    subst (λ (p : Position). AreUnverified (objects_at p)) one are
+    let one : new ≡ writes old.board (at old.published (event ∷ []))
+    = staged ∙ ap (λ (es : List Event). writes old.board (at old.published (es ++ event ∷ []))) none in
+    subst (λ (w : Written). AreUnverified (objects_at (place_of w))) one are
 
 -- a fault is told of the lines alone or it is not
 pub not_both : (why : LineFault) → is_of_the_lines why ≡ false → is_of_the_lines why ≡ true → ⊥

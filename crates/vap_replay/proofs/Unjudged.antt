@@ -22,7 +22,7 @@ use Rattle.vap_lines.specs.declared.lines.Ending.{Ending}
 use Rattle.vap_lines.specs.declared.lines.Ending.TheVariants.{Feed, End, TooLong}
 use Rattle.vap_watch.specs.Given.{AreUnverified, MayMatch}
 use Rattle.vap_watch.specs.Logs.{objects_after, objects_of, set_of}
-use Rattle.vap_watch.specs.Places.{Position}
+use Rattle.vap_watch.specs.Places.{Written}
 use Rattle.vap_watch.specs.declared.log.Logged.{Logged}
 use Rattle.vap_replay.specs.Lines.{Reads, event_line, line_by, review_line}
 use Rattle.vap_replay.specs.Moves.{BeginsWith, IsReadAs, IsUnjudged, IsUnpublished, Waits, lines_ended}
@@ -84,7 +84,7 @@ pub last_waits : (old one : Session) (requests : List Request) → one.writer �
 last_waits old one requests writer group at = record {
   request = at.request;
   waits = subst (λ (rs : List Request). Contains rs at.request) group at.waits;
-  matches = subst (λ (p : Position). MayMatch (set_of p.published) at.request) writer at.matches;
+  matches = subst (λ (p : Written). MayMatch (set_of p.published) at.request) writer at.matches;
 }
 
 -- a request that waits with one more waited before, or is the line's
@@ -117,7 +117,7 @@ pub same_waits : (Is : LineOf → Type 0) (old new : Session) → new.writer ≡
 same_waits Is old new writer history group first some =
     let still : old.group.items ≢ [] = rw group at some in
     record {
-      log = ap (λ (p : Position). p.published) writer;
+      log = ap (λ (p : Written). p.published) writer;
       history = history;
       first = first ∙ sym (first_stays old.group.items old.first (old.lines + 1) still);
       review = λ none. absurd (still none);
@@ -134,7 +134,7 @@ pub asks_waits : {A E : Type 0} (r : Result A E) (line : LineOf) (request : Requ
 asks_waits (Ok x) line request old one new is writer history group first lines taken waits grown = λ some.
     let on = waits some in
     record {
-      log = ap (λ (p : Position). p.published) (taken.log ∙ writer);
+      log = ap (λ (p : Written). p.published) (taken.log ∙ writer);
       history = on.0 ∙ history;
       first = on.1 ∙ rw (group, first, lines) refl;
       review = λ none. (request, is);

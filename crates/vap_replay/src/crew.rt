@@ -1,6 +1,9 @@
 //! The workers of a replay.
 
-ghost use Rattle.std.specs.Prelude.{◌≡◌, ◌≢◌, ◌+◌, ◌<◌, ◌≤◌, ◌^◌, ℕ, [], false, length, vec_len, IfErr, IfOk, IfSome, IsErrOf};
+ghost use Rattle.std.specs.Prelude.{◌≡◌, ◌≢◌, ◌+◌, ◌<◌, ◌≤◌, ◌^◌, ℕ, [], false, true, length, vec_len};
+ghost use Rattle.std.specs.Prelude.{IfErr, IfOk, IfSome, IsErrOf};
+ghost use Rattle.std.specs.List.{All};
+ghost use Rattle.board.specs.Shown.{shows};
 ghost use Rattle.failing.specs.declared.failed.Failed.TheVariants.{Fault};
 ghost use Rattle.cel_machine.specs.declared.fault.RunFault.TheVariants.{Pattern};
 ghost use Rattle.vap_plane.specs.Answers.{verdicts_at};
@@ -16,32 +19,39 @@ use std::sync::ledger::{Blank, Ledger};
 use std::thread::Threads;
 use vap_answer::Verdict;
 use vap_judge::{JudgeError, Matchers, RunFault};
-use vap_plane::{Pass, Plan, PlaneError, PlaneFault, SharedHistory, Worker, run_workers_at};
+use vap_plane::{
+    Open, Pass, Plan, PlaneError, PlaneFault, SharedHistory, Worker, run_workers, told_to,
+};
 use vap_request::Request;
-use vap_watch::{ReaderError, ReaderFault, ReaderSource, Snapshot, revision_of};
+use vap_watch::{ReaderError, ReaderSource, Snapshot, Told, revision_of};
 
-/// The workers of a replay, which are made once, and the history that they share.
+/// The workers of a replay, which are made once, the history that they share, and a log that names the board that they read.
 #[derive(Drop)]
 pub(crate) struct Crew<'a, L: Plan, H> {
     pub(crate) rt: &'a H,
     alloc: Global,
     shared: SharedHistory<L>,
+    home: Told,
     workers: Vec<Worker<L>>,
     ghost some: { (1 ≤ vec_len workers) × (vec_len workers ≤ 16) },
+    ghost of_home: { All (λ w. w.reader.board ≡ home.board) workers.items },
 }
 
 impl<'a, L: Plan, H> Crew<'a, L, H> {
-    /// As many workers as the ledger has parts. A reader that has no place is reported at line 0.
+    /// As many workers as the ledger has parts, of the board that `home` names. A reader that has no place is reported at line 0.
     pub(crate) fn new(
         rt: &'a H,
         alloc: Global,
         source: &ReaderSource,
+        home: Told,
         blank: Blank,
         workers: u64,
     ) -> Result<Crew<'a, L, H>, ReplayError>
+        requires home { home.board ≡ source.now }
         requires name { blank.name ≡ L.name }
         requires parts { (blank.parts ≡ L.parts) × (blank.parts ≡ workers) }
         requires workers { (workers ≡ L.workers) × (1 ≤ workers) × (workers ≤ 16) }
+        ensures home { IfOk result (λ crew. crew.home ≡ home) }
         ensures lines { (number : ℕ) → (why : FaultOf) → IsErrOf result (ReplayError.Line number why) → is_of_the_lines why ≡ false }
         ensures unwritten { IfErr result (λ error. error ≢ ReplayError.Write) }
         ensures no_pattern { (number : ℕ) → IsErrOf result (ReplayError.Line number LineFault.Pattern) → ⊥ }
@@ -54,23 +64,28 @@ impl<'a, L: Plan, H> Crew<'a, L, H> {
             rt,
             alloc,
             shared,
+            home,
             workers,
         })
     }
 }
 
 impl<L: Plan + Send + Sync, H: Threads + Wait + Sync> Crew<'_, L, H> {
-    /// The verdicts on requests at the published snapshot, in order, when all are judged there and recorded: their calls are numbered
-    /// from `first`. A fault is reported at the line of the first of them. No request is no work for a worker.
+    /// The verdicts on requests at the published snapshot, which the workers are told of, in order, when all are judged there and
+    /// recorded: their calls are numbered from `first`. A fault is reported at the line of the first of them. No request is no work
+    /// for a worker.
     #[tactic(auto, using(crate::proofs::Groups::none_asked, crate::proofs::Tellings::tells_stray, crate::proofs::Tellings::tells_workers))]
     pub(crate) fn judge(
         &mut self,
         line: u64,
         first: u64,
+        told: &Told,
         snapshot: &Snapshot,
         requests: &[Request],
     ) -> Result<Vec<Verdict>, ReplayError>
         requires calls { first + length requests.now < 2 ^ 64 }
+        requires told { told.now ≡ shows self.old.home.board snapshot.now }
+        ensures home { self.new.home ≡ self.old.home }
         ensures verdicts { IfOk result (λ verdicts. verdicts.items ≡ verdicts_at snapshot.now requests.now) }
         ensures told { (number : ℕ) → (why : FaultOf) → IsErrOf result (ReplayError.Line number why)
             → TellsRequests line snapshot.now requests.now number why }
@@ -81,7 +96,7 @@ impl<L: Plan + Send + Sync, H: Threads + Wait + Sync> Crew<'_, L, H> {
             return Ok(Vec::new(self.alloc));
         }
         let sent = copies(self.alloc, requests)?;
-        match self.run(first, snapshot, sent) {
+        match self.run(first, told, snapshot, sent) {
             Ok(Some(verdicts)) => Ok(verdicts),
             Ok(None) => Err(ReplayError::Line {
                 line,
@@ -99,29 +114,34 @@ impl<L: Plan + Send + Sync, H: Threads + Wait + Sync> Crew<'_, L, H> {
         }
     }
 
-    /// The verdicts on requests at a snapshot; none if a worker met another snapshot, or the history that the workers share is not
-    /// what they answered.
+    /// The verdicts on requests at a snapshot, which the workers are told of; none if a worker met another snapshot, or the history
+    /// that the workers share is not what they answered.
     fn run(
         &mut self,
         first: u64,
+        told: &Told,
         snapshot: &Snapshot,
         requests: Vec<Request>,
     ) -> Result<Option<Vec<Verdict>>, PlaneError>
         requires calls { first + vec_len requests < 2 ^ 64 }
-        ensures { IfOk result (λ found. IfSome found (λ verdicts. verdicts.items ≡ verdicts_at snapshot.now requests.items)) }
+        requires told { told.now ≡ shows self.old.home.board snapshot.now }
+        ensures verdicts { IfOk result (λ found. IfSome found (λ verdicts. verdicts.items ≡ verdicts_at snapshot.now requests.items)) }
+        ensures home { self.new.home ≡ self.old.home }
     {
         let Crew {
             rt,
             alloc,
             shared,
             workers,
+            ..
         } = self;
         let (rt, alloc, shared) = (*rt, *alloc, &*shared);
-        let Some(verdicts) = run_workers_at(rt, alloc, workers, first, shared, snapshot, requests)?
-        else {
-            return Ok(None);
-        };
+        let told = told_to(alloc, told, workers.len())?;
+        let verdicts = run_workers(rt, alloc, workers, told, first, shared, requests, &Open)?;
         let revision = revision_of(snapshot);
+        if !are_at(verdicts.as_slice(), revision) {
+            return Ok(None);
+        }
         let kept = shared.kept.lock(rt);
         if is_recorded(alloc, kept.history(), first, revision, verdicts.as_slice())? {
             Ok(Some(verdicts))
@@ -131,6 +151,18 @@ impl<L: Plan + Send + Sync, H: Threads + Wait + Sync> Crew<'_, L, H> {
     }
 }
 
+/// Whether all verdicts name this revision.
+fn are_at(verdicts: &[Verdict], revision: usize) -> bool
+    ensures { result ≡ true → All (λ verdict. verdict.revision ≡ revision) verdicts.now }
+{
+    for verdict in verdicts {
+        if verdict.revision != revision as u64 {
+            return false;
+        }
+    }
+    true
+}
+
 /// A worker for each pass, with a reader of its own.
 fn manned<L: Ledger>(
     alloc: Global,
@@ -138,6 +170,7 @@ fn manned<L: Ledger>(
     passes: Vec<Pass<L>>,
 ) -> Result<Vec<Worker<L>>, ReplayError>
     ensures count { IfOk result (λ workers. vec_len workers ≡ vec_len passes) }
+    ensures board { IfOk result (λ workers. All (λ w. w.reader.board ≡ source.now) workers.items) }
     ensures lines { (number : ℕ) → (why : FaultOf) → IsErrOf result (ReplayError.Line number why) → is_of_the_lines why ≡ false }
     ensures unwritten { IfErr result (λ error. error ≢ ReplayError.Write) }
     ensures no_pattern { (number : ℕ) → IsErrOf result (ReplayError.Line number LineFault.Pattern) → ⊥ }
@@ -164,7 +197,7 @@ fn unmanned(error: ReaderError) -> ReplayError
     ensures no_read { result ≢ ReplayError.Read }
 {
     match error {
-        ReaderError::Fault(ReaderFault::NoPlace) => ReplayError::Line {
+        ReaderError::Fault(_) => ReplayError::Line {
             line: 0,
             fault: LineFault::NoPlace,
         },

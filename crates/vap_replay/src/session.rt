@@ -11,7 +11,6 @@ ghost use Rattle.vap_audit.specs.declared.entry.Entry.{Entry as EntryOf};
 ghost use Rattle.vap_plane.specs.Answers.{verdicts_at};
 ghost use Rattle.vap_watch.specs.Given.{AreUnverified};
 ghost use Rattle.vap_watch.specs.Logs.{objects_after, objects_of, verdict_at};
-ghost use Rattle.vap_watch.specs.Places.{at};
 ghost use Rattle.vap_replay.specs.Moves.{CountsWrites, IsRefusal, IsUnjudged, IsUnpublished, RefusesAt, StopsAt, Takes, Waits, Writes};
 ghost use Rattle.vap_replay.specs.Streams.{IsPlain, is_of_the_lines};
 ghost use Rattle.vap_replay.specs.declared.fault.LineFault.{LineFault as FaultOf};
@@ -43,8 +42,7 @@ use vap_watch::Writer;
 pub const LARGEST_GROUP: usize = 1_024;
 
 /// A replay under way: what reads its events, what is published, what was decided, by call, and the reviews that are read and not
-/// yet answered, with the line of the first of them.
-#[derive(Drop)]
+/// yet answered, with the line of the first of them. It is not `Drop`: give it up by [`Session::end`].
 pub(crate) struct Session {
     alloc: Global,
     events: EventReader,
@@ -56,23 +54,34 @@ pub(crate) struct Session {
 }
 
 impl Session {
-    pub(crate) fn new(alloc: Global, writer: Writer) -> Result<Session, ReplayError>
-        requires { writer ≡ at [] [] }
-        ensures opening { IfOk result IsOpening }
-        ensures lines { (number : ℕ) → (why : FaultOf) → IsErrOf result (ReplayError.Line number why) → is_of_the_lines why ≡ false }
-        ensures unwritten { IfErr result (λ error. error ≢ ReplayError.Write) }
-        ensures no_line { (number : ℕ) → (why : FaultOf) → IsErrOf result (ReplayError.Line number why) → ⊥ }
-        ensures no_read { IsErrOf result ReplayError.Read → ⊥ }
+    pub(crate) fn new(alloc: Global, events: EventReader, writer: Writer) -> Session
+        requires { (writer.published ≡ []) × (writer.staged ≡ []) }
+        ensures opening { IsOpening result }
+        ensures writer { result.writer ≡ writer }
     {
-        Ok(Session {
+        Session {
             alloc,
-            events: EventReader::new(alloc)?,
+            events,
             writer,
             history: History::new(alloc),
             group: Vec::new(alloc),
             lines: 0,
             first: 0,
-        })
+        }
+    }
+
+    /// Gives up what is published, and what was decided.
+    pub(crate) fn end<H: Wait>(self, rt: &H) {
+        let Session {
+            alloc: _,
+            events: _events,
+            writer,
+            history: _history,
+            group: _group,
+            lines: _,
+            first: _,
+        } = self;
+        writer.end(rt);
     }
 
     /// What the bytes of a line are, which has no more than it may have.
@@ -101,7 +110,9 @@ impl Session {
         out: &mut Counted<W>,
     ) -> Result<(), ReplayError>
         requires step { IsInStep self.old }
+        requires home { crew.old.home.board ≡ self.old.writer.board }
         requires count { self.old.lines + 1 < 2 ^ 64 }
+        ensures home { OnOk result (crew.new.home.board ≡ self.new.writer.board) }
         ensures step { OnOk result (IsInStep self.new) }
         ensures taken { OnOk result (Takes line self.old self.new) }
         ensures written { OnOk result (Writes W.contents self.old self.new out.old out.new) }
@@ -136,7 +147,8 @@ impl Session {
         fault: LineFault,
         out: &mut Counted<W>,
     ) -> Result<(), ReplayError>
-        requires { IsInStep self.old }
+        requires step { IsInStep self.old }
+        requires home { crew.old.home.board ≡ self.old.writer.board }
         ensures refused { IsErr result }
         ensures told { (number : ℕ) → (why : FaultOf) → is_of_the_lines why ≡ true → IsErrOf result (ReplayError.Line number why)
             → IsRefusal W.contents fault self.old out.old out.new number why }
@@ -155,6 +167,7 @@ impl Session {
     fn take_event<H: Wait>(&mut self, rt: &H, event: Event) -> Result<(), ReplayError>
         requires published { self.old.writer.staged ≡ [] }
         ensures published { OnOk result (self.new.writer.staged ≡ []) }
+        ensures board { OnOk result (self.new.writer.board ≡ self.old.writer.board) }
         ensures taken { OnOk result (TakesEvent self.old.writer.published event self.new.writer.published) }
         ensures refused { (number : ℕ) → (why : FaultOf) → is_of_the_lines why ≡ true → IsErrOf result (ReplayError.Line number why)
             → (number ≡ self.old.lines) × RefusesEvent self.old.writer.published event why }
@@ -184,6 +197,8 @@ impl Session {
         out: &mut Counted<W>,
     ) -> Result<(), ReplayError>
         requires step { IsInStep self.old }
+        requires home { crew.old.home.board ≡ self.old.writer.board }
+        ensures home { OnOk result (crew.new.home.board ≡ self.new.writer.board) }
         ensures step { OnOk result (IsInStep self.new) }
         ensures taken { OnOk result (TakesReview request self.old self.new) }
         ensures written { OnOk result (Writes W.contents self.old self.new out.old out.new) }
@@ -249,6 +264,8 @@ impl Session {
         out: &mut Counted<W>,
     ) -> Result<(), ReplayError>
         requires room { HasRoom self.old }
+        requires home { crew.old.home.board ≡ self.old.writer.board }
+        ensures home { OnOk result (crew.new.home.board ≡ self.new.writer.board) }
         ensures answered { OnOk result (Answered self.old self.new) }
         ensures written { OnOk result (Appends (W.contents (inner_of out.old)) (W.contents (inner_of out.new))
             (answers_text (waiting_entries self.old))) }
@@ -268,6 +285,8 @@ impl Session {
         crew: &mut Crew<'_, L, H>,
     ) -> Result<String, ReplayError>
         requires room { HasRoom self.old }
+        requires home { crew.old.home.board ≡ self.old.writer.board }
+        ensures home { OnOk result (crew.new.home.board ≡ self.new.writer.board) }
         ensures answered { OnOk result (Answered self.old self.new) }
         ensures text { IfOk result (λ text. string_bytes text
             ≡ answers_text (waiting_entries self.old)) }
@@ -278,7 +297,8 @@ impl Session {
     {
         let first = self.history.len() as u64;
         let snapshot = self.writer.snapshot();
-        let verdicts = crew.judge(self.first, first, snapshot, self.group.as_slice())?;
+        let told = self.writer.tell();
+        let verdicts = crew.judge(self.first, first, &told, snapshot, self.group.as_slice())?;
         let group = mem::replace(&mut self.group, Vec::new(self.alloc));
         let text = self.decide_all(group, verdicts)?;
         Ok(text)

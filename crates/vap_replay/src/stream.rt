@@ -24,6 +24,7 @@ use std::sync::ledger::Blank;
 use std::thread::Threads;
 use vap_lines::{Counted, Ending, LineReader};
 use vap_plane::Plan;
+use vap_read::EventReader;
 use vap_watch::{open, revision_of};
 
 /// The most workers.
@@ -146,7 +147,51 @@ fn replay_as<L: Plan + Send + Sync, H: Threads + Wait + Sync, R: Read, W: Write,
     ensures no_failure { OnOk result ((failures_of input.new ≡ failures_of input.old) × (failures_of output.new ≡ failures_of output.old)) }
 {
     let (mut session, mut crew) = opened::<L, H>(rt, alloc, blank, workers)?;
-    take_all(alloc, &mut session, &mut crew, input, output, progress)?;
+    let replayed = replay_all(
+        alloc,
+        &mut session,
+        &mut crew,
+        input,
+        output,
+        audit,
+        progress,
+    );
+    session.end(rt);
+    replayed
+}
+
+/// Takes all lines, and writes the audit if it is wanted.
+fn replay_all<L: Plan + Send + Sync, H: Threads + Wait + Sync, R: Read, W: Write, P: Progress>(
+    alloc: Global,
+    session: &mut Session,
+    crew: &mut Crew<'_, L, H>,
+    input: &mut Counted<R>,
+    output: &mut Counted<W>,
+    audit: bool,
+    progress: &mut P,
+) -> Result<(), ReplayError>
+    requires opening { IsOpening session.old }
+    requires home { crew.old.home.board ≡ session.old.writer.board }
+    requires reads { failures_of input.old < 2 ^ 64 - 1 }
+    requires writes { failures_of output.old < 2 ^ 64 - 1 }
+    ensures all_read { OnOk result (IsAtEnd (R.remaining (inner_of input.new))) }
+    ensures all_written { OnOk result (IfSome (R.remaining (inner_of input.old))
+        (λ bytes. Replays audit bytes (W.contents (inner_of output.old)) (W.contents (inner_of output.new)))) }
+    ensures refused { (line : ℕ) → (fault : FaultOf) → is_of_the_lines fault ≡ true → IsErrOf result (ReplayError.Line line fault)
+        → IfSome (R.remaining (inner_of input.old)) (λ bytes.
+        Refuses audit bytes (W.contents (inner_of output.old)) (W.contents (inner_of output.new)) (record { line = line; fault = fault })) }
+    ensures stopped { IfErr result (λ error. error ≢ ReplayError.Write → IfSome (R.remaining (inner_of input.old)) (λ bytes.
+        Stops audit bytes (W.contents (inner_of output.old)) (W.contents (inner_of output.new)))) }
+    ensures write { IsErrOf result ReplayError.Write → failures_of output.new ≡ failures_of output.old + 1 }
+    ensures pattern { (line : ℕ) → IsErrOf result (ReplayError.Line line LineFault.Pattern) → IfSome (R.remaining (inner_of input.old))
+        (λ bytes. IsUnansweredAt bytes (W.contents (inner_of output.old)) (W.contents (inner_of output.new)) line) }
+    ensures unverified { (line : ℕ) → IsErrOf result (ReplayError.Line line LineFault.Unverified)
+        → IfSome (R.remaining (inner_of input.old))
+        (λ bytes. IsUnverifiedAt bytes (W.contents (inner_of output.old)) (W.contents (inner_of output.new)) line) }
+    ensures read { IsErrOf result ReplayError.Read → StopsReading R.remaining input.old input.new }
+    ensures no_failure { OnOk result ((failures_of input.new ≡ failures_of input.old) × (failures_of output.new ≡ failures_of output.old)) }
+{
+    take_all(alloc, session, crew, input, output, progress)?;
     session.finish(audit, output)
 }
 
@@ -161,16 +206,24 @@ fn opened<'a, L: Plan + Send + Sync, H: Threads + Wait + Sync>(
     requires parts { (blank.parts ≡ L.parts) × (blank.parts ≡ workers) × (workers ≡ L.workers) }
     requires workers { (1 ≤ workers) × (workers ≤ 16) }
     ensures opening { IfOk result (λ made. IsOpening made.0) }
+    ensures home { IfOk result (λ made. made.1.home.board ≡ made.0.writer.board) }
     ensures lines { (number : ℕ) → (why : FaultOf) → IsErrOf result (ReplayError.Line number why) → is_of_the_lines why ≡ false }
     ensures unwritten { IfErr result (λ error. error ≢ ReplayError.Write) }
     ensures no_pattern { (number : ℕ) → IsErrOf result (ReplayError.Line number LineFault.Pattern) → ⊥ }
     ensures no_image { (number : ℕ) → IsErrOf result (ReplayError.Line number LineFault.Unverified) → ⊥ }
     ensures no_read { IsErrOf result ReplayError.Read → ⊥ }
 {
-    let (writer, source) = open(alloc, workers as usize)?;
-    let session = Session::new(alloc, writer)?;
-    let crew = Crew::<L, H>::new(rt, alloc, &source, blank, workers)?;
-    Ok((session, crew))
+    let events = EventReader::new(alloc)?;
+    let (writer, source) = open(rt, alloc, workers as usize)?;
+    let home = writer.tell();
+    let session = Session::new(alloc, events, writer);
+    match Crew::<L, H>::new(rt, alloc, &source, home, blank, workers) {
+        Ok(crew) => Ok((session, crew)),
+        Err(error) => {
+            session.end(rt);
+            Err(error)
+        }
+    }
 }
 
 /// Takes each line up to the end of the input, and answers the last group.
@@ -183,6 +236,7 @@ fn take_all<L: Plan + Send + Sync, H: Threads + Wait + Sync, R: Read, W: Write, 
     progress: &mut P,
 ) -> Result<(), ReplayError>
     requires opening { IsOpening session.old }
+    requires home { crew.old.home.board ≡ session.old.writer.board }
     ensures all { OnOk result (IsRead R.remaining W.contents input.old output.old input.new output.new session.new) }
     ensures refused { (number : ℕ) → (why : FaultOf) → is_of_the_lines why ≡ true → IsErrOf result (ReplayError.Line number why)
         → (audit : Bool) → IfSome (R.remaining (inner_of input.old)) (λ bytes.
@@ -222,7 +276,9 @@ fn take_next<L: Plan + Send + Sync, H: Threads + Wait + Sync, R: Read, W: Write>
     output: &mut Counted<W>,
 ) -> Result<Ending, ReplayError>
     requires step { IsInStep session.old }
+    requires home { crew.old.home.board ≡ session.old.writer.board }
     requires count { session.old.lines + 1 < 2 ^ 64 }
+    ensures home { OnOk result (crew.new.home.board ≡ session.new.writer.board) }
     ensures step { OnOk result (IsInStep session.new) }
     ensures taken { IfOk result (λ ending. TakesNext (unread R.remaining input.old reader.old) (unread R.remaining input.new reader.new)
         ending session.old session.new) }
@@ -262,8 +318,10 @@ fn take_bytes<L: Plan + Send + Sync, H: Threads + Wait + Sync, W: Write>(
     output: &mut Counted<W>,
 ) -> Result<(), ReplayError>
     requires step { IsInStep session.old }
+    requires home { crew.old.home.board ≡ session.old.writer.board }
     requires short { length bytes.now ≤ longest_line }
     requires count { session.old.lines + 1 < 2 ^ 64 }
+    ensures home { OnOk result (crew.new.home.board ≡ session.new.writer.board) }
     ensures step { OnOk result (IsInStep session.new) }
     ensures taken { OnOk result (Advances ending bytes.now session.old session.new) }
     ensures written { OnOk result (Writes W.contents session.old session.new output.old output.new) }
@@ -297,8 +355,10 @@ fn take_last<L: Plan + Send + Sync, H: Threads + Wait + Sync, W: Write>(
     output: &mut Counted<W>,
 ) -> Result<(), ReplayError>
     requires step { IsInStep session.old }
+    requires home { crew.old.home.board ≡ session.old.writer.board }
     requires short { length bytes.now ≤ longest_line }
     requires count { session.old.lines + 1 < 2 ^ 64 }
+    ensures home { OnOk result (crew.new.home.board ≡ session.new.writer.board) }
     ensures step { OnOk result (IsInStep session.new) }
     ensures taken { OnOk result (Advances Ending.End bytes.now session.old session.new) }
     ensures written { OnOk result (Writes W.contents session.old session.new output.old output.new) }

@@ -140,6 +140,7 @@ impl Desk {
     #[tactic(auto, using(crate::proofs::Publication::next_published, crate::proofs::Publication::objects_behind, crate::proofs::Publication::length_behind))]
     pub(crate) fn accept(&mut self, next: Snapshot) -> usize
         requires { IsNext self.old next }
+        ensures is { self.new ≡ at next [] }
         ensures all { Publishes self.old self.new }
         ensures revision { result ≡ length self.new.published }
     {

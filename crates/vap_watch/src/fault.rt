@@ -1,4 +1,4 @@
-//! Why an event is not staged, why nothing is published, and why there is no reader.
+//! Why an event is not staged, why nothing is published, and why there is no reader, or why one sees nothing.
 
 ghost use Rattle.std.specs.Prelude.{◌≡◌};
 
@@ -38,12 +38,14 @@ impl From<BuildFault> for PublishFault {
 /// Why nothing is published.
 pub type PublishError = Failed<PublishFault>;
 
-/// Why there is no reader.
+/// The faults of readers by their numbers, from 1 on.
 #[derive(Clone, Copy, Debug, PartialEq, Eq, Error)]
 pub enum ReaderFault {
     #[error("there are as many readers as there may be")]
     NoPlace,
+    #[error("the writer is gone")]
+    Gone,
 }
 
-/// Why there is no reader.
+/// Why there is no reader, or why one sees nothing.
 pub type ReaderError = Failed<ReaderFault>;

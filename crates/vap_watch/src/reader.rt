@@ -1,122 +1,141 @@
-//! Readers, which enter at what is published.
+//! Readers, which look at what is published.
 
-ghost use Rattle.std.specs.Prelude.{◌≡◌, ◌≢◌, [], false, length, IfOk, MatchOption, OnErr};
+ghost use Rattle.std.specs.Prelude.{◌≡◌, [], false, IfOk, OnErr, OnOk};
+ghost use Rattle.board.specs.Begins.{StartsWith};
+ghost use Rattle.vap_watch.specs.Seen.{Learns, Looks, SeesMore, knows};
 
 use crate::fault::{ReaderError, ReaderFault};
-use crate::snapshot::{Snapshot, revision_of};
-use std::alloc::{AllocError, Global};
+use crate::pool::{Lent, Pool};
+use crate::posted::Posted;
+use crate::snapshot::Snapshot;
+use crate::told::Told;
 use std::marker::Model;
-use std::sync::{Arc, RwLock, Wait};
 
-/// The published snapshot, which the writer replaces and readers look at.
-pub(crate) type Board = Arc<RwLock<Snapshot>>;
-
-/// Makes readers, no more at a time than there are places.
-#[derive(Drop)]
-pub struct ReaderSource {
-    board: Board,
-    places: Arc<usize>,
-    alloc: Global,
-}
-
-/// Enters at what is published. It keeps a share of the snapshot that it saw last, and so that set, until it sees another.
-/// Contracts see it as the log of this snapshot, which has no event at first.
+/// Looks at what is published. It keeps a share of the snapshot that it saw last, until it sees another. Contracts see it as the board
+/// that it reads, the log of that snapshot and the longest log that it was told of.
 #[derive(Drop)]
 pub struct Reader {
-    board: Board,
-    /// A share of the places: there are as many owners of them, beside the source, as readers.
-    place: Arc<usize>,
-    seen: Snapshot,
+    lent: Lent,
+    seen: Posted,
+    told: Told,
 }
 
 impl Model for Reader {
-    ghost use Rattle.std.specs.Prelude.{List};
+    ghost use Rattle.std.specs.Prelude.{◌≡◌};
+    ghost use Rattle.vap_watch.specs.Seen.{Follows, Known, knows};
     ghost use Rattle.std.specs.Coded.{codes};
     ghost use Rattle.vap_read.specs.contracts.event.Event as event;
     ghost use Rattle.vap_watch.specs.declared.log.Logged.{Logged};
 
-    ghost Value = { List Logged };
+    ghost Value = { Known Logged };
 
     ghost coded = { Prim.hlevel (codes, event.the_row.coded) };
 
-    ghost view = { λ reader. reader.seen };
+    ghost view = { λ s. knows s.told.board s.seen.list s.told.list };
+
+    ghost invariant = { λ s. Follows s.lent s.seen × (s.seen.board ≡ s.told.board) };
+}
+
+/// Makes readers, no more at a time than there are places. Contracts see it as the board that they read.
+#[derive(Drop)]
+pub struct ReaderSource {
+    pool: Pool,
+    told: Told,
+    opening: Posted,
+}
+
+impl Model for ReaderSource {
+    ghost use Rattle.std.specs.Prelude.{◌≡◌, []};
+    ghost use Rattle.logbook.specs.Pages.{Book, book_coded};
+
+    ghost Value = { Book };
+
+    ghost coded = { book_coded };
+
+    ghost view = { λ s. s.told.board };
+
+    ghost invariant = { λ s. (s.told.list ≡ []) × (s.opening.list ≡ []) × (s.pool.board ≡ s.told.board)
+        × (s.opening.board ≡ s.told.board) };
 }
 
 impl ReaderSource {
-    pub(crate) fn new(
-        alloc: Global,
-        board: Board,
-        places: usize,
-    ) -> Result<ReaderSource, AllocError> {
-        Ok(ReaderSource {
-            board,
-            places: Arc::new(alloc, places)?,
-            alloc,
-        })
+    pub(crate) fn new(pool: Pool, told: Told, opening: Posted) -> ReaderSource
+        requires empty { (told.list ≡ []) × (opening.list ≡ []) }
+        requires board { (pool.board ≡ told.board) × (opening.board ≡ told.board) }
+        ensures { result ≡ told.board }
+    {
+        ReaderSource {
+            pool,
+            told,
+            opening,
+        }
     }
 
-    /// A reader that has seen no event. It is refused while there are as many readers as places.
+    /// A reader that has seen the empty log. It is refused while there are as many readers as places.
+    #[tactic(auto, using(crate::proofs::Grows::follows_empty))]
     pub fn reader(&self) -> Result<Reader, ReaderError>
-        ensures { IfOk result (λ reader. reader ≡ []) }
+        ensures { IfOk result (λ r. r ≡ knows self.now [] []) }
     {
-        if Arc::strong_count(&self.places) > *self.places {
+        let Some(lent) = self.pool.take()? else {
             return Err(ReaderError::Fault(ReaderFault::NoPlace));
-        }
+        };
         Ok(Reader {
-            board: Arc::try_clone(&self.board)?,
-            place: Arc::try_clone(&self.places)?,
-            seen: Snapshot::opening(self.alloc)?,
+            lent,
+            seen: self.opening.share()?,
+            told: self.told.again(),
         })
     }
 }
 
 impl Reader {
-    /// The published snapshot, which the reader has then seen.
-    pub fn enter<R: Wait>(&mut self, rt: &R) -> Result<Snapshot, AllocError>
-        ensures { IfOk result (λ snapshot. snapshot ≡ self.new) }
-    {
-        self.look(rt)?;
-        self.seen.share()
-    }
-
-    /// Takes in what is published, and answers whether it is another snapshot than the one that was seen last. The lock is held
-    /// while two numbers are compared, and where they differ while two owners more are counted.
-    pub fn look<R: Wait>(&mut self, rt: &R) -> Result<bool, AllocError>
-        ensures seen { IfOk result (λ another. another ≡ false → self.new ≡ self.old) }
+    /// Takes in what is published, as of one moment of the call, and answers whether it is another snapshot than the one that was seen
+    /// last. Its log begins with the one that was seen last and with all that this reader was told of. It is refused as `Gone` where
+    /// the publisher is gone.
+    #[tactic(auto, using(crate::proofs::Grows::looks_still, crate::proofs::Grows::looks_further, crate::proofs::Grows::follows_further))]
+    pub fn look(&mut self) -> Result<bool, ReaderError>
+        ensures seen { OnOk result (Looks self.old self.new) }
+        ensures same { IfOk result (λ another. another ≡ false → self.new ≡ self.old) }
         ensures refused { OnErr result (self.new ≡ self.old) }
     {
-        let Some(published) = newer(&*self.board.read(rt), &self.seen)? else {
+        let Some(found) = self.lent.enter(&self.seen) else {
+            return Err(ReaderError::Fault(ReaderFault::Gone));
+        };
+        // No run comes to a log that stands before one that was told.
+        let Some(newer) = found? else {
+            if !self.told.begins(self.seen.note()) {
+                return Err(ReaderError::Fault(ReaderFault::Gone));
+            }
             return Ok(false);
         };
-        self.seen = published;
+        if !self.told.begins(newer.note()) {
+            return Err(ReaderError::Fault(ReaderFault::Gone));
+        }
+        self.seen = newer;
         Ok(true)
-    }
-
-    /// Is shown a snapshot, which the reader has then seen. It is to be one of the writer that the reader was opened with, so that
-    /// its revision names it.
-    pub fn see(&mut self, snapshot: Snapshot)
-        ensures { self.new ≡ snapshot }
-    {
-        self.seen = snapshot;
     }
 
     /// The snapshot that was seen last.
     pub fn seen(&self) -> &Snapshot
-        ensures { result.now ≡ self.now }
+        ensures { result.now ≡ self.now.seen }
     {
-        &self.seen
+        self.seen.snapshot()
     }
-}
 
-/// A share of the published snapshot where it is another than the one that was seen: of one writer's snapshots no two have one
-/// revision.
-fn newer(published: &Snapshot, seen: &Snapshot) -> Result<Option<Snapshot>, AllocError>
-    ensures { IfOk result (λ newer. MatchOption newer (length published.now ≡ length seen.now)
-        (λ snapshot. (snapshot ≡ published.now) × (length published.now ≢ length seen.now))) }
-{
-    if revision_of(published) == revision_of(seen) {
-        Ok(None)
-    } else {
-        Ok(Some(published.share()?))
+    /// A share of what is published, as of one moment of the call, which the reader has then seen.
+    pub fn enter(&mut self) -> Result<Snapshot, ReaderError>
+        ensures seen { IfOk result (λ snapshot. snapshot ≡ self.new.seen) }
+        ensures told { OnOk result (Looks self.old self.new) }
+        ensures refused { OnErr result (SeesMore self.old self.new) }
+    {
+        self.look()?;
+        Ok(self.seen.snapshot().share()?)
+    }
+
+    /// Takes in what a publisher told: from now on what the reader sees begins with it.
+    pub fn learn(&mut self, told: Told)
+        requires { told.board ≡ self.old.board }
+        ensures { Learns self.old self.new told.list }
+    {
+        self.told = self.told.again().later(told);
     }
 }

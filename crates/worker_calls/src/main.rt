@@ -1,9 +1,10 @@
 //! Makes the calls on a writer and its workers that lines ask for, and prints what each answers: what desks publish, sets after events,
-//! histories, lists of steps, and what workers do side by side.
+//! histories, lists of steps, what readers see, and what workers do side by side.
 #![tactic(auto)]
 
 mod desks;
 mod histories;
+mod readers;
 mod sets;
 mod steps;
 mod workers;
@@ -40,6 +41,7 @@ fn answer_to<R: Threads + Wait + Clock + Sync>(
 ) -> Result<String, AllocError> {
     match asked.part {
         "desks" => desks::answer(alloc, asked),
+        "readers" => readers::answer(rt, alloc, asked),
         "sets" => sets::answer(alloc, asked),
         "histories" => histories::answer(alloc, asked),
         "steps" => steps::answer(alloc, asked),

@@ -5,7 +5,7 @@ use crate::expressions::made::{Wanted, verified};
 use calls_notation::{json, parts_of, put, put_type, put_types, type_of, types_of, unreadable};
 use cel_check::TextOperator;
 use cel_code::{Image, Instr, Target, loop_kind, loop_number};
-use cel_parse::Loop;
+use cel_tree::Loop;
 use cel_value::{CelType, Value};
 use json_members::items_in;
 use plain::Items;

@@ -2,7 +2,8 @@
 //! inside, each behind a space and in brackets.
 
 use calls_notation::{Asked, unknown, unreadable};
-use cel_parse::{BinaryOperator, Entry, Expr, Loop, ParseError, Syntax, UnaryOperator, parse};
+use cel_parse::{ParseError, parse};
+use cel_tree::{BinaryOperator, Entry, Expr, Loop, Syntax, UnaryOperator};
 use std::alloc::{AllocError, Global};
 
 /// The answer to a call of trees.

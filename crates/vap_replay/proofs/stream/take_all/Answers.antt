@@ -48,6 +48,7 @@ loop-session-preserved g c =
     let feed : c.loop-session.ending ≡ Feed = search rules in
     record {
       step = on.step;
+      home = on.home;
       taken =
           taken_next c.in_ok-ending.ending (g.R.Read.remaining (inner_of c.args.input.now))
           (unread g.R.Read.remaining c.loop-session.input c.loop-session.reader)

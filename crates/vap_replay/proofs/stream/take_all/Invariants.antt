@@ -12,6 +12,7 @@ use Rattle.vap_replay.proofs.stream.take_all.Given as goal
 abbrev pub invariant-loop-session : goal.invariant-loop-session
 invariant-loop-session g l = record {
   step : IsInStep l.session;
+  home : l.crew.home.board ≡ l.session.writer.board;
   taken : Taken (g.R.Read.remaining (inner_of l.fn.input)) (unread g.R.Read.remaining l.input l.reader) l.session;
   ended : l.ending ≢ Feed → IsAtEnd (unread g.R.Read.remaining l.input l.reader);
   written : Appends (g.W.Write.contents (inner_of l.fn.output)) (g.W.Write.contents (inner_of l.output)) (answers_text l.session.history);

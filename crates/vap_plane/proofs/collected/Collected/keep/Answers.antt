@@ -1,7 +1,9 @@
-use Rattle.vap_plane.proofs.Replies.{kept_more}
+use Rattle.std.proofs.lemmas.Result.{on_ok_weaker}
+use Rattle.vap_plane.proofs.Replies.{more_right}
 use Rattle.vap_plane.proofs.collected.Collected.keep.Goals as goal
 
 pub returns : goal.returns
 returns g c =
-    kept_more g.B.Batch.log c.args.answers.log g.B.Batch.requests _ _ _ _ _ _ c.requires c.parts-verdicts.ensures.at
-    c.parts-verdicts.ensures.shown c.are_both-self.ensures c.in_ok-append.ensures
+    on_ok_weaker c.append.result
+    (λ whole. more_right g.B.Batch.told g.B.Batch.requests c.args.self.now.answers.items c.into_verdicts.result.items
+    c.append.new.kept.items c.requires c.into_verdicts.ensures.right whole) c.append.ensures

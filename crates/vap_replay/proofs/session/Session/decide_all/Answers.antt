@@ -2,7 +2,7 @@ use Rattle.std.proofs.Common.{◌≡◌, ◌∷◌, ap, sym, ◌∙◌}
 use Rattle.std.specs.Prelude.{string_bytes}
 use Rattle.std.specs.Vec.Iter.{into_iter_items}
 use Rattle.vap_watch.specs.Logs.{verdict_at}
-use Rattle.vap_watch.specs.Places.{Position}
+use Rattle.vap_watch.specs.Places.{Written}
 use Rattle.vap_replay.proofs.Groups.{decided_next, history_next, some_left, told_next, verdicts_next}
 use Rattle.vap_replay.proofs.session.Session.decide_all.Goals as goal
 
@@ -18,7 +18,7 @@ decide-requires-clause-right c =
     (into_iter_items c.next.new.self) c.in-Some.request (into_iter_items c.loop-request.answers)
     (into_iter_items c.next_of-verdict.new.verdicts) c.next_of-verdict.result c.in-Some.ensures.steps.0 inv.verdicts
     c.next_of-verdict.ensures).0
-    ∙ ap (λ (p : Position). verdict_at p.published c.in-Some.request) (sym inv.log)
+    ∙ ap (λ (p : Written). verdict_at p.published c.in-Some.request) (sym inv.log)
 
 pub loop-request-preserved : goal.loop-request-preserved
 loop-request-preserved c =

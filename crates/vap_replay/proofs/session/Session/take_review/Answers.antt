@@ -2,7 +2,7 @@ use Rattle.std.proofs.Common.{◌≡◌, List, refl, rules, sym, subst, ap, ◌�
 use Rattle.std.specs.Prelude.{IsErrOf}
 use Rattle.std.proofs.lemmas.Result.{err_from_is_err_and}
 use Rattle.vap_request.specs.declared.request.Request.{Request}
-use Rattle.vap_watch.specs.Places.{Position}
+use Rattle.vap_watch.specs.Places.{Written}
 use Rattle.vap_replay.specs.Groups.{OneMayMatch}
 use Rattle.vap_replay.specs.declared.fault.LineFault.TheVariants.{Pattern, Unverified}
 use Rattle.vap_replay.specs.declared.fault.ReplayError.TheVariants.{Line}
@@ -20,7 +20,7 @@ pub returns-in_ok-answer_group-clause-step : goal.returns-in_ok-answer_group-cla
 returns-in_ok-answer_group-clause-step g c =
     let done = c.in_ok-answer_group.ensures.answered in
     answered_step c.wait.new.self c.answer_group.new.self c.in_ok-wait.ensures.room done
-    (ap (λ (p : Position). p.staged) (done.log ∙ c.in_ok-wait.ensures.taken.log) ∙ c.requires.step.published)
+    (ap (λ (p : Written). p.staged) (done.log ∙ c.in_ok-wait.ensures.taken.log) ∙ c.requires.step.published)
 
 pub returns-in_ok-answer_group-clause-taken : goal.returns-in_ok-answer_group-clause-taken
 returns-in_ok-answer_group-clause-taken g c =
@@ -61,7 +61,7 @@ returns-in_err-answer_group-clause-asked g c =
     let same : IsErrOf c.answer_group.result (Line number Pattern) = cc (c.in_err-answer_group.was) in
     let looked = (c.answer_group.ensures.pattern number Pattern same).one refl in
     subst (λ (rs : List Request). OneMayMatch c.args.self.now.writer.published rs) c.in_ok-wait.ensures.group
-    (subst (λ (p : Position). OneMayMatch p.published c.wait.new.self.group.items) c.in_ok-wait.ensures.taken.log looked)
+    (subst (λ (p : Written). OneMayMatch p.published c.wait.new.self.group.items) c.in_ok-wait.ensures.taken.log looked)
 
 pub returns-in_err-answer_group-clause-no_image :
     goal.returns-in_err-answer_group-clause-no_image

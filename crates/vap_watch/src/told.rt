@@ -1,0 +1,6 @@
+//! What a reader learns.
+
+use crate::log::Logged;
+
+/// Names a published log. Contracts see it as the board of its writer and the log.
+pub type Told = board::Told<Logged>;
