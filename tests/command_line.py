@@ -81,6 +81,7 @@ FILES = [
     (RULE.read_bytes().replace(b"size(x)", b"length(x)"), 1, b"refused: NoOverload at 25\n", b" " * 25 + b"^\n"),
     (RULE.read_bytes().replace(b'"type": "string"', b'"type": "text"'), 1, b"refused: BadKeyword\n", IN_ITEMS + b".items.type: "),
     (RULE.read_bytes().replace(b"50", b'"50"'), 1, b"refused: BadKeyword\n", IN_ITEMS + b".items.maxLength: "),
+    (RULE.read_bytes().replace(b'"maxLength": 50', b'"format": 5'), 1, b"refused: BadKeyword\n", IN_ITEMS + b".items.format: "),
     (RULE.read_bytes().replace(b'"type": "array",', b""), 1, b"refused: NoType\n", IN_ITEMS + b": "),
     (RULE.read_bytes().replace(b'"schema": {', b'"schema": {"$ref": "", '), 1, b"refused: BadKeyword\n", b"schema.$ref: "),
     (b'{"schema": [], "expression": "1"}', 1, b"refused: BadKeyword\n", b"schema: "),

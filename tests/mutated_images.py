@@ -1,5 +1,5 @@
 #!/usr/bin/env python3
-"""Changes the images of tests/vectors/image.jsonl at random, and gives them to `language_calls`: each must be reported with a fault, or
+"""Changes the images of tests/vectors/image*.jsonl at random, and gives them to `language_calls`: each must be reported with a fault, or
 be an image whose spelling is the very bytes; one that is accepted and run must charge and take no more than its bounds.
 
     tests/mutated_images.py SEED COUNT                   gives so many to the built program
@@ -19,7 +19,7 @@ from pathlib import Path
 
 TOP = Path(__file__).resolve().parent.parent
 PROGRAM = TOP / "crates/language_calls/out/language_calls"
-IMAGES = TOP / "tests/vectors/image.jsonl"
+IMAGES = sorted((TOP / "tests/vectors").glob("image*.jsonl"))
 AT_ONCE = 250  # lines of one run
 
 FAULTS = ["Truncated", "BadOpcode", "BadTable", "TrailingBytes"]
@@ -93,7 +93,7 @@ CHANGES = [changed_byte] * 6 + [changed_number] * 3 + [removed, repeated, insert
 
 def mutated(seed, count):
     """So many images, each changed once to three times."""
-    lines = IMAGES.read_text(encoding="utf-8").split("\n")[:-1]
+    lines = [line for file in IMAGES for line in file.read_text(encoding="utf-8").split("\n")[:-1]]
     images = [bytes.fromhex(json.loads(line)["hex"]) for line in lines]
     chance = random.Random(seed)
     for _ in range(count):

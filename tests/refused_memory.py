@@ -2,8 +2,8 @@
 """Runs what `rt ci` built with its first allocation refused, then with its second, and so on to the last that it makes.
 
 The program is run on the first expression, on one with loops and on vectors of each answer, and then must give its right answer, or end
-with status 4 and nothing on standard output; and so are `check` and `replay` on their examples, `replay` on the lines of
-replay-policies.jsonl that have `"refused"`, and `image encode` and `image decode` on the expressions and images of
+with status 4 and nothing on standard output; and so are `eval` of times, `check` and `replay` on their examples, `replay` on the lines
+of replay-policies.jsonl that have `"refused"`, and `image encode` and `image decode` on the expressions and images of
 language_calls-bytes.jsonl, all of which may have written whole lines of their answer before. The programs that make calls are run on
 each of their lines, tests/vectors/*_calls-*.jsonl, that has `"refused"`, and must give its right answer, or end with another status
 than 0 and write nothing else.
@@ -28,7 +28,9 @@ IMAGES = TOP / "tests/vectors/language_calls-bytes.jsonl"
 LENT = TOP / "tests/vectors/language_calls-lent.jsonl"
 FIRST = "1 + 2 * 3 == 7 && !(4 < 3)"
 LOOPS = "[[1, 2], [3]].map(r, r.filter(c, {'a': c}.exists(k, k == 'a') && c != 2))"
+TIMES = "[string(timestamp('2024-02-28T23:00:00Z') + duration('25h')), string(duration('-1.5h'))]"
 COMMANDS = [
+    ["eval", "--", TIMES],
     ["check", TOP / "examples/rule.json"],
     ["replay", "--audit", TOP / "examples/stream.jsonl"],
 ]

@@ -5,6 +5,7 @@ use Rattle.logbook.specs.Pages.{Cell, Step, View, Book, Named, cell, may_make}
 use Rattle.board.specs.declared.entry.Entry.{Entry}
 use Rattle.board.specs.Begins.{StartsWith}
 
+-- a list that was published, or told
 abbrev pub entry : {X : Type 0} → List X → Bool → Entry X
 entry list told = record { list = list; is_told = told }
 

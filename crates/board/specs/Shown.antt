@@ -8,6 +8,7 @@ pub record Shown (X : Type 0) : Type 0 where
   pub board : Book
   pub list : List X
 
+-- what is seen of a board on which this list is the last
 abbrev pub shows : {X : Type 0} → Book → List X → Shown X
 shows board list = record { board = board; list = list }
 
@@ -17,10 +18,11 @@ pub record Drafted (X : Type 0) : Type 0 where
   pub old : List X
   pub next : List X
 
+-- what is seen of the writer's end, between two publications
 abbrev pub drafts : {X : Type 0} → Book → List X → List X → Drafted X
 drafts board old next = record { board = board; old = old; next = next }
 
--- how these are stored
+-- how these are stored (the first for what is seen of notes, the second for the writer's end)
 abbrev pub shown_code : {X : Type 0} → Coded X → Coded (Shown X)
 shown_code c = code_by (Book × _) (coded× book_coded (coded_list c)) (λ s. (s.board, s.list)) (λ p. shows p.0 p.1) (λ _. refl)
 

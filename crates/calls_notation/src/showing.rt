@@ -1,5 +1,6 @@
 //! Values and types as texts that no other value or type has.
 
+use cel_time::Timestamp;
 use cel_value::{CelType, Field, Value};
 use plain::TextMap;
 use std::alloc::{AllocError, Global};
@@ -19,12 +20,20 @@ pub fn put(out: &mut String, value: &Value) -> Result<(), AllocError> {
         Value::Bool(truth) => write!(out, "{truth}"),
         Value::Int(number) => write!(out, "{number}"),
         Value::Uint(number) => write!(out, "{number}u"),
+        Value::Timestamp(timestamp) => put_timestamp(out, *timestamp),
+        Value::Duration(duration) => write!(out, "duration {duration}ns"),
         Value::Text(text) => write!(out, "'{}'", text.as_str()),
         Value::List(items) => put_items(out, items.as_slice()),
         Value::Map(entries) => put_entries(out, "map", entries),
         Value::Object(entries) => put_entries(out, "", entries),
         Value::Opaque => out.push_str("opaque"),
     }
+}
+
+/// The whole seconds since 1970 began, rounded down, and the nanoseconds after them.
+fn put_timestamp(out: &mut String, timestamp: Timestamp) -> Result<(), AllocError> {
+    let nanosecond = timestamp.nanosecond().rem_euclid(1_000_000_000) as u32;
+    write!(out, "timestamp {}s {nanosecond}ns", timestamp.second())
 }
 
 #[cycle(put)]
@@ -64,6 +73,8 @@ pub fn put_type(out: &mut String, cel_type: &CelType) -> Result<(), AllocError> 
         CelType::Bool => out.push_str("bool"),
         CelType::Int => out.push_str("int"),
         CelType::Uint => out.push_str("uint"),
+        CelType::Timestamp => out.push_str("timestamp"),
+        CelType::Duration => out.push_str("duration"),
         CelType::Text { max } => put_limit(out, "text", *max, ""),
         CelType::List { max, plain, item } => {
             let kind = if *plain { "list" } else { "set" };

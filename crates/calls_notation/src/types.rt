@@ -70,6 +70,8 @@ fn word_type(word: &str) -> CelType {
         "bool" => CelType::Bool,
         "int" => CelType::Int,
         "uint" => CelType::Uint,
+        "timestamp" => CelType::Timestamp,
+        "duration" => CelType::Duration,
         "opaque" => CelType::Opaque,
         _ => CelType::Never,
     }

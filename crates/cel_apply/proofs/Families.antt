@@ -130,6 +130,8 @@ ordered_at u v Value-F.Null e = let no : ⊥ = cc in absurd no
 ordered_at u v (Value-F.Bool b) e = cc
 ordered_at u v (Value-F.Int n) e = cc
 ordered_at u v (Value-F.Uint n) e = cc
+ordered_at u v (Value-F.Timestamp n) e = cc
+ordered_at u v (Value-F.Duration n) e = cc
 ordered_at u v (Value-F.Text t) e = cc
 ordered_at u v (Value-F.List vs) e = let no : ⊥ = cc in absurd no
 ordered_at u v (Value-F.Map es) e = let no : ⊥ = cc in absurd no

@@ -53,7 +53,15 @@ fn ordered<'v>(x: Result<&'v Value, CelError>) -> Option<Result<&'v Value, CelEr
 {
     match x {
         Ok(Value::Null) => Some(Err(CelError::NullOperand)),
-        Ok(Value::Bool(_) | Value::Int(_) | Value::Uint(_) | Value::Text(_)) | Err(_) => Some(x),
+        Ok(
+            Value::Bool(_)
+            | Value::Int(_)
+            | Value::Uint(_)
+            | Value::Text(_)
+            | Value::Timestamp(_)
+            | Value::Duration(_),
+        )
+        | Err(_) => Some(x),
         _ => None,
     }
 }
@@ -91,6 +99,8 @@ fn less(v: &Value, w: &Value) -> Option<bool>
         (Value::Int(m), Value::Int(n)) => Some(m < n),
         (Value::Uint(m), Value::Uint(n)) => Some(m < n),
         (Value::Text(a), Value::Text(b)) => Some(comes_before(a.as_str(), b.as_str())),
+        (Value::Timestamp(s), Value::Timestamp(t)) => Some(s.nanosecond() < t.nanosecond()),
+        (Value::Duration(m), Value::Duration(n)) => Some(m < n),
         _ => None,
     }
 }

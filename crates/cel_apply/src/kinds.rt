@@ -1,12 +1,14 @@
 ghost use Rattle.std.specs.Prelude.{◌≡◌, ◌<◌, ◌^◌, Some, Ok, pos};
 ghost use Rattle.cel_value.specs.declared.value.Value as value;
 ghost use Rattle.cel_operators.specs.Operators.{makes};
-ghost use Rattle.cel_operators.specs.declared.operands.Want.TheVariants.{Truth, Whole, Natural, Characters, Items, Entries, Members};
+ghost use Rattle.cel_operators.specs.declared.operands.Want.TheVariants.{Truth, Whole, Natural, Moment, Lapse, Characters, Items};
+ghost use Rattle.cel_operators.specs.declared.operands.Want.TheVariants.{Entries, Members};
 ghost use Rattle.cel_operators.specs.Wants.{taken};
 ghost use Rattle.cel_apply.specs.Kinds.{alone as alone_of, both as both_of, seen_by};
 ghost use Rattle.cel_apply.specs.Lent.{lent};
 
 use cel_operators::Made;
+use cel_time::Timestamp;
 use cel_value::{CelError, Value};
 use plain::TextMap;
 
@@ -55,6 +57,30 @@ pub fn natural(x: Result<&Value, CelError>) -> Option<Result<u64, CelError>>
 {
     match x {
         Ok(Value::Uint(n)) => Some(Ok(*n)),
+        Ok(Value::Null) => Some(Err(CelError::NullOperand)),
+        Err(e) => Some(Err(e)),
+        _ => None,
+    }
+}
+
+/// The timestamp or error that an operand is, if it is one.
+pub fn timestamp(x: Result<&Value, CelError>) -> Option<Result<Timestamp, CelError>>
+    ensures { result ≡ taken Moment (Some (lent x.entry)) }
+{
+    match x {
+        Ok(Value::Timestamp(timestamp)) => Some(Ok(*timestamp)),
+        Ok(Value::Null) => Some(Err(CelError::NullOperand)),
+        Err(e) => Some(Err(e)),
+        _ => None,
+    }
+}
+
+/// The duration or error that an operand is, if it is one.
+pub fn duration(x: Result<&Value, CelError>) -> Option<Result<i64, CelError>>
+    ensures { result ≡ taken Lapse (Some (lent x.entry)) }
+{
+    match x {
+        Ok(Value::Duration(n)) => Some(Ok(*n)),
         Ok(Value::Null) => Some(Err(CelError::NullOperand)),
         Err(e) => Some(Err(e)),
         _ => None,

@@ -14,6 +14,7 @@ mod maps;
 mod numbers;
 mod operate;
 mod texts;
+mod times;
 
 pub use kinds::{alone, both, characters, entries, items, made, members, truth, whole};
 pub use lists::{item_at, item_of_list, value_of_map};

@@ -10,6 +10,10 @@ use crate::lists::{
 };
 use crate::numbers::{on_int, on_ints, on_truth, on_uint, on_uints};
 use crate::texts::{on_text, on_texts};
+use crate::times::{
+    on_duration, on_duration_and_timestamp, on_durations, on_timestamp, on_timestamp_and_duration,
+    on_timestamps,
+};
 use cel_operators::{Made, Operands, Operator, Want};
 use cel_value::{CelError, Value};
 use std::alloc::{AllocError, Global};
@@ -34,7 +38,25 @@ pub fn on_one(
         | Operator::UpperAscii
         | Operator::StringOfText
         | Operator::IntOfText
-        | Operator::UintOfText => on_text(alloc, op, x),
+        | Operator::UintOfText
+        | Operator::TimestampOfText
+        | Operator::DurationOfText => on_text(alloc, op, x),
+        Operator::StringOfTimestamp
+        | Operator::IntOfTimestamp
+        | Operator::YearOf
+        | Operator::MonthOf
+        | Operator::DateOf
+        | Operator::DayOfMonth
+        | Operator::DayOfWeek
+        | Operator::DayOfYear
+        | Operator::HourOf
+        | Operator::MinuteOf
+        | Operator::SecondOf
+        | Operator::MillisecondOf => on_timestamp(alloc, op, x),
+        Operator::StringOfDuration
+        | Operator::HoursIn
+        | Operator::MinutesIn
+        | Operator::SecondsIn => on_duration(alloc, op, x),
         Operator::SizeList => Ok(size_list(x)),
         Operator::SizeMap => Ok(size_map(x)),
         Operator::SumInts | Operator::MinInts | Operator::MaxInts => Ok(on_wholes(op, x)),
@@ -75,6 +97,12 @@ pub fn on_two(
         Operator::IndexList => item_of_list(alloc, x, y),
         Operator::IndexMap => value_of_map(alloc, x, y),
         Operator::Join => join(alloc, x, y),
+        Operator::AddToTimestamp | Operator::SubtractFromTimestamp => {
+            Ok(on_timestamp_and_duration(op, x, y))
+        }
+        Operator::AddTimestamp => Ok(on_duration_and_timestamp(x, y)),
+        Operator::SubtractTimestamps => Ok(on_timestamps(x, y)),
+        Operator::AddDurations | Operator::SubtractDurations => Ok(on_durations(op, x, y)),
         _ => Ok(None),
     }
 }

@@ -27,8 +27,12 @@ binary_overloads binary_operator.AtLeast = operator.AtLeast ∷ []
 binary_overloads binary_operator.Equal = operator.Equal ∷ []
 binary_overloads binary_operator.NotEqual = operator.NotEqual ∷ []
 binary_overloads binary_operator.In = operator.InList ∷ operator.InMap ∷ []
-binary_overloads binary_operator.Add = operator.Add ∷ operator.AddUint ∷ operator.AddText ∷ operator.AddList ∷ []
-binary_overloads binary_operator.Subtract = operator.Subtract ∷ operator.SubtractUint ∷ []
+binary_overloads binary_operator.Add =
+    operator.Add ∷ operator.AddUint ∷ operator.AddText ∷ operator.AddList ∷ operator.AddToTimestamp ∷ operator.AddTimestamp
+    ∷ operator.AddDurations ∷ []
+binary_overloads binary_operator.Subtract =
+    operator.Subtract ∷ operator.SubtractUint ∷ operator.SubtractTimestamps ∷ operator.SubtractFromTimestamp
+    ∷ operator.SubtractDurations ∷ []
 binary_overloads binary_operator.Multiply = operator.Multiply ∷ operator.MultiplyUint ∷ []
 binary_overloads binary_operator.Divide = operator.Divide ∷ operator.DivideUint ∷ []
 binary_overloads binary_operator.Remainder = operator.Remainder ∷ operator.RemainderUint ∷ []
@@ -41,34 +45,71 @@ index_overloads = operator.IndexList ∷ operator.IndexMap ∷ []
 abbrev pub size_overloads : List Operator
 size_overloads = operator.SizeText ∷ operator.SizeList ∷ operator.SizeMap ∷ []
 
+-- operators by names: an entry has a name, and the operators that it stands for in the order in which they are tried
+abbrev pub Named : Type 0
+Named = List (List ℕ × List Operator)
+
+-- the operators that a name stands for; none where no entry has it
+abbrev pub named_in : Named → List ℕ → List Operator
+named_in [] name = []
+named_in (entry ∷ entries) name = if bytes_eq name entry.0 then entry.1 else named_in entries name
+
+-- the functions of one argument
+abbrev pub functions : Named
+functions =
+    (codes "size", size_overloads)
+    ∷ (
+      codes "string",
+      operator.StringOfInt ∷ operator.StringOfUint ∷ operator.StringOfText ∷ operator.StringOfTimestamp
+          ∷ operator.StringOfDuration ∷ [],
+    )
+    ∷ (codes "int", operator.IntOfInt ∷ operator.IntOfUint ∷ operator.IntOfText ∷ operator.IntOfTimestamp ∷ [])
+    ∷ (codes "uint", operator.UintOfInt ∷ operator.UintOfUint ∷ operator.UintOfText ∷ [])
+    ∷ (codes "timestamp", operator.TimestampOfText ∷ [])
+    ∷ (codes "duration", operator.DurationOfText ∷ [])
+    ∷ []
+
+-- the methods with no argument
+abbrev pub methods : Named
+methods =
+    (codes "size", size_overloads)
+    ∷ (codes "lowerAscii", operator.LowerAscii ∷ [])
+    ∷ (codes "upperAscii", operator.UpperAscii ∷ [])
+    ∷ (codes "sum", operator.SumInts ∷ operator.SumUints ∷ [])
+    ∷ (codes "min", operator.MinInts ∷ operator.MinUints ∷ [])
+    ∷ (codes "max", operator.MaxInts ∷ operator.MaxUints ∷ [])
+    ∷ (codes "getFullYear", operator.YearOf ∷ [])
+    ∷ (codes "getMonth", operator.MonthOf ∷ [])
+    ∷ (codes "getDate", operator.DateOf ∷ [])
+    ∷ (codes "getDayOfMonth", operator.DayOfMonth ∷ [])
+    ∷ (codes "getDayOfWeek", operator.DayOfWeek ∷ [])
+    ∷ (codes "getDayOfYear", operator.DayOfYear ∷ [])
+    ∷ (codes "getHours", operator.HourOf ∷ operator.HoursIn ∷ [])
+    ∷ (codes "getMinutes", operator.MinuteOf ∷ operator.MinutesIn ∷ [])
+    ∷ (codes "getSeconds", operator.SecondOf ∷ operator.SecondsIn ∷ [])
+    ∷ (codes "getMilliseconds", operator.MillisecondOf ∷ [])
+    ∷ []
+
+-- the methods with one argument
+abbrev pub methods_with : Named
+methods_with =
+    (codes "startsWith", operator.StartsWith ∷ [])
+    ∷ (codes "endsWith", operator.EndsWith ∷ [])
+    ∷ (codes "contains", operator.Contains ∷ [])
+    ∷ (codes "join", operator.Join ∷ [])
+    ∷ []
+
 -- the overloads of a function of one argument, by its name
 unfoldable pub function_overloads : List ℕ → List Operator
-function_overloads name =
-    if bytes_eq name (codes "size") then size_overloads
-    else (if bytes_eq name (codes "string") then operator.StringOfInt ∷ operator.StringOfUint ∷ operator.StringOfText ∷ []
-    else (if bytes_eq name (codes "int") then operator.IntOfInt ∷ operator.IntOfUint ∷ operator.IntOfText ∷ []
-    else (if bytes_eq name (codes "uint") then operator.UintOfInt ∷ operator.UintOfUint ∷ operator.UintOfText ∷ []
-    else [])))
+function_overloads name = named_in functions name
 
 -- the overloads of a method with no argument, by its name
 unfoldable pub method_overloads : List ℕ → List Operator
-method_overloads name =
-    if bytes_eq name (codes "size") then size_overloads
-    else (if bytes_eq name (codes "lowerAscii") then operator.LowerAscii ∷ []
-    else (if bytes_eq name (codes "upperAscii") then operator.UpperAscii ∷ []
-    else (if bytes_eq name (codes "sum") then operator.SumInts ∷ operator.SumUints ∷ []
-    else (if bytes_eq name (codes "min") then operator.MinInts ∷ operator.MinUints ∷ []
-    else (if bytes_eq name (codes "max") then operator.MaxInts ∷ operator.MaxUints ∷ []
-    else [])))))
+method_overloads name = named_in methods name
 
 -- the overloads of a method with one argument, by its name
 unfoldable pub method_overloads_with : List ℕ → List Operator
-method_overloads_with name =
-    if bytes_eq name (codes "startsWith") then operator.StartsWith ∷ []
-    else (if bytes_eq name (codes "endsWith") then operator.EndsWith ∷ []
-    else (if bytes_eq name (codes "contains") then operator.Contains ∷ []
-    else (if bytes_eq name (codes "join") then operator.Join ∷ []
-    else [])))
+method_overloads_with name = named_in methods_with name
 
 -- an overload that takes the operands, or the later ones where this one does not
 abbrev pub or_later : Operator → Result CelType TypeRule → Result Overload TypeRule → Result Overload TypeRule

@@ -78,8 +78,17 @@ pub fn binary_overloads(operator: BinaryOperator) -> &'static [Operator]
             Operator::AddUint,
             Operator::AddText,
             Operator::AddList,
+            Operator::AddToTimestamp,
+            Operator::AddTimestamp,
+            Operator::AddDurations,
         ],
-        BinaryOperator::Subtract => &[Operator::Subtract, Operator::SubtractUint],
+        BinaryOperator::Subtract => &[
+            Operator::Subtract,
+            Operator::SubtractUint,
+            Operator::SubtractTimestamps,
+            Operator::SubtractFromTimestamp,
+            Operator::SubtractDurations,
+        ],
         BinaryOperator::Multiply => &[Operator::Multiply, Operator::MultiplyUint],
         BinaryOperator::Divide => &[Operator::Divide, Operator::DivideUint],
         BinaryOperator::Remainder => &[Operator::Remainder, Operator::RemainderUint],
@@ -98,25 +107,29 @@ pub fn index_overloads() -> &'static [Operator]
 pub fn function_overloads(name: &str) -> &'static [Operator]
     ensures { result.now ≡ function_overloads name.now }
 {
-    let name = name.as_bytes();
-    if name == b"size".as_slice() {
-        &[Operator::SizeText, Operator::SizeList, Operator::SizeMap]
-    } else if name == b"string".as_slice() {
-        &[
+    match name {
+        "size" => &[Operator::SizeText, Operator::SizeList, Operator::SizeMap],
+        "string" => &[
             Operator::StringOfInt,
             Operator::StringOfUint,
             Operator::StringOfText,
-        ]
-    } else if name == b"int".as_slice() {
-        &[Operator::IntOfInt, Operator::IntOfUint, Operator::IntOfText]
-    } else if name == b"uint".as_slice() {
-        &[
+            Operator::StringOfTimestamp,
+            Operator::StringOfDuration,
+        ],
+        "int" => &[
+            Operator::IntOfInt,
+            Operator::IntOfUint,
+            Operator::IntOfText,
+            Operator::IntOfTimestamp,
+        ],
+        "uint" => &[
             Operator::UintOfInt,
             Operator::UintOfUint,
             Operator::UintOfText,
-        ]
-    } else {
-        &[]
+        ],
+        "timestamp" => &[Operator::TimestampOfText],
+        "duration" => &[Operator::DurationOfText],
+        _ => &[],
     }
 }
 
@@ -125,21 +138,24 @@ pub fn function_overloads(name: &str) -> &'static [Operator]
 pub fn method_overloads(name: &str) -> &'static [Operator]
     ensures { result.now ≡ method_overloads name.now }
 {
-    let name = name.as_bytes();
-    if name == b"size".as_slice() {
-        &[Operator::SizeText, Operator::SizeList, Operator::SizeMap]
-    } else if name == b"lowerAscii".as_slice() {
-        &[Operator::LowerAscii]
-    } else if name == b"upperAscii".as_slice() {
-        &[Operator::UpperAscii]
-    } else if name == b"sum".as_slice() {
-        &[Operator::SumInts, Operator::SumUints]
-    } else if name == b"min".as_slice() {
-        &[Operator::MinInts, Operator::MinUints]
-    } else if name == b"max".as_slice() {
-        &[Operator::MaxInts, Operator::MaxUints]
-    } else {
-        &[]
+    match name {
+        "size" => &[Operator::SizeText, Operator::SizeList, Operator::SizeMap],
+        "lowerAscii" => &[Operator::LowerAscii],
+        "upperAscii" => &[Operator::UpperAscii],
+        "sum" => &[Operator::SumInts, Operator::SumUints],
+        "min" => &[Operator::MinInts, Operator::MinUints],
+        "max" => &[Operator::MaxInts, Operator::MaxUints],
+        "getFullYear" => &[Operator::YearOf],
+        "getMonth" => &[Operator::MonthOf],
+        "getDate" => &[Operator::DateOf],
+        "getDayOfMonth" => &[Operator::DayOfMonth],
+        "getDayOfWeek" => &[Operator::DayOfWeek],
+        "getDayOfYear" => &[Operator::DayOfYear],
+        "getHours" => &[Operator::HourOf, Operator::HoursIn],
+        "getMinutes" => &[Operator::MinuteOf, Operator::MinutesIn],
+        "getSeconds" => &[Operator::SecondOf, Operator::SecondsIn],
+        "getMilliseconds" => &[Operator::MillisecondOf],
+        _ => &[],
     }
 }
 
@@ -148,16 +164,11 @@ pub fn method_overloads(name: &str) -> &'static [Operator]
 pub fn method_overloads_with(name: &str) -> &'static [Operator]
     ensures { result.now ≡ method_overloads_with name.now }
 {
-    let name = name.as_bytes();
-    if name == b"startsWith".as_slice() {
-        &[Operator::StartsWith]
-    } else if name == b"endsWith".as_slice() {
-        &[Operator::EndsWith]
-    } else if name == b"contains".as_slice() {
-        &[Operator::Contains]
-    } else if name == b"join".as_slice() {
-        &[Operator::Join]
-    } else {
-        &[]
+    match name {
+        "startsWith" => &[Operator::StartsWith],
+        "endsWith" => &[Operator::EndsWith],
+        "contains" => &[Operator::Contains],
+        "join" => &[Operator::Join],
+        _ => &[],
     }
 }

@@ -1,6 +1,6 @@
 -- Steps of the machine, worked by the definitions.
 use Rattle.std.proofs.Common.{◌≡◌, [], ◌∷◌, refl, true, false}
-use Rattle.std.specs.Prelude.{Ok, Err, pos, negsuc}
+use Rattle.std.specs.Prelude.{None, Ok, Err, pos, negsuc}
 use Rattle.cel_value.specs.declared.value.Value as value
 use Rattle.cel_value.specs.declared.cel_type.CelType as type
 use Rattle.cel_value.specs.declared.cel_error.CelError.TheVariants.{Overflow}
@@ -21,6 +21,7 @@ negation = record {
   constants = value.Int (pos 1) ∷ [];
   targets = [];
   result = type.Int;
+  declared = None;
   code =
       Const 0 ∷ Op 1 ∷ Op 2 ∷ End ∷ [];
 }
@@ -55,6 +56,7 @@ fields = record {
   constants = value.Text (97 ∷ []) ∷ value.Int (pos 1) ∷ [];
   targets = [];
   result = type.Int;
+  declared = None;
   code =
       Map 1 ∷ WithText Select 0 ∷ WithText Has 1 ∷ [];
 }
@@ -88,6 +90,7 @@ looping = record {
   constants = [];
   targets = [];
   result = type.Bool;
+  declared = None;
   code = Loop 1 4 ∷ Item ∷ Local 0 ∷ instr.Next ∷ When ∷ [];
 }
 

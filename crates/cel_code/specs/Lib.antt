@@ -1,3 +1,4 @@
+pub mod Declaring
 pub mod LoopNumbers
 pub mod Machine
 pub mod Matches

@@ -325,4 +325,12 @@ one_image image other tree types p q =
     let slots = p.slots ∙ sym q.slots in
     let targets = p.targets ∙ sym q.targets in
     let result = p.result ∙ sym q.result in
-    λ i. record { slots = slots i; constants = constants i; targets = targets i; result = result i; code = code i }
+    let declared = p.declared ∙ sym q.declared in
+    λ i. record {
+      slots = slots i;
+      constants = constants i;
+      targets = targets i;
+      result = result i;
+      declared = declared i;
+      code = code i;
+    }

@@ -1,6 +1,6 @@
 -- What is written for an expression is as the expression is laid out.
 use Rattle.std.proofs.Common.{◌≡◌, ℕ, ◌+◌, Some, List, [], ◌∷◌, ◌++◌, false}
-use Rattle.std.proofs.Common.{length, refl, sym, ap, ◌∙◌, subst, arith, append_assoc}
+use Rattle.std.proofs.Common.{length, refl, sym, ap, ◌∙◌, subst, arith, append_assoc, None}
 use Rattle.std.specs.Prelude.{slice_get, Contains}
 use Rattle.std.proofs.lemmas.List.{append-nil}
 use Rattle.std.proofs.Math.Seq.{append_snoc}
@@ -271,8 +271,8 @@ pub compiled : (start draft all : Draft) (image : Image) (e tree : TypedTree) (t
     → drafted start ≡ record { constants = []; instrs = [] } → start.targets ≡ [] → start.below ≡ []
     → Emits (drafted start) (drafted draft) e → Writes start draft e start.below → drafted all ≡ with_instr (drafted draft) End
     → Grows draft all 1 [] [] → code_in image ≡ drafted all → image.targets ≡ all.targets → image.slots ≡ types
-    → image.result ≡ type_of tree → IsCompiled image tree types
-compiled start draft all image e tree types same empty no_targets no_below emits writes put end code targets slots result =
+    → image.result ≡ type_of tree → image.declared ≡ None → IsCompiled image tree types
+compiled start draft all image e tree types same empty no_targets no_below emits writes put end code targets slots result declared =
     let emits : Emits (drafted start) (drafted draft) tree = rw (sym same) emits in
     let writes : Writes start draft tree [] = rw (sym same, sym no_below) writes in
     let none : length start.code ≡ 0 = ap (λ c. length c.instrs) empty in
@@ -290,4 +290,5 @@ compiled start draft all image e tree types same empty no_targets no_below emits
       targets = targets ∙ all_grown.targets ∙ ap (λ ts. ts ++ targets_from (layout_of tree) 0 []) no_targets;
       slots = slots;
       result = result;
+      declared = declared;
     }

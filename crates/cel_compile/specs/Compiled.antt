@@ -1,5 +1,5 @@
 -- The image that an expression compiles to.
-use Rattle.std.specs.Prelude.{◌≡◌, ℕ, ◌+◌, Bool, true, false, List}
+use Rattle.std.specs.Prelude.{◌≡◌, ℕ, ◌+◌, Bool, true, false, List, None}
 use Rattle.std.specs.Prelude.{[], ◌∷◌, ◌++◌, length, Contains, if◌then◌else◌}
 use Rattle.cel_value.specs.declared.cel_type.CelType.{CelType}
 use Rattle.cel_value.specs.declared.value.Value.{Value}
@@ -142,7 +142,7 @@ abbrev pub layout_of : TypedTree → Layout
 layout_of = fold-TypedTree Layout layout_step
 
 -- the image of an expression with slots of these types: its instructions and END and no other, its literals, each once, in the
--- order of their first use, the targets of its jumps, and its type
+-- order of their first use, the targets of its jumps, and its type; it declares nothing
 pub record IsCompiled (image : Image) (tree : TypedTree) (types : List CelType) : Type 0 where
   pub stands : Stands (code_in image) tree 0 (layout_of tree).size
   pub ends : Has (code_in image) (layout_of tree).size End
@@ -151,3 +151,4 @@ pub record IsCompiled (image : Image) (tree : TypedTree) (types : List CelType) 
   pub targets : image.targets ≡ targets_from (layout_of tree) 0 []
   pub slots : image.slots ≡ types
   pub result : image.result ≡ type_of tree
+  pub declared : image.declared ≡ None

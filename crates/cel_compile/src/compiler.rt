@@ -51,6 +51,7 @@ pub fn compile(alloc: Global, typed: &Typed) -> Result<Image, AllocError>
         constants: constants.into_items(),
         targets,
         result: typed.tree.get().cel_type.copy()?,
+        declared: None,
         code,
     })
 }

@@ -21,7 +21,6 @@ use std::marker::Model;
 
 /// An expression that may be run. Contracts see the text, the names in scope with their types, and the choice of texts that
 /// are taken as no patterns.
-#[derive(Drop)]
 pub struct Compiled {
     choice: Shared<Items<Text>>,
     names: Shared<Items<Keyed<CelType>>>,
@@ -29,6 +28,19 @@ pub struct Compiled {
     cel_type: Shared<CelType>,
     estimate: u64,
     program: Shared<Program>,
+}
+
+impl Drop for Compiled {
+    fn drop(self) {
+        let Compiled {
+            choice: _choice,
+            names: _names,
+            text: _text,
+            cel_type: _cel_type,
+            estimate: _estimate,
+            program: _program,
+        } = self;
+    }
 }
 
 impl Model for Compiled {

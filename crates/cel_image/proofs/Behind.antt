@@ -15,11 +15,11 @@ unfolding type_at
 type_more zero b bytes h = absurd (omega arith)
 type_more (suc d) b bytes h = let e : d ≡ suc d - 1 = omega arith in ap (λ (n : ℕ). level_at (type_at n) b bytes) e
 
-pub none_behind : (inside : Bool → Reader CelType) (b : Bool) (tag : ℕ) → 10 < tag → slice_get (type_readers inside b) tag ≡ None
+pub none_behind : (inside : Bool → Reader CelType) (b : Bool) (tag : ℕ) → 12 < tag → slice_get (type_readers inside b) tag ≡ None
 none_behind inside b tag h = slice_get_past (type_readers inside b) tag (omega arith)
 
 pub no_instr : (opcode : ℕ) → 19 < opcode → slice_get instr_readers opcode ≡ None
 no_instr opcode h = slice_get_past instr_readers opcode (omega arith)
 
-pub no_version : (version : ℕ) → 1 < version → slice_get image_readers version ≡ None
+pub no_version : (version : ℕ) → 2 < version → slice_get image_readers version ≡ None
 no_version version h = slice_get_past image_readers version (omega arith)

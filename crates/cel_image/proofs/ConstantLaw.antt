@@ -98,6 +98,8 @@ level_again (Value-F.Int n) rest h =
 level_again (Value-F.Uint n) rest h =
     made_again (number_at w64) (to_be_bytes w64) (λ n. nat_lt n (2 ^ 64)) (λ n. V.Uint n) long_law n rest h
     ∙ ap (λ (v : Value). Ok (v, rest)) (sym (rolls-Uint n))
+level_again (Value-F.Timestamp n) rest h = absurd (true≢false (sym h))
+level_again (Value-F.Duration n) rest h = absurd (true≢false (sym h))
 level_again (Value-F.Text bytes) rest h =
     made_again text_at text is_text (λ s. V.Text s) text_law bytes rest h ∙ ap (λ (v : Value). Ok (v, rest)) (sym (rolls-Text bytes))
 level_again (Value-F.List vs) rest h = absurd (true≢false (sym h))

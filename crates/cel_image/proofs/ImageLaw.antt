@@ -1,17 +1,24 @@
 -- Whole images: what is read is spelt so, and what is spelt so is read.
-use Rattle.std.proofs.Common.{◌≡◌, ℕ, Bool, true, false, ◌&&◌, eqb, List, [], ◌∷◌, ◌++◌, Result, Ok}
-use Rattle.std.proofs.Common.{refl, ap, subst, ◌∙◌, append_assoc}
+use Rattle.std.proofs.Common.{◌≡◌, ℕ, ◌^◌, Bool, true, false, ◌&&◌, eqb, List, [], ◌∷◌, ◌++◌, Option, Some, None, Result, Ok}
+use Rattle.std.proofs.Common.{refl, ap, subst, ◌∙◌, append_assoc, nat_lt}
+use Rattle.std.specs.Int.{w64}
 use Rattle.std.proofs.lemmas.Bool.{eqb-true, eq-eqb}
+use Rattle.cel_value.specs.declared.cel_type.CelType.{CelType}
+use Rattle.cel_value.specs.declared.value.Value.{Value}
 use Rattle.cel_code.specs.declared.image.Image.{Image}
+use Rattle.cel_code.specs.declared.image.Target.{Target}
+use Rattle.cel_code.specs.declared.instr.Instr.{Instr}
+use Rattle.cel_image.specs.declared.image.Front.{Front}
 use Rattle.cel_image.specs.declared.fault.ReadFault.{ReadFault}
 use Rattle.cel_image.specs.declared.fault.ReadFault.TheVariants.{BadTable}
-use Rattle.cel_image.specs.Spelling.{listed, is_list, type_spelling, is_spellable, constant, is_constant}
-use Rattle.cel_image.specs.Reading.{◌>>=◌, tagged, list_at, type_at, constant_at}
+use Rattle.cel_image.specs.Spelling.{be64, listed, is_list, type_spelling, is_spellable, constant, is_constant}
+use Rattle.cel_image.specs.Reading.{◌>>=◌, tagged, list_at, number_at, type_at, constant_at}
 use Rattle.cel_image.specs.Code.{instr, is_instr, types, are_types, most_levels, target, is_target, magic, contents}
-use Rattle.cel_image.specs.Code.{image_spelling, is_image}
-use Rattle.cel_image.specs.CodeReading.{instr_at, types_at, target_at, byte_is, marked, Parts, parts_at, image_from}
-use Rattle.cel_image.specs.CodeReading.{image_readers, image_at}
-use Rattle.cel_image.proofs.Laws.{IsBytes, IsBytes-rest, Takes, Takes-then, Law, ok_is, test_ok, bind_ok, both_law, made_again, list_law}
+use Rattle.cel_image.specs.Code.{front, front_of, is_front, version, image_spelling, is_image}
+use Rattle.cel_image.specs.CodeReading.{instr_at, types_at, target_at, byte_is, marked, front_at, front_from, code_at, parts_at, image_from}
+use Rattle.cel_image.specs.CodeReading.{declared_at, declared_from, image_with, image_readers, image_at}
+use Rattle.cel_image.proofs.Laws.{IsBytes, IsBytes-rest, Takes, Takes-then, Law, ok_is, test_ok, bind_ok, both_law, made_again}
+use Rattle.cel_image.proofs.Laws.{made_law, list_law, long_law}
 use Rattle.cel_image.proofs.Tables.{◌also◌, Entries, entry, none, tagged_takes}
 use Rattle.cel_image.proofs.TypeLaw.{type_law}
 use Rattle.cel_image.proofs.ConstantLaw.{constant_law}
@@ -43,18 +50,6 @@ marked_again (m ∷ ms) rest =
 
 -- ---- what stands behind the version
 
-abbrev image_parts : Image → Parts
-image_parts i = (i.slots, (i.constants, (i.targets, (i.result, i.code))))
-
-abbrev parts_spelling : Parts → List ℕ
-parts_spelling p =
-    types p.0 ++ (listed constant p.1.0 ++ (listed target p.1.1.0 ++ (type_spelling p.1.1.1.0 ++ listed instr p.1.1.1.1)))
-
-abbrev are_parts : Parts → Bool
-are_parts p =
-    are_types p.0 && (is_list (λ _ v. is_constant v) p.1.0
-    && (is_list is_target p.1.1.0 && (is_spellable p.1.1.1.0 most_levels false && is_list (λ _ c. is_instr c) p.1.1.1.1)))
-
 constants_law : Law (list_at (λ _. constant_at)) (listed constant) (is_list (λ _ v. is_constant v))
 constants_law = list_law (λ _. constant_at) constant (λ _ v. is_constant v) (λ _. constant_law)
 
@@ -64,28 +59,61 @@ targets_law = list_law target_at target is_target target_law
 instrs_law : Law (list_at (λ _. instr_at)) (listed instr) (is_list (λ _ c. is_instr c))
 instrs_law = list_law (λ _. instr_at) instr (λ _ c. is_instr c) (λ _. instr_law)
 
-parts_law : Law parts_at parts_spelling are_parts
-parts_law =
-    both_law types_at types are_types _ _ _ types_law
+abbrev front_parts : Front → List CelType × (List Value × (List Target × CelType))
+front_parts f = (f.slots, (f.constants, (f.targets, f.result)))
+
+front_law : Law front_at front is_front
+front_law =
+    made_law _ _ _ front_from front_parts
+    (both_law types_at types are_types _ _ _ types_law
     (both_law (list_at (λ _. constant_at)) (listed constant) (is_list (λ _ v. is_constant v)) _ _ _ constants_law
-    (both_law (list_at target_at) (listed target) (is_list is_target) _ _ _ targets_law
-    (both_law (type_at most_levels false) type_spelling (λ t. is_spellable t most_levels false)
-    (list_at (λ _. instr_at)) (listed instr) (is_list (λ _ c. is_instr c)) (type_law most_levels false) instrs_law)))
+    (both_law (list_at target_at) (listed target) (is_list is_target)
+    (type_at most_levels false) type_spelling (λ t. is_spellable t most_levels false) targets_law (type_law most_levels false))))
+    (λ x. refl) (λ y. refl)
+
+abbrev parts_spelling : Front × List Instr → List ℕ
+parts_spelling p = front p.0 ++ listed instr p.1
+
+abbrev are_parts : Front × List Instr → Bool
+are_parts p = is_front p.0 && is_list (λ _ c. is_instr c) p.1
+
+parts_law : Law parts_at parts_spelling are_parts
+parts_law = both_law front_at front is_front code_at (listed instr) (is_list (λ _ c. is_instr c)) front_law instrs_law
+
+-- ---- likewise where a number is declared
+
+abbrev declared_spelling : Front × (ℕ × List Instr) → List ℕ
+declared_spelling p = front p.0 ++ (be64 p.1.0 ++ listed instr p.1.1)
+
+abbrev are_declared : Front × (ℕ × List Instr) → Bool
+are_declared p = is_front p.0 && (nat_lt p.1.0 (2 ^ 64) && is_list (λ _ c. is_instr c) p.1.1)
+
+declared_law : Law declared_at declared_spelling are_declared
+declared_law =
+    both_law front_at front is_front _ _ _ front_law
+    (both_law (number_at w64) be64 (λ n. nat_lt n (2 ^ 64)) code_at (listed instr) (is_list (λ _ c. is_instr c)) long_law instrs_law)
 
 -- ---- the version
 
 -- the version, and what stands behind it
 abbrev numbered : Image → List ℕ
-numbered i = 1 ∷ contents i
+numbered i = version i.declared ∷ contents i
 
 versions : Entries numbered is_image 0 image_readers
 versions =
     none numbered is_image 0
     also entry numbered is_image parts_at parts_spelling are_parts parts_law image_from 1 (λ _. refl) (λ _. refl)
+    also entry numbered is_image declared_at declared_spelling are_declared declared_law declared_from 2 (λ _. refl) (λ _. refl)
     also tt
 
+with_again : (f : Front) (declared : Option ℕ) (code : List Instr) (rest : List ℕ) → is_image (image_with f declared code) ≡ true
+    → tagged BadTable image_readers (numbered (image_with f declared code) ++ rest) ≡ Ok (image_with f declared code, rest)
+with_again f None code rest h = made_again parts_at parts_spelling are_parts image_from parts_law (f, code) rest h
+with_again f (Some n) code rest h =
+    made_again declared_at declared_spelling are_declared declared_from declared_law (f, (n, code)) rest h
+
 version_again : (i : Image) (rest : List ℕ) → is_image i ≡ true → tagged BadTable image_readers (numbered i ++ rest) ≡ Ok (i, rest)
-version_again i rest h = made_again parts_at parts_spelling are_parts image_from parts_law (image_parts i) rest h
+version_again i rest h = with_again (front_of i) i.declared i.code rest h
 
 -- ---- the whole image
 

@@ -14,7 +14,7 @@ use Rattle.cel_value.specs.declared.cel_type.CelType.TheFolds.{fold-roll-CelType
 use Rattle.cel_value.specs.declared.cel_type.CelType.TheOpen.{CelType-F}
 use Rattle.cel_value.specs.declared.cel_type.CelType.TheVariants.{rolls-Never, rolls-Null, rolls-Bool, rolls-Int, rolls-Uint}
 use Rattle.cel_value.specs.declared.cel_type.CelType.TheVariants.{rolls-Text, rolls-List, rolls-Map, rolls-Object, rolls-Nullable}
-use Rattle.cel_value.specs.declared.cel_type.CelType.TheVariants.{rolls-Opaque}
+use Rattle.cel_value.specs.declared.cel_type.CelType.TheVariants.{rolls-Opaque, rolls-Timestamp, rolls-Duration}
 use Rattle.cel_value.proofs.Levels.{at_levels}
 use Rattle.cel_image.specs.declared.fault.ReadFault.TheVariants.{BadTable}
 use Rattle.cel_image.specs.Spelling.{be32, text, is_text, truth, listed, is_list, each_after, is_short, name_after, field, is_field}
@@ -161,6 +161,8 @@ entries inside d law b =
     (λ k. over (inside true) _ _ (law true) (λ item. CelType-F.Nullable item) (λ item. T.Nullable item) 9 d b
     (λ item. rolls-Nullable item) (λ _. refl) (λ _. rw k refl))
     also plain CelType-F.Opaque T.Opaque 10 d b rolls-Opaque refl refl
+    also plain CelType-F.Timestamp T.Timestamp 11 d b rolls-Timestamp refl refl
+    also plain CelType-F.Duration T.Duration 12 d b rolls-Duration refl refl
     also tt
 
 -- ---- what is spelt
@@ -194,6 +196,8 @@ level_again inside d law false (CelType-F.Nullable item) rest h =
     made_again (inside true) _ _ (λ item. T.Nullable item) (law true) item rest h
     ∙ ap (λ (t : CelType). Ok (t, rest)) (sym (rolls-Nullable item))
 level_again inside d law b CelType-F.Opaque rest h = ap (λ (t : CelType). Ok (t, rest)) (sym rolls-Opaque)
+level_again inside d law b CelType-F.Timestamp rest h = ap (λ (t : CelType). Ok (t, rest)) (sym rolls-Timestamp)
+level_again inside d law b CelType-F.Duration rest h = ap (λ (t : CelType). Ok (t, rest)) (sym rolls-Duration)
 
 -- ---- whole types
 

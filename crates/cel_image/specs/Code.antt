@@ -1,12 +1,13 @@
 -- How instructions, targets and whole images are spelt, and which of them have a spelling.
-use Rattle.std.specs.Prelude.{◌≡◌, ℕ, Bool, true, false, ◌&&◌, nat_lt, IsTrue, List, [], ◌∷◌, ◌++◌, Option, Some, None}
+use Rattle.std.specs.Prelude.{◌≡◌, ℕ, ◌^◌, Bool, true, false, ◌&&◌, nat_lt, IsTrue, List, [], ◌∷◌, ◌++◌, Option, Some, None}
 use Rattle.cel_operators.specs.declared.text_operator.TextOperator.TheVariants.{Select, Has, Matches}
 use Rattle.cel_value.specs.declared.cel_type.CelType.{CelType}
 use Rattle.cel_code.specs.declared.instr.Instr.{Instr}
 use Rattle.cel_code.specs.declared.instr.Instr.TheVariants as instrs
 use Rattle.cel_code.specs.declared.image.Target.{Target}
 use Rattle.cel_code.specs.declared.image.Image.{Image}
-use Rattle.cel_image.specs.Spelling.{be32, is_short, listed, is_list, type_spelling, is_spellable, constant, is_constant}
+use Rattle.cel_image.specs.declared.image.Front.{Front}
+use Rattle.cel_image.specs.Spelling.{be32, be64, is_short, listed, is_list, type_spelling, is_spellable, constant, is_constant}
 
 -- opcode and operands
 abbrev pub instr : Instr → List ℕ
@@ -76,20 +77,43 @@ is_target last t = (is_short t.at && place_after last t.at) && are_types t.types
 abbrev pub magic : List ℕ
 magic = 86 ∷ 65 ∷ 80 ∷ 73 ∷ []
 
+-- what an image has in front of its code
+abbrev pub front_of : Image → Front
+front_of i = record { slots = i.slots; constants = i.constants; targets = i.targets; result = i.result }
+
+abbrev pub front : Front → List ℕ
+front f = types f.slots ++ (listed constant f.constants ++ (listed target f.targets ++ type_spelling f.result))
+
+abbrev pub is_front : Front → Bool
+is_front f =
+    are_types f.slots && (is_list (λ _ v. is_constant v) f.constants
+    && (is_list is_target f.targets && is_spellable f.result most_levels false))
+
+-- the version: 2 where a number is declared, else 1
+abbrev pub version : Option ℕ → ℕ
+version None = 1
+version (Some n) = 2
+
+-- the number that is declared, between the type of the outcome and the code
+abbrev pub declaration : Option ℕ → List ℕ
+declaration None = []
+declaration (Some n) = be64 n
+
+abbrev pub is_declaration : Option ℕ → Bool
+is_declaration None = true
+is_declaration (Some n) = nat_lt n (2 ^ 64)
+
 -- what stands behind the version
 abbrev pub contents : Image → List ℕ
-contents i =
-    types i.slots ++ (listed constant i.constants ++ (listed target i.targets ++ (type_spelling i.result ++ listed instr i.code)))
+contents i = front (front_of i) ++ (declaration i.declared ++ listed instr i.code)
 
 -- VAPI, the version, and what stands behind it
 abbrev pub image_spelling : Image → List ℕ
-image_spelling i = magic ++ 1 ∷ contents i
+image_spelling i = magic ++ version i.declared ∷ contents i
 
 -- whether an image has a spelling
 abbrev pub is_image : Image → Bool
-is_image i =
-    are_types i.slots && (is_list (λ _ v. is_constant v) i.constants
-    && (is_list is_target i.targets && (is_spellable i.result most_levels false && is_list (λ _ c. is_instr c) i.code)))
+is_image i = is_front (front_of i) && (is_declaration i.declared && is_list (λ _ c. is_instr c) i.code)
 
 -- the bytes are the image's spelling
 abbrev pub Spells : Image → List ℕ → Type 0

@@ -1,7 +1,7 @@
 -- Reading instructions, targets and whole images.
-use Rattle.std.specs.Prelude.{ℕ, false, List, [], ◌∷◌, slice_get, nat_eq, Option, Some, None, Ok, Err}
+use Rattle.std.specs.Prelude.{ℕ, false, List, [], ◌∷◌, nat_eq, Option, Some, None, Ok, Err}
 use Rattle.std.specs.Prelude.{if◌then◌else◌}
-use Rattle.std.specs.Int.{w32}
+use Rattle.std.specs.Int.{w32, w64}
 use Rattle.cel_operators.specs.declared.text_operator.TextOperator.TheVariants.{Select, Has, Matches}
 use Rattle.cel_value.specs.declared.cel_type.CelType.{CelType}
 use Rattle.cel_value.specs.declared.value.Value.{Value}
@@ -9,6 +9,7 @@ use Rattle.cel_code.specs.declared.instr.Instr.{Instr}
 use Rattle.cel_code.specs.declared.instr.Instr.TheVariants as instrs
 use Rattle.cel_code.specs.declared.image.Target.{Target}
 use Rattle.cel_code.specs.declared.image.Image.{Image}
+use Rattle.cel_image.specs.declared.image.Front.{Front}
 use Rattle.cel_image.specs.declared.fault.ReadFault.TheVariants.{Truncated, BadOpcode, BadTable}
 use Rattle.cel_image.specs.Reading.{◌>>=◌, Reader, both, made, tested, nothing, refused, tagged}
 use Rattle.cel_image.specs.Reading.{number_at, list_at, type_at, constant_at}
@@ -69,23 +70,46 @@ abbrev pub marked : List ℕ → Reader (Unit {0})
 marked [] bytes = Ok (tt, bytes)
 marked (m ∷ ms) bytes = byte_is m bytes >>= λ x. marked ms x.1
 
--- slots, constants, targets, the type of the outcome, and code
-abbrev pub Parts : Type 0
-Parts = List CelType × (List Value × (List Target × (CelType × List Instr)))
+-- slots, constants, targets, and the type of the outcome
+abbrev pub front_from : List CelType × (List Value × (List Target × CelType)) → Front
+front_from p = record { slots = p.0; constants = p.1.0; targets = p.1.1.0; result = p.1.1.1 }
 
 -- one after another
-abbrev pub parts_at : Reader Parts
-parts_at =
-    both types_at (both (list_at (λ _. constant_at))
-    (both (list_at target_at) (both (type_at most_levels false) (list_at (λ _. instr_at)))))
+abbrev pub front_at : Reader Front
+front_at = made front_from (both types_at (both (list_at (λ _. constant_at)) (both (list_at target_at) (type_at most_levels false))))
 
--- an image of its parts
-abbrev pub image_from : Parts → Image
-image_from p = record { slots = p.0; constants = p.1.0; targets = p.1.1.0; result = p.1.1.1.0; code = p.1.1.1.1 }
+-- an image of its front, what it declares, and its code
+abbrev pub image_with : Front → Option ℕ → List Instr → Image
+image_with f declared code = record {
+  slots = f.slots;
+  constants = f.constants;
+  targets = f.targets;
+  result = f.result;
+  declared = declared;
+  code = code;
+}
+
+-- code
+abbrev pub code_at : Reader (List Instr)
+code_at = list_at (λ _. instr_at)
+
+-- nothing is declared
+abbrev pub image_from : Front × List Instr → Image
+image_from p = image_with p.0 None p.1
+
+abbrev pub parts_at : Reader (Front × List Instr)
+parts_at = both front_at code_at
+
+-- a number is declared
+abbrev pub declared_from : Front × (ℕ × List Instr) → Image
+declared_from p = image_with p.0 (Some p.1.0) p.1.1
+
+abbrev pub declared_at : Reader (Front × (ℕ × List Instr))
+declared_at = both front_at (both (number_at w64) code_at)
 
 -- the readers of what stands behind each version, by their numbers
 abbrev pub image_readers : List (Reader Image)
-image_readers = refused ∷ made image_from parts_at ∷ []
+image_readers = refused ∷ made image_from parts_at ∷ made declared_from declared_at ∷ []
 
 -- the image at the front
 abbrev pub image_at : Reader Image

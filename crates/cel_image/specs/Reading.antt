@@ -111,6 +111,8 @@ type_readers inside in_nullable =
     ∷ made (λ fields. type.Object fields) (list_at (field_at (inside false)))
     ∷ (if in_nullable then refused else made (λ item. type.Nullable item) (inside true))
     ∷ nothing type.Opaque
+    ∷ nothing type.Timestamp
+    ∷ nothing type.Duration
     ∷ []
 
 -- one level, with the reader of the types inside

@@ -17,6 +17,10 @@ use Rattle.cel_value.specs.declared.value.Value.TheOpen.{Value-F}
 abbrev pub be32 : ℕ → List ℕ
 be32 n = to_be_bytes w32 n
 
+-- eight bytes, the highest first
+abbrev pub be64 : ℕ → List ℕ
+be64 n = to_be_bytes w64 n
+
 -- a number has a spelling below 2 ^ 32
 abbrev pub is_short : ℕ → Bool
 is_short n = nat_lt n (2 ^ 32)
@@ -68,6 +72,8 @@ type_step (CelType-F.Map max key_max item) = 7 ∷ (be32 max ++ (be32 key_max ++
 type_step (CelType-F.Object fields) = 8 ∷ listed field fields
 type_step (CelType-F.Nullable item) = 9 ∷ item
 type_step CelType-F.Opaque = 10 ∷ []
+type_step CelType-F.Timestamp = 11 ∷ []
+type_step CelType-F.Duration = 12 ∷ []
 
 -- a type, level by level
 abbrev pub type_spelling : CelType → List ℕ
@@ -94,6 +100,8 @@ level_is_spellable (CelType-F.Map max key_max item) depth in_nullable = is_short
 level_is_spellable (CelType-F.Object fields) depth in_nullable = is_list (is_field (λ inside. inside depth false)) fields
 level_is_spellable (CelType-F.Nullable item) depth in_nullable = not in_nullable && item depth true
 level_is_spellable CelType-F.Opaque depth in_nullable = true
+level_is_spellable CelType-F.Timestamp depth in_nullable = true
+level_is_spellable CelType-F.Duration depth in_nullable = true
 
 -- no level, where none may be
 abbrev pub spellable_step : CelType-F Spellable → Spellable
@@ -106,7 +114,7 @@ is_spellable = fold-CelType Spellable spellable_step
 
 -- 64 bits, two's complement
 abbrev pub signed : ℤ → List ℕ
-signed n = to_be_bytes w64 (cast_unsigned w64 n)
+signed n = be64 (cast_unsigned w64 n)
 
 -- a number of 64 bits
 abbrev pub is_signed : ℤ → Bool
@@ -118,7 +126,7 @@ abbrev pub constant_at : Value-F Value → List ℕ
 constant_at Value-F.Null = 0 ∷ []
 constant_at (Value-F.Bool b) = 1 ∷ truth b
 constant_at (Value-F.Int n) = 2 ∷ signed n
-constant_at (Value-F.Uint n) = 3 ∷ to_be_bytes w64 n
+constant_at (Value-F.Uint n) = 3 ∷ be64 n
 constant_at (Value-F.Text bytes) = 4 ∷ text bytes
 constant_at _ = []
 

@@ -5,17 +5,21 @@ ghost use Rattle.failing.specs.Failures.{Answers, Gives, IfFault};
 ghost use Rattle.cel_code.specs.declared.image.Image.{Image};
 ghost use Rattle.cel_image.specs.declared.fault.ReadFault.TheVariants.{BadTable};
 ghost use Rattle.cel_image.specs.declared.fault.ImageFault.TheVariants.{TrailingBytes};
-ghost use Rattle.cel_image.specs.Code.{magic, contents, is_image, Spells};
+ghost use Rattle.cel_image.specs.Code.{magic, contents, declaration, is_declaration, is_image, version, Spells};
 ghost use Rattle.cel_image.specs.Reading.{made, tagged};
-ghost use Rattle.cel_image.specs.CodeReading.{image_at, image_readers, parts_at, image_from, byte_is, marked};
+ghost use Rattle.cel_image.specs.CodeReading.{front_at, image_at, image_readers, image_with, byte_is, marked};
+ghost use Rattle.cel_image.specs.CodeReading.{parts_at, image_from, declared_at, declared_from};
 ghost use Rattle.cel_image.specs.Decoding.{decoded, IsRightFault};
 
 use crate::fault::{ImageError, ImageFault, ReadError, ReadFault};
+use crate::fields::u64_at;
 use crate::spellable::{MOST_LEVELS, is_spellable};
 use crate::spelt::{is_list, list_of, put_list};
 use crate::types::type_of;
 use crate::writing::put_type;
-use cel_code::Image;
+use cel_code::{Image, Instr, Target};
+use cel_value::{CelType, Value};
+use plain::Items;
 use std::alloc::{AllocError, Global};
 
 /// Whether an image has a spelling: exactly if some bytes spell it.
@@ -27,7 +31,27 @@ pub fn has_spelling(image: &Image) -> bool
         && is_list(image.constants.as_slice())
         && is_list(image.targets.as_slice())
         && is_spellable(&image.result, MOST_LEVELS, false)
+        && is_declaration(image.declared)
         && is_list(image.code.as_slice())
+}
+
+// Whether what an image declares has a spelling: each number of 64 bits has one.
+fn is_declaration(declared: Option<u64>) -> bool
+    ensures { result ≡ is_declaration declared }
+{
+    match declared {
+        None => true,
+        Some(number) => number <= u64::MAX,
+    }
+}
+
+fn version(declared: Option<u64>) -> u8
+    ensures { result ≡ version declared }
+{
+    match declared {
+        None => 1,
+        Some(_) => 2,
+    }
 }
 
 /// The one spelling of an image that has one.
@@ -36,7 +60,8 @@ pub fn encode(alloc: Global, image: &Image) -> Result<Vec<u8>, AllocError>
     ensures { IfOk result (λ bytes. Spells image.now bytes.items) }
 {
     let mut out = Vec::new(alloc);
-    out.extend_from_slice(b"VAPI\x01")?;
+    out.extend_from_slice(b"VAPI")?;
+    out.push(version(image.declared))?;
     put_contents(&mut out, image)?;
     Ok(out)
 }
@@ -49,7 +74,18 @@ fn put_contents(out: &mut Vec<u8>, image: &Image) -> Result<(), AllocError>
     put_list(out, image.constants.as_slice())?;
     put_list(out, image.targets.as_slice())?;
     put_type(out, &image.result)?;
+    put_declaration(out, image.declared)?;
     put_list(out, image.code.as_slice())
+}
+
+// Writes the number that is declared, if one is.
+fn put_declaration(out: &mut Vec<u8>, declared: Option<u64>) -> Result<(), AllocError>
+    ensures { OnOk result (out.new.items ≡ out.old.items ++ declaration declared) }
+{
+    if let Some(number) = declared {
+        out.extend_from_slice(&number.to_be_bytes())?;
+    }
+    Ok(())
 }
 
 /// The image that the bytes spell, or the first fault from the front.
@@ -120,28 +156,73 @@ fn version_of(alloc: Global, bytes: &[u8]) -> Result<(Image, &[u8]), ReadError>
 {
     match bytes {
         [] => Err(ReadError::Fault(ReadFault::Truncated)),
-        [1, rest @ ..] => contents_of(alloc, rest),
+        [1, rest @ ..] => plain_of(alloc, rest),
+        [2, rest @ ..] => declared_of(alloc, rest),
         [_, ..] => Err(ReadError::Fault(ReadFault::BadTable)),
     }
 }
 
-// What stands behind the version.
-fn contents_of(alloc: Global, bytes: &[u8]) -> Result<(Image, &[u8]), ReadError>
-    ensures { Gives (λ x. (x.0, x.1.now)) result (made image_from parts_at bytes.now) }
+/// What stands in front of the code, whatever the version.
+#[derive(Drop)]
+pub struct Front {
+    pub slots: Items<CelType>,
+    pub constants: Items<Value>,
+    pub targets: Items<Target>,
+    pub result: CelType,
+}
+
+fn front_of(alloc: Global, bytes: &[u8]) -> Result<(Front, &[u8]), ReadError>
+    ensures { Gives (λ x. (x.0, x.1.now)) result (front_at bytes.now) }
 {
     let (slots, rest) = list_of(alloc, bytes)?;
     let (constants, rest) = list_of(alloc, rest)?;
     let (targets, rest) = list_of(alloc, rest)?;
     let (result, rest) = type_of(alloc, MOST_LEVELS, false, rest)?;
-    let (code, rest) = list_of(alloc, rest)?;
-    let image = Image {
+    let front = Front {
         slots,
         constants,
         targets,
         result,
-        code,
     };
-    Ok((image, rest))
+    Ok((front, rest))
+}
+
+fn image_with(front: Front, declared: Option<u64>, code: Items<Instr>) -> Image
+    ensures { result ≡ image_with front declared code }
+{
+    let Front {
+        slots,
+        constants,
+        targets,
+        result,
+    } = front;
+    Image {
+        slots,
+        constants,
+        targets,
+        result,
+        declared,
+        code,
+    }
+}
+
+// What stands behind version 1: nothing is declared.
+fn plain_of(alloc: Global, bytes: &[u8]) -> Result<(Image, &[u8]), ReadError>
+    ensures { Gives (λ x. (x.0, x.1.now)) result (made image_from parts_at bytes.now) }
+{
+    let (front, rest) = front_of(alloc, bytes)?;
+    let (code, rest) = list_of(alloc, rest)?;
+    Ok((image_with(front, None, code), rest))
+}
+
+// What stands behind version 2: a number is declared.
+fn declared_of(alloc: Global, bytes: &[u8]) -> Result<(Image, &[u8]), ReadError>
+    ensures { Gives (λ x. (x.0, x.1.now)) result (made declared_from declared_at bytes.now) }
+{
+    let (front, rest) = front_of(alloc, bytes)?;
+    let (number, rest) = u64_at(rest)?;
+    let (code, rest) = list_of(alloc, rest)?;
+    Ok((image_with(front, Some(number), code), rest))
 }
 
 /// An image has at most one spelling, bytes spell at most one image, and no spelling begins another.

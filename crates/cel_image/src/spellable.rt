@@ -51,6 +51,8 @@ pub fn is_spellable(cel_type: &CelType, depth: u32, in_nullable: bool) -> bool
         CelType::Object { fields } => are_spellable(fields.get(), depth - 1),
         CelType::Nullable(item) => !in_nullable && is_spellable(item.get(), depth - 1, true),
         CelType::Opaque => true,
+        CelType::Timestamp => true,
+        CelType::Duration => true,
     }
 }
 

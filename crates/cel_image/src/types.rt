@@ -95,6 +95,8 @@ fn type_behind(
             Ok((CelType::Nullable(Shared::new(alloc, item)?), rest))
         }
         10 => Ok((CelType::Opaque, bytes)),
+        11 => Ok((CelType::Timestamp, bytes)),
+        12 => Ok((CelType::Duration, bytes)),
         _ => Err(ReadError::Fault(ReadFault::BadTable)),
     }
 }

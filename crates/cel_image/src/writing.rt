@@ -75,6 +75,8 @@ pub fn put_type(out: &mut Vec<u8>, cel_type: &CelType) -> Result<(), AllocError>
             put_type(out, item.get())?;
         }
         CelType::Opaque => out.push(10)?,
+        CelType::Timestamp => out.push(11)?,
+        CelType::Duration => out.push(12)?,
     }
     Ok(())
 }

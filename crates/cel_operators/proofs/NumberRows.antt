@@ -25,13 +25,13 @@ use Rattle.cel_value.proofs.JoinRules.{join-apart}
 use Rattle.cel_text.proofs.Digits.{int_short, uint_short}
 use Rattle.cel_operators.specs.Outcomes.{Outcome, outcome_fits}
 use Rattle.cel_operators.specs.Orders.{Order, order_at, AreInOneOrder, Orders, Only, orders_at, less_at, less}
-use Rattle.cel_operators.specs.Wants.{Any, Whole, Natural, Ordered, Wholes, Naturals, Within}
+use Rattle.cel_operators.specs.Wants.{Want, Any, Ordered, Wholes, Naturals, Of, Within}
 use Rattle.cel_operators.specs.Operators.{One, Two, in_range, int_or_overflow, uint_or_overflow, divided, uint_difference, uint_divided}
 use Rattle.cel_operators.specs.Operators.{truth_of, untruth_of, bool_where, lesser_weight, lesser_greatest}
-use Rattle.cel_operators.specs.Operators.{arithmetic_row, natural_row, equality_row, order_row, int_row, uint_row, ints_row, uints_row}
+use Rattle.cel_operators.specs.Operators.{fixed_one, equality_row, order_row, ints_row, uints_row}
 use Rattle.cel_operators.specs.Operators.{string_of_int, string_of_uint, uint_of_int, left_of, extreme_of}
 use Rattle.cel_operators.proofs.Opened.{opened, fits-out, bool_fits, int_fits, uint_fits, text_fits}
-use Rattle.cel_operators.proofs.RightRows.{Gives, TwoGood, RowRight, compared_gives}
+use Rattle.cel_operators.proofs.RightRows.{Gives, TwoGood, RowRight, fixed_one_right, compared_gives}
 
 -- an integer that is in range, or Overflow
 range_fits : (b : Bool) (n : ℤ) → outcome_fits type.Int (Some (cond b (Ok (value.Int n)) (Err Overflow))) ≡ true
@@ -45,10 +45,6 @@ pub divided_fits : (f : ℤ → ℤ → ℤ) (a b : ℤ) → outcome_fits type.I
 divided_fits f a (pos zero) = refl
 divided_fits f a (pos (suc n)) = range_fits (in_range (int_div a (pos (suc n)))) (f a (pos (suc n)))
 divided_fits f a (negsuc n) = range_fits (in_range (int_div a (negsuc n))) (f a (negsuc n))
-
-pub arithmetic_right : (f : ℤ → ℤ → Outcome) → ((a b : ℤ) → outcome_fits type.Int (Some (f a b)) ≡ true)
-    → RowRight (Two Whole Whole (arithmetic_row f))
-arithmetic_right f h = λ l m. (omega arith, λ a b p q. (h a b, omega arith))
 
 -- likewise of unsigned ones
 uint_range_fits : (b : Bool) (n : ℕ) → outcome_fits type.Uint (Some (cond b (Ok (value.Uint n)) (Err Overflow))) ≡ true
@@ -65,17 +61,11 @@ pub uint_divided_fits : (f : ℕ → ℕ → ℕ) (m n : ℕ) → outcome_fits t
 uint_divided_fits f m zero = refl
 uint_divided_fits f m (suc n) = uint_fits (f m (suc n))
 
-pub natural_right : (f : ℕ → ℕ → Outcome) → ((a b : ℕ) → outcome_fits type.Uint (Some (f a b)) ≡ true)
-    → RowRight (Two Natural Natural (natural_row f))
-natural_right f h = λ l m. (omega arith, λ a b p q. (h a b, omega arith))
+-- an integer, whichever it is
+pub int_right : (w : Want) (f : Of w → ℤ) → RowRight (fixed_one w type.Int (λ a. Ok (value.Int (f a))))
+int_right w f = fixed_one_right w type.Int (λ a. Ok (value.Int (f a))) (λ a. int_fits (f a))
 
--- one number to another, or to a text of 20 code points at most
-pub int_right : (f : ℤ → Outcome) (t : CelType) → ((n : ℤ) → outcome_fits t (Some (f n)) ≡ true) → RowRight (One Whole (int_row f t))
-int_right f t h = λ l. (omega arith, λ n p. (h n, omega arith))
-
-pub uint_right : (f : ℕ → Outcome) (t : CelType) → ((n : ℕ) → outcome_fits t (Some (f n)) ≡ true) → RowRight (One Natural (uint_row f t))
-uint_right f t h = λ l. (omega arith, λ n p. (h n, omega arith))
-
+-- a number as a text of 20 code points at most
 within_64 : (z : ℤ) → in_range z ≡ true → mag z < 2 ^ 63
 within_64 (pos n) h = ltb-true n (2 ^ 63) h
 within_64 (negsuc n) h = ltb-true n (2 ^ 63) h
@@ -133,6 +123,8 @@ kind_order CelType-F.Null CelType-F.Null h = refl
 kind_order CelType-F.Bool CelType-F.Bool h = refl
 kind_order CelType-F.Int CelType-F.Int h = refl
 kind_order CelType-F.Uint CelType-F.Uint h = refl
+kind_order CelType-F.Timestamp CelType-F.Timestamp h = refl
+kind_order CelType-F.Duration CelType-F.Duration h = refl
 kind_order (CelType-F.Text m) (CelType-F.Text n) h = refl
 kind_order (CelType-F.List m p s) (CelType-F.List n q t) h = refl
 kind_order (CelType-F.Map m i s) (CelType-F.Map n j t) h = refl
@@ -174,6 +166,8 @@ less_there : (p q : Value-F Value) (order : Order) → order_at p ≡ Some order
 less_there (Value-F.Bool a) (Value-F.Bool b) order h k = (bool_lt a b, refl)
 less_there (Value-F.Int m) (Value-F.Int n) order h k = (int_lt m n, refl)
 less_there (Value-F.Uint m) (Value-F.Uint n) order h k = (nat_lt m n, refl)
+less_there (Value-F.Timestamp m) (Value-F.Timestamp n) order h k = (int_lt m n, refl)
+less_there (Value-F.Duration m) (Value-F.Duration n) order h k = (int_lt m n, refl)
 less_there (Value-F.Text a) (Value-F.Text b) order h k = (is_lt (slice_cmp nat_cmp (chars a) (chars b)), refl)
 less_there _ _ order h k = let no : ⊥ = cc in absurd no
 

@@ -43,6 +43,12 @@ out-Null = search (rules, value_lemmas)
 pub out-Uint : (n : ℕ) → out-Value (value.Uint n) ≡ Value-F.Uint n
 out-Uint n = search (rules, value_lemmas)
 
+pub out-Timestamp : (n : ℤ) → out-Value (value.Timestamp n) ≡ Value-F.Timestamp n
+out-Timestamp n = search (rules, value_lemmas)
+
+pub out-Duration : (n : ℤ) → out-Value (value.Duration n) ≡ Value-F.Duration n
+out-Duration n = search (rules, value_lemmas)
+
 pub out-Text : (bytes : List ℕ) → out-Value (value.Text bytes) ≡ Value-F.Text bytes
 out-Text bytes = search (rules, value_lemmas)
 
@@ -66,6 +72,12 @@ out-type-Null = search (rules, type_lemmas)
 
 pub out-type-Uint : out-CelType type.Uint ≡ CelType-F.Uint
 out-type-Uint = search (rules, type_lemmas)
+
+pub out-type-Timestamp : out-CelType type.Timestamp ≡ CelType-F.Timestamp
+out-type-Timestamp = search (rules, type_lemmas)
+
+pub out-type-Duration : out-CelType type.Duration ≡ CelType-F.Duration
+out-type-Duration = search (rules, type_lemmas)
 
 pub out-type-Never : out-CelType type.Never ≡ CelType-F.Never
 out-type-Never = search (rules, type_lemmas)
@@ -93,6 +105,14 @@ int_fits n = fits-levels (value.Int n) type.Int (Value-F.Int n) CelType-F.Int (o
 
 pub uint_fits : (n : ℕ) → fits (value.Uint n) type.Uint ≡ true
 uint_fits n = fits-levels (value.Uint n) type.Uint (Value-F.Uint n) CelType-F.Uint (out-Uint n) out-type-Uint
+
+pub timestamp_fits : (n : ℤ) → fits (value.Timestamp n) type.Timestamp ≡ true
+timestamp_fits n =
+    fits-levels (value.Timestamp n) type.Timestamp (Value-F.Timestamp n) CelType-F.Timestamp (out-Timestamp n) out-type-Timestamp
+
+pub duration_fits : (n : ℤ) → fits (value.Duration n) type.Duration ≡ true
+duration_fits n =
+    fits-levels (value.Duration n) type.Duration (Value-F.Duration n) CelType-F.Duration (out-Duration n) out-type-Duration
 
 pub null_fits : fits value.Null type.Null ≡ true
 null_fits = fits-levels value.Null type.Null Value-F.Null CelType-F.Null out-Null out-type-Null

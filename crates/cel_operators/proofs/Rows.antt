@@ -1,5 +1,7 @@
 -- Each row is right, and so is what an operator answers at operands of the right types.
-use Rattle.std.proofs.Common.{◌≡◌, ℕ, ◌+◌, ◌*◌, ◌/◌, ◌%◌, ◌≤◌, true, not, min, max, Option, Some, None, refl, sym, subst, arith, true≢false}
+use Rattle.std.proofs.Common.{◌≡◌, ℕ, ◌+◌, ◌-◌, ◌*◌, ◌/◌, ◌%◌, ◌≤◌, true, not, min, max, length, Option, Some, None, refl, sym}
+use Rattle.std.proofs.Common.{subst, arith, true≢false}
+use Rattle.std.specs.Int.{int_div_euclid}
 use Rattle.std.specs.Prelude.{Result, Ok, Err, pos, ◌+ℤ◌, ◌-ℤ◌, ◌*ℤ◌, neg_ℤ, int_div, int_rem, sum}
 use Rattle.std.specs.Char.{to_ascii_lowercase, to_ascii_uppercase}
 use Rattle.cel_value.specs.declared.value.Value as value
@@ -10,83 +12,109 @@ use Rattle.cel_value.specs.CelType.{assignable}
 use Rattle.cel_value.specs.Value.{code_points}
 use Rattle.cel_value.proofs.Soundness.{IsWithin-from_assignable}
 use Rattle.cel_text.specs.Numbers.{int_of, uint_of}
+use Rattle.cel_time.specs.Days.{day_of, day_time, place_in_year, weekday_of, hour_of, minute_of, second_of, nanosecond_of}
+use Rattle.cel_time.specs.Instants.{instant_of, duration_in_range}
+use Rattle.cel_time.specs.Printed.{timestamp_text}
+use Rattle.cel_time.specs.Reading.{timestamp_of, duration_of}
 use Rattle.cel_text.specs.Parts.{starts_with, ends_with}
 use Rattle.cel_text.proofs.Recased.{code_points-lower, code_points-upper}
 use Rattle.cel_operators.specs.declared.operator.Operator.{Operator}
-use Rattle.cel_operators.specs.declared.operator.Operator.TheVariants.{Not, Negate, Add, AddUint, AddText, AddList, Subtract, SubtractUint}
-use Rattle.cel_operators.specs.declared.operator.Operator.TheVariants.{Multiply, MultiplyUint, Divide, DivideUint, Remainder, RemainderUint}
-use Rattle.cel_operators.specs.declared.operator.Operator.TheVariants.{Equal, NotEqual, Less, AtMost, Greater, AtLeast, InList, InMap}
-use Rattle.cel_operators.specs.declared.operator.Operator.TheVariants.{IndexList, IndexMap, SizeText, SizeList, SizeMap, StartsWith}
-use Rattle.cel_operators.specs.declared.operator.Operator.TheVariants.{EndsWith, Contains, LowerAscii, UpperAscii, StringOfInt}
-use Rattle.cel_operators.specs.declared.operator.Operator.TheVariants.{StringOfUint, StringOfText, IntOfInt, IntOfUint, IntOfText}
-use Rattle.cel_operators.specs.declared.operator.Operator.TheVariants.{UintOfInt, UintOfUint, UintOfText, SumInts, SumUints, MinInts}
-use Rattle.cel_operators.specs.declared.operator.Operator.TheVariants.{MinUints, MaxInts, MaxUints, Join}
+use Rattle.cel_operators.specs.declared.operator.Operator.TheVariants as operator
 use Rattle.cel_operators.specs.declared.type_rule.TypeRule.{TypeRule}
 use Rattle.cel_operators.specs.Outcomes.{Outcome, outcome_fits}
-use Rattle.cel_operators.specs.Wants.{Want, Of, taken, Limit, limit_of}
+use Rattle.cel_operators.specs.Wants.{Want, Truth, Whole, Natural, Moment, Lapse, Items, Entries, Of, taken, Limit, limit_of}
 use Rattle.cel_operators.specs.Operators.{OneRow, TwoRow, Row, One, Two, row, Made, makes, one, two, at_one, at_two, outcome_made}
 use Rattle.cel_operators.specs.Operators.{charge_made, of_limit, of_limits, type_of_one, type_of_two, most, most_of_two, greatest_of_one}
-use Rattle.cel_operators.specs.Operators.{greatest_of_two, counts, sum_of_ints, lesser_int, greater_int}
-use Rattle.cel_operators.proofs.Opened.{bool_fits, int_fits, uint_fits, text_fits}
+use Rattle.cel_operators.specs.Operators.{greatest_of_two, count, sum_of_ints, lesser_int, greater_int}
+use Rattle.cel_operators.proofs.Opened.{bool_fits, int_fits, uint_fits, text_fits, timestamp_fits, duration_fits}
 pub use Rattle.cel_operators.proofs.Taking.{Taken, taken_fits}
 pub use Rattle.cel_operators.proofs.RightRows.{Gives, OneGood, TwoGood, RowRight}
-use Rattle.cel_operators.proofs.NumberRows.{checked_fits, divided_fits, arithmetic_right, uint_checked_fits, uint_difference_fits}
-use Rattle.cel_operators.proofs.NumberRows.{uint_divided_fits, natural_right, int_right, uint_right, string_of_int_fits}
+use Rattle.cel_operators.proofs.RightRows.{fixed_one_right, fixed_two_right}
+use Rattle.cel_operators.proofs.NumberRows.{checked_fits, divided_fits, uint_checked_fits, uint_difference_fits}
+use Rattle.cel_operators.proofs.NumberRows.{uint_divided_fits, int_right, string_of_int_fits}
 use Rattle.cel_operators.proofs.NumberRows.{string_of_uint_fits, uint_of_int_fits, ints_right, uints_right, extreme_fits, equality_right}
 use Rattle.cel_operators.proofs.NumberRows.{less_right, at_most_right, greater_right, at_least_right}
 use Rattle.cel_operators.proofs.TextRows.{text_right, recased_right, spelled_right, text_sum_right, end_right, contains_right, join_right}
+use Rattle.cel_operators.proofs.TimeRows.{timestamp_or_overflow, duration_or_overflow, string_of_timestamp_fits, string_of_duration_fits}
 use Rattle.cel_operators.proofs.ListRows.{list_sum_right, in_list_right, in_map_right, index_list_right, index_map_right}
-use Rattle.cel_operators.proofs.ListRows.{size_list_right, size_map_right}
 
 pub row_right : (op : Operator) → RowRight (row op)
-row_right Not = λ l. (omega arith, λ b p. (bool_fits (not b), omega arith))
-row_right Negate = λ l. (omega arith, λ n p. (checked_fits (neg_ℤ n), omega arith))
-row_right Add = arithmetic_right _ (λ a b. checked_fits (a +ℤ b))
-row_right AddUint = natural_right _ (λ a b. uint_checked_fits (a + b))
-row_right AddText = text_sum_right
-row_right AddList = list_sum_right
-row_right Subtract = arithmetic_right _ (λ a b. checked_fits (a -ℤ b))
-row_right SubtractUint = natural_right _ uint_difference_fits
-row_right Multiply = arithmetic_right _ (λ a b. checked_fits (a *ℤ b))
-row_right MultiplyUint = natural_right _ (λ a b. uint_checked_fits (a * b))
-row_right Divide = arithmetic_right _ (divided_fits int_div)
-row_right DivideUint = natural_right _ (uint_divided_fits (λ m n. m / n))
-row_right Remainder = arithmetic_right _ (divided_fits int_rem)
-row_right RemainderUint = natural_right _ (uint_divided_fits (λ m n. m % n))
-row_right Equal = equality_right (λ b. b)
-row_right NotEqual = equality_right not
-row_right Less = less_right
-row_right AtMost = at_most_right
-row_right Greater = greater_right
-row_right AtLeast = at_least_right
-row_right InList = in_list_right
-row_right InMap = in_map_right
-row_right IndexList = index_list_right
-row_right IndexMap = index_map_right
-row_right SizeText = text_right (λ s. counts (code_points s)) (λ m. type.Int) (λ m s p. int_fits (pos (code_points s)))
-row_right SizeList = size_list_right
-row_right SizeMap = size_map_right
-row_right StartsWith = end_right starts_with
-row_right EndsWith = end_right ends_with
-row_right Contains = contains_right
-row_right LowerAscii = recased_right to_ascii_lowercase code_points-lower
-row_right UpperAscii = recased_right to_ascii_uppercase code_points-upper
-row_right StringOfInt = int_right _ _ string_of_int_fits
-row_right StringOfUint = uint_right _ _ string_of_uint_fits
-row_right StringOfText = λ m. (omega arith, λ s p. (text_fits s m p, omega arith))
-row_right IntOfInt = int_right (λ n. Ok (value.Int n)) type.Int int_fits
-row_right IntOfUint = uint_right _ _ (λ n. checked_fits (pos n))
-row_right IntOfText = spelled_right value.Int type.Int int_fits int_of
-row_right UintOfInt = int_right _ _ uint_of_int_fits
-row_right UintOfUint = uint_right (λ n. Ok (value.Uint n)) type.Uint uint_fits
-row_right UintOfText = spelled_right value.Uint type.Uint uint_fits uint_of
-row_right SumInts = ints_right _ (λ ns. checked_fits (sum_of_ints ns))
-row_right SumUints = uints_right _ (λ ns. uint_checked_fits (sum ns))
-row_right MinInts = ints_right _ (extreme_fits lesser_int value.Int type.Int int_fits)
-row_right MinUints = uints_right _ (extreme_fits min value.Uint type.Uint uint_fits)
-row_right MaxInts = ints_right _ (extreme_fits greater_int value.Int type.Int int_fits)
-row_right MaxUints = uints_right _ (extreme_fits max value.Uint type.Uint uint_fits)
-row_right Join = join_right
+row_right operator.Not = fixed_one_right Truth type.Bool (λ b. Ok (value.Bool (not b))) (λ b. bool_fits (not b))
+row_right operator.Negate = fixed_one_right Whole type.Int _ (λ n. checked_fits (neg_ℤ n))
+row_right operator.Add = fixed_two_right Whole Whole type.Int _ (λ a b. checked_fits (a +ℤ b))
+row_right operator.AddUint = fixed_two_right Natural Natural type.Uint _ (λ a b. uint_checked_fits (a + b))
+row_right operator.AddText = text_sum_right
+row_right operator.AddList = list_sum_right
+row_right operator.Subtract = fixed_two_right Whole Whole type.Int _ (λ a b. checked_fits (a -ℤ b))
+row_right operator.SubtractUint = fixed_two_right Natural Natural type.Uint _ uint_difference_fits
+row_right operator.Multiply = fixed_two_right Whole Whole type.Int _ (λ a b. checked_fits (a *ℤ b))
+row_right operator.MultiplyUint = fixed_two_right Natural Natural type.Uint _ (λ a b. uint_checked_fits (a * b))
+row_right operator.Divide = fixed_two_right Whole Whole type.Int _ (divided_fits int_div)
+row_right operator.DivideUint = fixed_two_right Natural Natural type.Uint _ (uint_divided_fits (λ m n. m / n))
+row_right operator.Remainder = fixed_two_right Whole Whole type.Int _ (divided_fits int_rem)
+row_right operator.RemainderUint = fixed_two_right Natural Natural type.Uint _ (uint_divided_fits (λ m n. m % n))
+row_right operator.Equal = equality_right (λ b. b)
+row_right operator.NotEqual = equality_right not
+row_right operator.Less = less_right
+row_right operator.AtMost = at_most_right
+row_right operator.Greater = greater_right
+row_right operator.AtLeast = at_least_right
+row_right operator.InList = in_list_right
+row_right operator.InMap = in_map_right
+row_right operator.IndexList = index_list_right
+row_right operator.IndexMap = index_map_right
+row_right operator.SizeText = text_right (λ s. Some (count (code_points s))) (λ m. type.Int) (λ m s p. int_fits (pos (code_points s)))
+row_right operator.SizeList = int_right Items (λ vs. pos (length vs))
+row_right operator.SizeMap = int_right Entries (λ es. pos (length es))
+row_right operator.StartsWith = end_right starts_with
+row_right operator.EndsWith = end_right ends_with
+row_right operator.Contains = contains_right
+row_right operator.LowerAscii = recased_right to_ascii_lowercase code_points-lower
+row_right operator.UpperAscii = recased_right to_ascii_uppercase code_points-upper
+row_right operator.StringOfInt = fixed_one_right Whole (type.Text 20) _ string_of_int_fits
+row_right operator.StringOfUint = fixed_one_right Natural (type.Text 20) _ string_of_uint_fits
+row_right operator.StringOfText = λ m. (omega arith, λ s p. (text_fits s m p, omega arith))
+row_right operator.IntOfInt = int_right Whole (λ n. n)
+row_right operator.IntOfUint = fixed_one_right Natural type.Int _ (λ n. checked_fits (pos n))
+row_right operator.IntOfText = spelled_right value.Int type.Int int_fits int_of
+row_right operator.UintOfInt = fixed_one_right Whole type.Uint _ uint_of_int_fits
+row_right operator.UintOfUint = fixed_one_right Natural type.Uint (λ n. Ok (value.Uint n)) uint_fits
+row_right operator.UintOfText = spelled_right value.Uint type.Uint uint_fits uint_of
+row_right operator.SumInts = ints_right _ (λ ns. checked_fits (sum_of_ints ns))
+row_right operator.SumUints = uints_right _ (λ ns. uint_checked_fits (sum ns))
+row_right operator.MinInts = ints_right _ (extreme_fits lesser_int value.Int type.Int int_fits)
+row_right operator.MinUints = uints_right _ (extreme_fits min value.Uint type.Uint uint_fits)
+row_right operator.MaxInts = ints_right _ (extreme_fits greater_int value.Int type.Int int_fits)
+row_right operator.MaxUints = uints_right _ (extreme_fits max value.Uint type.Uint uint_fits)
+row_right operator.Join = join_right
+row_right operator.TimestampOfText = spelled_right value.Timestamp type.Timestamp timestamp_fits timestamp_of
+row_right operator.DurationOfText = spelled_right value.Duration type.Duration duration_fits duration_of
+row_right operator.AddToTimestamp = fixed_two_right Moment Lapse type.Timestamp _ (λ t d. timestamp_or_overflow (instant_of (t +ℤ d)))
+row_right operator.AddTimestamp = fixed_two_right Lapse Moment type.Timestamp _ (λ d t. timestamp_or_overflow (instant_of (t +ℤ d)))
+row_right operator.AddDurations = fixed_two_right Lapse Lapse type.Duration _ (λ d e. duration_or_overflow (duration_in_range (d +ℤ e)))
+row_right operator.SubtractTimestamps =
+    fixed_two_right Moment Moment type.Duration _ (λ t u. duration_or_overflow (duration_in_range (t -ℤ u)))
+row_right operator.SubtractFromTimestamp =
+    fixed_two_right Moment Lapse type.Timestamp _ (λ t d. timestamp_or_overflow (instant_of (t -ℤ d)))
+row_right operator.SubtractDurations =
+    fixed_two_right Lapse Lapse type.Duration _ (λ d e. duration_or_overflow (duration_in_range (d -ℤ e)))
+row_right operator.StringOfTimestamp =
+    fixed_one_right Moment (type.Text 30) (λ t. Ok (value.Text (timestamp_text t))) string_of_timestamp_fits
+row_right operator.StringOfDuration = fixed_one_right Lapse (type.Text 22) _ string_of_duration_fits
+row_right operator.IntOfTimestamp = int_right Moment (λ t. int_div_euclid t (pos 1_000_000_000))
+row_right operator.YearOf = int_right Moment (λ t. pos (day_of t).year)
+row_right operator.MonthOf = int_right Moment (λ t. pos ((day_of t).month - 1))
+row_right operator.DateOf = int_right Moment (λ t. pos (day_of t).date)
+row_right operator.DayOfMonth = int_right Moment (λ t. pos ((day_of t).date - 1))
+row_right operator.DayOfWeek = int_right Moment (λ t. pos (weekday_of t))
+row_right operator.DayOfYear = int_right Moment (λ t. pos (place_in_year (day_of t)))
+row_right operator.HourOf = int_right Moment (λ t. pos (hour_of (day_time t)))
+row_right operator.MinuteOf = int_right Moment (λ t. pos (minute_of (day_time t)))
+row_right operator.SecondOf = int_right Moment (λ t. pos (second_of (day_time t)))
+row_right operator.MillisecondOf = int_right Moment (λ t. pos (nanosecond_of (day_time t) / 1_000_000))
+row_right operator.HoursIn = int_right Lapse (λ d. int_div d (pos 3_600_000_000_000))
+row_right operator.MinutesIn = int_right Lapse (λ d. int_div d (pos 60_000_000_000))
+row_right operator.SecondsIn = int_right Lapse (λ d. int_div d (pos 1_000_000_000))
 
 -- an outcome of a type is one of each type that takes it
 pub wider : (s t : CelType) (x : Option Outcome) → assignable s t ≡ true → outcome_fits s x ≡ true → outcome_fits t x ≡ true

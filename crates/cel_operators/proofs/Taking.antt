@@ -20,11 +20,12 @@ use Rattle.cel_value.specs.Fits.{fits_at, is_null}
 use Rattle.cel_value.specs.Value.{code_points}
 use Rattle.cel_text.specs.Joined.{text_at, text_of, texts_of}
 use Rattle.cel_operators.specs.Outcomes.{Outcome, outcome_fits}
-use Rattle.cel_operators.specs.Wants.{Want, Any, Truth, Whole, Natural, Ordered, Characters, Items, Entries, Indexed, Sought, Wholes}
-use Rattle.cel_operators.specs.Wants.{Naturals}
+use Rattle.cel_operators.specs.Wants.{Want, Any, Truth, Whole, Natural, Moment, Lapse, Ordered, Characters, Items, Entries, Indexed}
+use Rattle.cel_operators.specs.Wants.{Sought, Wholes, Naturals}
 use Rattle.cel_operators.specs.Wants.{Texts, Members, Ranged, Of, keys_of, kind_at, taken_value, taken, Limit, Shelf, limit_at, limit_of}
 use Rattle.cel_operators.specs.Wants.{without_null_at, without_null, Within}
-use Rattle.cel_operators.specs.Orders.{Order, OfBools, OfInts, OfUints, OfTexts, order_at, Orders, Only, orders_at, orders_of}
+use Rattle.cel_operators.specs.Orders.{Order, OfBools, OfInts, OfUints, OfTexts, OfTimestamps, OfDurations, order_at}
+use Rattle.cel_operators.specs.Orders.{Orders, Only, orders_at, orders_of}
 use Rattle.cel_operators.specs.Wants.{each_of, whole_at, natural_at, wholes_of, naturals_of, wholes_limit, naturals_limit, texts_limit}
 use Rattle.cel_operators.proofs.Opened.{opened, fits-out, fits-levels, text_fits}
 
@@ -45,11 +46,15 @@ ordered_level CelType-F.Bool (Value-F.Bool b) orders h k = (OfBools, refl, refl)
 ordered_level CelType-F.Int (Value-F.Int n) orders h k = (OfInts, refl, refl)
 ordered_level CelType-F.Uint (Value-F.Uint n) orders h k = (OfUints, refl, refl)
 ordered_level (CelType-F.Text max) (Value-F.Text bytes) orders h k = (OfTexts, refl, refl)
+ordered_level CelType-F.Timestamp (Value-F.Timestamp n) orders h k = (OfTimestamps, refl, refl)
+ordered_level CelType-F.Duration (Value-F.Duration n) orders h k = (OfDurations, refl, refl)
 ordered_level CelType-F.Never p orders h k = absurd (true≢false (sym h))
 ordered_level CelType-F.Bool _ orders h k = absurd (true≢false (sym h))
 ordered_level CelType-F.Int _ orders h k = absurd (true≢false (sym h))
 ordered_level CelType-F.Uint _ orders h k = absurd (true≢false (sym h))
 ordered_level (CelType-F.Text max) _ orders h k = absurd (true≢false (sym h))
+ordered_level CelType-F.Timestamp _ orders h k = absurd (true≢false (sym h))
+ordered_level CelType-F.Duration _ orders h k = absurd (true≢false (sym h))
 ordered_level _ p orders h k = absurd (none-some _ k)
 
 -- what something is put in place of is there
@@ -169,6 +174,18 @@ natural_taken v CelType-F.Uint (Value-F.Uint n) t l e h = tt
 natural_taken v CelType-F.Uint _ t l e h = absurd (true≢false (sym h))
 natural_taken v _ p t l e h = absurd (none-some _ e)
 
+moment_taken : LevelTaken Moment
+moment_taken v CelType-F.Never p t l e h = absurd (true≢false (sym h))
+moment_taken v CelType-F.Timestamp (Value-F.Timestamp n) t l e h = tt
+moment_taken v CelType-F.Timestamp _ t l e h = absurd (true≢false (sym h))
+moment_taken v _ p t l e h = absurd (none-some _ e)
+
+lapse_taken : LevelTaken Lapse
+lapse_taken v CelType-F.Never p t l e h = absurd (true≢false (sym h))
+lapse_taken v CelType-F.Duration (Value-F.Duration n) t l e h = tt
+lapse_taken v CelType-F.Duration _ t l e h = absurd (true≢false (sym h))
+lapse_taken v _ p t l e h = absurd (none-some _ e)
+
 characters_taken : LevelTaken Characters
 characters_taken v CelType-F.Never p t l e h = absurd (true≢false (sym h))
 characters_taken v (CelType-F.Text max) (Value-F.Text bytes) t l e h =
@@ -276,6 +293,8 @@ kind_taken Ordered t v l e h = ordered_taken v t l e h
 kind_taken Truth t v l e h = truth_taken v (out-CelType t) (out-Value v) t l e (sym (fits-out v t) ∙ h)
 kind_taken Whole t v l e h = whole_taken v (out-CelType t) (out-Value v) t l e (sym (fits-out v t) ∙ h)
 kind_taken Natural t v l e h = natural_taken v (out-CelType t) (out-Value v) t l e (sym (fits-out v t) ∙ h)
+kind_taken Moment t v l e h = moment_taken v (out-CelType t) (out-Value v) t l e (sym (fits-out v t) ∙ h)
+kind_taken Lapse t v l e h = lapse_taken v (out-CelType t) (out-Value v) t l e (sym (fits-out v t) ∙ h)
 kind_taken Characters t v l e h = characters_taken v (out-CelType t) (out-Value v) t l e (sym (fits-out v t) ∙ h)
 kind_taken Items t v l e h = items_taken v (out-CelType t) (out-Value v) t l e (sym (fits-out v t) ∙ h)
 kind_taken Entries t v l e h = entries_taken v (out-CelType t) (out-Value v) t l e (sym (fits-out v t) ∙ h)
@@ -314,6 +333,8 @@ value_taken Any t v l e h = subst (λ s. fits v s ≡ true) (same_Some _ _ e) h
 value_taken Truth t v l e h = kind_or_null Truth t v l e h
 value_taken Whole t v l e h = kind_or_null Whole t v l e h
 value_taken Natural t v l e h = kind_or_null Natural t v l e h
+value_taken Moment t v l e h = kind_or_null Moment t v l e h
+value_taken Lapse t v l e h = kind_or_null Lapse t v l e h
 value_taken Ordered t v l e h = kind_or_null Ordered t v l e h
 value_taken Characters t v l e h = kind_or_null Characters t v l e h
 value_taken Items t v l e h = kind_or_null Items t v l e h

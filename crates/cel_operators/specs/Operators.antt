@@ -5,6 +5,7 @@ use Rattle.std.specs.Prelude.{◌*ℤ◌, neg_ℤ, int_div, int_rem, int_lt, Boo
 use Rattle.std.specs.Prelude.{◌∷◌, ◌++◌, map, length, sum, sum_by, if◌then◌else◌, slice_get, is_some, Option, Some, None, Result, Ok, Err}
 use Rattle.std.specs.Prelude.{decimal}
 use Rattle.std.specs.Fmt.{signed_decimal}
+use Rattle.std.specs.Int.{int_div_euclid}
 use Rattle.std.specs.Char.{to_ascii_lowercase, to_ascii_uppercase}
 use Rattle.std.specs.List.{list_any, join_by}
 use Rattle.plain.specs.Keys.{value_under}
@@ -16,17 +17,14 @@ use Rattle.cel_value.specs.declared.cel_error.CelError.{CelError}
 use Rattle.cel_value.specs.declared.cel_error.CelError.TheVariants.{Overflow, DivideByZero, OutOfRange, NoSuchKey, BadConversion, EmptyList}
 use Rattle.cel_value.specs.Value.{weight_of, items_weight_of, text_weight_of, tenths_of, code_points, same}
 use Rattle.cel_value.specs.CelType.{greatest_of, join}
+use Rattle.cel_time.specs.Days.{day_of, day_time, place_in_year, weekday_of, hour_of, minute_of, second_of, nanosecond_of}
+use Rattle.cel_time.specs.Instants.{instant_of, duration_in_range}
+use Rattle.cel_time.specs.Printed.{timestamp_text, duration_text}
+use Rattle.cel_time.specs.Reading.{timestamp_of, duration_of}
 use Rattle.cel_text.specs.Numbers.{int_of, uint_of}
 use Rattle.cel_text.specs.Parts.{starts_with, ends_with, contains}
 use Rattle.cel_operators.specs.declared.operator.Operator.{Operator}
-use Rattle.cel_operators.specs.declared.operator.Operator.TheVariants.{Not, Negate, Add, AddUint, AddText, AddList, Subtract, SubtractUint}
-use Rattle.cel_operators.specs.declared.operator.Operator.TheVariants.{Multiply, MultiplyUint, Divide, DivideUint, Remainder, RemainderUint}
-use Rattle.cel_operators.specs.declared.operator.Operator.TheVariants.{Equal, NotEqual, Less, AtMost, Greater, AtLeast, InList, InMap}
-use Rattle.cel_operators.specs.declared.operator.Operator.TheVariants.{IndexList, IndexMap, SizeText, SizeList, SizeMap, StartsWith}
-use Rattle.cel_operators.specs.declared.operator.Operator.TheVariants.{EndsWith, Contains, LowerAscii, UpperAscii, StringOfInt}
-use Rattle.cel_operators.specs.declared.operator.Operator.TheVariants.{StringOfUint, StringOfText, IntOfInt, IntOfUint, IntOfText}
-use Rattle.cel_operators.specs.declared.operator.Operator.TheVariants.{UintOfInt, UintOfUint, UintOfText, SumInts, SumUints, MinInts}
-use Rattle.cel_operators.specs.declared.operator.Operator.TheVariants.{MinUints, MaxInts, MaxUints, Join}
+use Rattle.cel_operators.specs.declared.operator.Operator.TheVariants as operator
 pub use Rattle.cel_operators.specs.declared.operator.Made.{Made}
 pub use Rattle.cel_operators.specs.Orders.{less_at, less}
 pub use Rattle.cel_operators.specs.Codes.{operators, operator_of, code_of}
@@ -36,8 +34,8 @@ use Rattle.cel_operators.specs.declared.type_rule.TypeRule.{TypeRule}
 use Rattle.cel_operators.specs.declared.type_rule.TypeRule.TheVariants.{NoOverload, TooLarge}
 use Rattle.cel_operators.specs.Compared.{compared}
 use Rattle.cel_operators.specs.Outcomes.{Outcome}
-use Rattle.cel_operators.specs.Wants.{Want, Any, Truth, Whole, Natural, Ordered, Characters, Items, Entries, Indexed, Sought, Wholes}
-use Rattle.cel_operators.specs.Wants.{Naturals, Texts, Of, taken, Limit, Shelf, limit_of}
+use Rattle.cel_operators.specs.Wants.{Want, Any, Truth, Whole, Natural, Moment, Lapse, Ordered, Characters, Items, Entries, Indexed}
+use Rattle.cel_operators.specs.Wants.{Sought, Wholes, Naturals, Texts, Of, taken, Limit, Shelf, limit_of}
 
 -- an operator with one operand; None is no answer at an operand of its kind
 pub record OneRow (w : Want) : Type 0 where
@@ -113,21 +111,13 @@ lesser_weight v w = min (weight_of v) (weight_of w)
 abbrev pub lesser_greatest : CelType → CelType → ℕ
 lesser_greatest s t = min (greatest_of s) (greatest_of t)
 
--- `!`
-abbrev pub not_row : OneRow Truth
-not_row = record { answer = λ b. Some (Ok (value.Bool (not b))); charge = λ b. 1; result = λ l. Ok type.Bool; greatest = λ l. 1 }
+-- an operation on one operand that charges 1, by the one type of its answers, and its answer
+abbrev pub fixed_one : (w : Want) → CelType → (Of w → Outcome) → Row
+fixed_one w t f = One w (record { answer = λ a. Some (f a); charge = λ a. 1; result = λ l. Ok t; greatest = λ l. 1 })
 
--- `-` in front
-abbrev pub negate_row : OneRow Whole
-negate_row = record { answer = λ n. Some (int_or_overflow (neg_ℤ n)); charge = λ n. 1; result = λ l. Ok type.Int; greatest = λ l. 1 }
-
--- an operation on two integers
-abbrev pub arithmetic_row : (ℤ → ℤ → Outcome) → TwoRow Whole Whole
-arithmetic_row f = record { answer = λ m n. Some (f m n); charge = λ m n. 1; result = λ l k. Ok type.Int; greatest = λ l k. 1 }
-
--- an operation on two unsigned integers
-abbrev pub natural_row : (ℕ → ℕ → Outcome) → TwoRow Natural Natural
-natural_row f = record { answer = λ m n. Some (f m n); charge = λ m n. 1; result = λ l k. Ok type.Uint; greatest = λ l k. 1 }
+-- the same on two operands
+abbrev pub fixed_two : (v w : Want) → CelType → (Of v → Of w → Outcome) → Row
+fixed_two v w t f = Two v w (record { answer = λ a b. Some (f a b); charge = λ a b. 1; result = λ l m. Ok t; greatest = λ l m. 1 })
 
 -- `==`, and `!=` by the opposite
 abbrev pub equality_row : (Bool → Bool) → TwoRow Any Any
@@ -166,8 +156,8 @@ abbrev pub truth : Bool → Option Outcome
 truth b = Some (Ok (value.Bool b))
 
 -- a count as an answer
-abbrev pub counts : ℕ → Option Outcome
-counts n = Some (Ok (value.Int (pos n)))
+abbrev pub count : ℕ → Outcome
+count n = Ok (value.Int (pos n))
 
 -- a text as an answer
 abbrev pub answers_text : List ℕ → Option Outcome
@@ -236,14 +226,6 @@ index_map_row = record {
 abbrev pub text_row : (List ℕ → Option Outcome) → (ℕ → CelType) → OneRow Characters
 text_row f t = record { answer = f; charge = λ s. 1 + tenths_in s; result = λ m. Ok (t m); greatest = λ m. 1 + tenths_of m }
 
--- how many items there are
-abbrev pub size_list_row : OneRow Items
-size_list_row = record { answer = λ vs. counts (length vs); charge = λ vs. 1; result = λ r. Ok type.Int; greatest = λ r. 1 }
-
--- how many entries there are
-abbrev pub size_map_row : OneRow Entries
-size_map_row = record { answer = λ es. counts (length es); charge = λ es. 1; result = λ s. Ok type.Int; greatest = λ s. 1 }
-
 -- by what a text begins, or ends
 abbrev pub end_row : (List ℕ → List ℕ → Bool) → TwoRow Characters Characters
 end_row f = record {
@@ -261,14 +243,6 @@ contains_row = record {
   result = λ m n. Ok type.Bool;
   greatest = λ m n. (1 + tenths_of m) * (1 + tenths_of n);
 }
-
--- an operation on one integer that charges 1, by its answer and the type of that
-abbrev pub int_row : (ℤ → Outcome) → CelType → OneRow Whole
-int_row f t = record { answer = λ n. Some (f n); charge = λ n. 1; result = λ l. Ok t; greatest = λ l. 1 }
-
--- the same of an unsigned one
-abbrev pub uint_row : (ℕ → Outcome) → CelType → OneRow Natural
-uint_row f t = record { answer = λ n. Some (f n); charge = λ n. 1; result = λ l. Ok t; greatest = λ l. 1 }
 
 -- an integer in decimal digits: of 64 bits it has 20 code points at most, and there is no other
 abbrev pub string_of_int : ℤ → Outcome
@@ -336,56 +310,93 @@ join_row = record {
   greatest = λ s m. 1 + (1 + s.max * (1 + tenths_of s.text_max)) + s.max * (1 + tenths_of m);
 }
 
+-- nanoseconds as a value, or that they are out of range
+abbrev pub or_overflow : (ℤ → Value) → Option ℤ → Outcome
+or_overflow f None = Err Overflow
+or_overflow f (Some n) = Ok (f n)
+
+-- a duration in seconds: of 64 bits it has 22 code points at most, and there is no other
+abbrev pub string_of_duration : ℤ → Outcome
+string_of_duration n = if in_range n then Ok (value.Text (duration_text n)) else Err Overflow
+
+-- how many whole units of so many nanoseconds a duration has, cut towards zero
+abbrev pub whole_in : ℕ → ℤ → Outcome
+whole_in unit n = Ok (value.Int (int_div n (pos unit)))
+
 -- the table
 abbrev pub row : Operator → Row
-row Not = One Truth not_row
-row Negate = One Whole negate_row
-row Add = Two Whole Whole (arithmetic_row (λ m n. int_or_overflow (m +ℤ n)))
-row AddUint = Two Natural Natural (natural_row (λ m n. uint_or_overflow (m + n)))
-row AddText = Two Characters Characters text_sum_row
-row AddList = Two Items Items list_sum_row
-row Subtract = Two Whole Whole (arithmetic_row (λ m n. int_or_overflow (m -ℤ n)))
-row SubtractUint = Two Natural Natural (natural_row uint_difference)
-row Multiply = Two Whole Whole (arithmetic_row (λ m n. int_or_overflow (m *ℤ n)))
-row MultiplyUint = Two Natural Natural (natural_row (λ m n. uint_or_overflow (m * n)))
-row Divide = Two Whole Whole (arithmetic_row (divided int_div))
-row DivideUint = Two Natural Natural (natural_row (uint_divided (λ m n. m / n)))
-row Remainder = Two Whole Whole (arithmetic_row (divided int_rem))
-row RemainderUint = Two Natural Natural (natural_row (uint_divided (λ m n. m % n)))
-row Equal = Two Any Any (equality_row (λ b. b))
-row NotEqual = Two Any Any (equality_row not)
-row Less = Two Ordered Ordered (order_row (λ v w. truth_of (less v w)))
-row AtMost = Two Ordered Ordered (order_row (λ v w. untruth_of (less w v)))
-row Greater = Two Ordered Ordered (order_row (λ v w. truth_of (less w v)))
-row AtLeast = Two Ordered Ordered (order_row (λ v w. untruth_of (less v w)))
-row InList = Two Any Items in_list_row
-row InMap = Two Characters Entries in_map_row
-row IndexList = Two Indexed Whole index_list_row
-row IndexMap = Two Sought Characters index_map_row
-row SizeText = One Characters (text_row (λ s. counts (code_points s)) (λ m. type.Int))
-row SizeList = One Items size_list_row
-row SizeMap = One Entries size_map_row
-row StartsWith = Two Characters Characters (end_row starts_with)
-row EndsWith = Two Characters Characters (end_row ends_with)
-row Contains = Two Characters Characters contains_row
-row LowerAscii = One Characters (text_row (λ s. answers_text (map to_ascii_lowercase s)) (λ m. type.Text m))
-row UpperAscii = One Characters (text_row (λ s. answers_text (map to_ascii_uppercase s)) (λ m. type.Text m))
-row StringOfInt = One Whole (int_row string_of_int (type.Text 20))
-row StringOfUint = One Natural (uint_row string_of_uint (type.Text 20))
-row StringOfText = One Characters same_text_row
-row IntOfInt = One Whole (int_row (λ n. Ok (value.Int n)) type.Int)
-row IntOfUint = One Natural (uint_row (λ n. int_or_overflow (pos n)) type.Int)
-row IntOfText = One Characters (text_row (λ s. Some (spelled value.Int (int_of s))) (λ m. type.Int))
-row UintOfInt = One Whole (int_row uint_of_int type.Uint)
-row UintOfUint = One Natural (uint_row (λ n. Ok (value.Uint n)) type.Uint)
-row UintOfText = One Characters (text_row (λ s. Some (spelled value.Uint (uint_of s))) (λ m. type.Uint))
-row SumInts = One Wholes (ints_row (λ ns. int_or_overflow (sum_of_ints ns)))
-row SumUints = One Naturals (uints_row (λ ns. uint_or_overflow (sum ns)))
-row MinInts = One Wholes (ints_row (extreme_of lesser_int value.Int))
-row MinUints = One Naturals (uints_row (extreme_of min value.Uint))
-row MaxInts = One Wholes (ints_row (extreme_of greater_int value.Int))
-row MaxUints = One Naturals (uints_row (extreme_of max value.Uint))
-row Join = Two Texts Characters join_row
+row operator.Not = fixed_one Truth type.Bool (λ b. Ok (value.Bool (not b)))
+row operator.Negate = fixed_one Whole type.Int (λ n. int_or_overflow (neg_ℤ n))
+row operator.Add = fixed_two Whole Whole type.Int (λ m n. int_or_overflow (m +ℤ n))
+row operator.AddUint = fixed_two Natural Natural type.Uint (λ m n. uint_or_overflow (m + n))
+row operator.AddText = Two Characters Characters text_sum_row
+row operator.AddList = Two Items Items list_sum_row
+row operator.Subtract = fixed_two Whole Whole type.Int (λ m n. int_or_overflow (m -ℤ n))
+row operator.SubtractUint = fixed_two Natural Natural type.Uint uint_difference
+row operator.Multiply = fixed_two Whole Whole type.Int (λ m n. int_or_overflow (m *ℤ n))
+row operator.MultiplyUint = fixed_two Natural Natural type.Uint (λ m n. uint_or_overflow (m * n))
+row operator.Divide = fixed_two Whole Whole type.Int (divided int_div)
+row operator.DivideUint = fixed_two Natural Natural type.Uint (uint_divided (λ m n. m / n))
+row operator.Remainder = fixed_two Whole Whole type.Int (divided int_rem)
+row operator.RemainderUint = fixed_two Natural Natural type.Uint (uint_divided (λ m n. m % n))
+row operator.Equal = Two Any Any (equality_row (λ b. b))
+row operator.NotEqual = Two Any Any (equality_row not)
+row operator.Less = Two Ordered Ordered (order_row (λ v w. truth_of (less v w)))
+row operator.AtMost = Two Ordered Ordered (order_row (λ v w. untruth_of (less w v)))
+row operator.Greater = Two Ordered Ordered (order_row (λ v w. truth_of (less w v)))
+row operator.AtLeast = Two Ordered Ordered (order_row (λ v w. untruth_of (less v w)))
+row operator.InList = Two Any Items in_list_row
+row operator.InMap = Two Characters Entries in_map_row
+row operator.IndexList = Two Indexed Whole index_list_row
+row operator.IndexMap = Two Sought Characters index_map_row
+row operator.SizeText = One Characters (text_row (λ s. Some (count (code_points s))) (λ m. type.Int))
+row operator.SizeList = fixed_one Items type.Int (λ vs. count (length vs))
+row operator.SizeMap = fixed_one Entries type.Int (λ es. count (length es))
+row operator.StartsWith = Two Characters Characters (end_row starts_with)
+row operator.EndsWith = Two Characters Characters (end_row ends_with)
+row operator.Contains = Two Characters Characters contains_row
+row operator.LowerAscii = One Characters (text_row (λ s. answers_text (map to_ascii_lowercase s)) (λ m. type.Text m))
+row operator.UpperAscii = One Characters (text_row (λ s. answers_text (map to_ascii_uppercase s)) (λ m. type.Text m))
+row operator.StringOfInt = fixed_one Whole (type.Text 20) string_of_int
+row operator.StringOfUint = fixed_one Natural (type.Text 20) string_of_uint
+row operator.StringOfText = One Characters same_text_row
+row operator.IntOfInt = fixed_one Whole type.Int (λ n. Ok (value.Int n))
+row operator.IntOfUint = fixed_one Natural type.Int (λ n. int_or_overflow (pos n))
+row operator.IntOfText = One Characters (text_row (λ s. Some (spelled value.Int (int_of s))) (λ m. type.Int))
+row operator.UintOfInt = fixed_one Whole type.Uint uint_of_int
+row operator.UintOfUint = fixed_one Natural type.Uint (λ n. Ok (value.Uint n))
+row operator.UintOfText = One Characters (text_row (λ s. Some (spelled value.Uint (uint_of s))) (λ m. type.Uint))
+row operator.SumInts = One Wholes (ints_row (λ ns. int_or_overflow (sum_of_ints ns)))
+row operator.SumUints = One Naturals (uints_row (λ ns. uint_or_overflow (sum ns)))
+row operator.MinInts = One Wholes (ints_row (extreme_of lesser_int value.Int))
+row operator.MinUints = One Naturals (uints_row (extreme_of min value.Uint))
+row operator.MaxInts = One Wholes (ints_row (extreme_of greater_int value.Int))
+row operator.MaxUints = One Naturals (uints_row (extreme_of max value.Uint))
+row operator.Join = Two Texts Characters join_row
+row operator.TimestampOfText = One Characters (text_row (λ s. Some (spelled value.Timestamp (timestamp_of s))) (λ m. type.Timestamp))
+row operator.DurationOfText = One Characters (text_row (λ s. Some (spelled value.Duration (duration_of s))) (λ m. type.Duration))
+row operator.AddToTimestamp = fixed_two Moment Lapse type.Timestamp (λ t d. or_overflow value.Timestamp (instant_of (t +ℤ d)))
+row operator.AddTimestamp = fixed_two Lapse Moment type.Timestamp (λ d t. or_overflow value.Timestamp (instant_of (t +ℤ d)))
+row operator.AddDurations = fixed_two Lapse Lapse type.Duration (λ d e. or_overflow value.Duration (duration_in_range (d +ℤ e)))
+row operator.SubtractTimestamps = fixed_two Moment Moment type.Duration (λ t u. or_overflow value.Duration (duration_in_range (t -ℤ u)))
+row operator.SubtractFromTimestamp = fixed_two Moment Lapse type.Timestamp (λ t d. or_overflow value.Timestamp (instant_of (t -ℤ d)))
+row operator.SubtractDurations = fixed_two Lapse Lapse type.Duration (λ d e. or_overflow value.Duration (duration_in_range (d -ℤ e)))
+row operator.StringOfTimestamp = fixed_one Moment (type.Text 30) (λ t. Ok (value.Text (timestamp_text t)))
+row operator.StringOfDuration = fixed_one Lapse (type.Text 22) string_of_duration
+row operator.IntOfTimestamp = fixed_one Moment type.Int (λ t. Ok (value.Int (int_div_euclid t (pos 1_000_000_000))))
+row operator.YearOf = fixed_one Moment type.Int (λ t. count (day_of t).year)
+row operator.MonthOf = fixed_one Moment type.Int (λ t. count ((day_of t).month - 1))
+row operator.DateOf = fixed_one Moment type.Int (λ t. count (day_of t).date)
+row operator.DayOfMonth = fixed_one Moment type.Int (λ t. count ((day_of t).date - 1))
+row operator.DayOfWeek = fixed_one Moment type.Int (λ t. count (weekday_of t))
+row operator.DayOfYear = fixed_one Moment type.Int (λ t. count (place_in_year (day_of t)))
+row operator.HourOf = fixed_one Moment type.Int (λ t. count (hour_of (day_time t)))
+row operator.MinuteOf = fixed_one Moment type.Int (λ t. count (minute_of (day_time t)))
+row operator.SecondOf = fixed_one Moment type.Int (λ t. count (second_of (day_time t)))
+row operator.MillisecondOf = fixed_one Moment type.Int (λ t. count (nanosecond_of (day_time t) / 1_000_000))
+row operator.HoursIn = fixed_one Lapse type.Int (whole_in 3_600_000_000_000)
+row operator.MinutesIn = fixed_one Lapse type.Int (whole_in 60_000_000_000)
+row operator.SecondsIn = fixed_one Lapse type.Int (whole_in 1_000_000_000)
 
 -- an answer with its charge
 abbrev pub makes : Option Outcome → ℕ → Option Made

@@ -8,19 +8,23 @@ use Rattle.cel_value.specs.declared.cel_type.CelType.{CelType, out-CelType}
 use Rattle.cel_value.specs.declared.cel_type.CelType.TheOpen.{CelType-F}
 use Rattle.cel_value.specs.Value.{bool_lt}
 
--- an order: that of truth values, of integers, of unsigned ones or of texts
+-- an order: that of truth values, of integers, of unsigned ones, of texts, of timestamps or of durations
 pub data Order : Type 0 where
   OfBools : Order
   OfInts : Order
   OfUints : Order
   OfTexts : Order
+  OfTimestamps : Order
+  OfDurations : Order
 
--- the order in which a value stands, by its level: truth values, integers, unsigned ones and texts stand in one, and no others
+-- the order in which a value stands, by its level: truth values, numbers, texts, timestamps and durations stand in one, no others
 abbrev pub order_at : Value-F Value → Option Order
 order_at (Value-F.Bool b) = Some OfBools
 order_at (Value-F.Int n) = Some OfInts
 order_at (Value-F.Uint n) = Some OfUints
 order_at (Value-F.Text bytes) = Some OfTexts
+order_at (Value-F.Timestamp n) = Some OfTimestamps
+order_at (Value-F.Duration n) = Some OfDurations
 order_at _ = None
 
 -- the order in which a value stands, if it stands in one
@@ -43,6 +47,8 @@ orders_at CelType-F.Bool = Some (Only OfBools)
 orders_at CelType-F.Int = Some (Only OfInts)
 orders_at CelType-F.Uint = Some (Only OfUints)
 orders_at (CelType-F.Text max) = Some (Only OfTexts)
+orders_at CelType-F.Timestamp = Some (Only OfTimestamps)
+orders_at CelType-F.Duration = Some (Only OfDurations)
 orders_at _ = None
 
 -- the orders of a type, if its values stand in any
@@ -50,12 +56,14 @@ abbrev pub orders_of : CelType → Option Orders
 orders_of t = orders_at (out-CelType t)
 
 -- whether a value is less than another of the same order, by their levels: false is less than true, numbers are less by
--- their amount, and texts by their code points
+-- their amount, texts by their code points, timestamps if they are earlier, and durations if they are shorter, with their sign
 abbrev pub less_at : Value-F Value → Value-F Value → Option Bool
 less_at (Value-F.Bool a) (Value-F.Bool b) = Some (bool_lt a b)
 less_at (Value-F.Int m) (Value-F.Int n) = Some (int_lt m n)
 less_at (Value-F.Uint m) (Value-F.Uint n) = Some (nat_lt m n)
 less_at (Value-F.Text a) (Value-F.Text b) = Some (is_lt (slice_cmp nat_cmp (chars a) (chars b)))
+less_at (Value-F.Timestamp m) (Value-F.Timestamp n) = Some (int_lt m n)
+less_at (Value-F.Duration m) (Value-F.Duration n) = Some (int_lt m n)
 less_at _ _ = None
 
 -- whether a value is less than another, where both stand in one order

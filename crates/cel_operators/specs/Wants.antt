@@ -20,8 +20,9 @@ use Rattle.cel_value.specs.Fits.{is_null, admitted_by, object_fits}
 use Rattle.cel_operators.specs.Orders.{Order, order_at, order_of, Only, orders_at, orders_of}
 use Rattle.cel_operators.specs.Outcomes.{Outcome, Side}
 pub use Rattle.cel_operators.specs.declared.operands.Want.{Want}
-pub use Rattle.cel_operators.specs.declared.operands.Want.TheVariants.{Any, Truth, Whole, Natural, Ordered, Characters, Items, Entries}
-pub use Rattle.cel_operators.specs.declared.operands.Want.TheVariants.{Indexed, Sought, Wholes, Naturals, Texts, Members, Ranged}
+pub use Rattle.cel_operators.specs.declared.operands.Want.TheVariants.{Any, Truth, Whole, Natural, Moment, Lapse, Ordered}
+pub use Rattle.cel_operators.specs.declared.operands.Want.TheVariants.{Characters, Items}
+pub use Rattle.cel_operators.specs.declared.operands.Want.TheVariants.{Entries, Indexed, Sought, Wholes, Naturals, Texts, Members, Ranged}
 pub use Rattle.cel_operators.specs.declared.limit.Span.{Span}
 
 -- what an operand of the kind is
@@ -30,6 +31,8 @@ Of Any = Value
 Of Truth = Bool
 Of Whole = ℤ
 Of Natural = ℕ
+Of Moment = ℤ
+Of Lapse = ℤ
 Of Ordered = Value
 Of Characters = List ℕ
 Of Items = List Value
@@ -75,6 +78,8 @@ kind_at Any v _ = Some (Ok v)
 kind_at Truth v (Value-F.Bool b) = Some (Ok b)
 kind_at Whole v (Value-F.Int n) = Some (Ok n)
 kind_at Natural v (Value-F.Uint n) = Some (Ok n)
+kind_at Moment v (Value-F.Timestamp n) = Some (Ok n)
+kind_at Lapse v (Value-F.Duration n) = Some (Ok n)
 kind_at Ordered v p = option_map (λ order. Ok v) (order_at p)
 kind_at Characters v (Value-F.Text bytes) = Some (Ok bytes)
 kind_at Items v (Value-F.List vs) = Some (Ok vs)
@@ -137,6 +142,8 @@ Limit Any = CelType
 Limit Truth = Unit {0}
 Limit Whole = Unit {0}
 Limit Natural = Unit {0}
+Limit Moment = Unit {0}
+Limit Lapse = Unit {0}
 Limit Ordered = CelType
 Limit Characters = ℕ
 Limit Items = Room
@@ -176,6 +183,10 @@ limit_at Whole t CelType-F.Never = Some tt
 limit_at Whole t CelType-F.Int = Some tt
 limit_at Natural t CelType-F.Never = Some tt
 limit_at Natural t CelType-F.Uint = Some tt
+limit_at Moment t CelType-F.Never = Some tt
+limit_at Moment t CelType-F.Timestamp = Some tt
+limit_at Lapse t CelType-F.Never = Some tt
+limit_at Lapse t CelType-F.Duration = Some tt
 limit_at Ordered t o = option_map (λ orders. t) (orders_at o)
 limit_at Characters t CelType-F.Never = Some 0
 limit_at Characters t (CelType-F.Text max) = Some max
@@ -226,6 +237,8 @@ Within Any t v = fits v t ≡ true
 Within Truth l b = Unit {0}
 Within Whole l n = Unit {0}
 Within Natural l n = Unit {0}
+Within Moment l n = Unit {0}
+Within Lapse l n = Unit {0}
 Within Ordered t v = (fits v t ≡ true) × (order : Order) × (order_of v ≡ Some order) × (orders_of t ≡ Some (Only order))
 Within Characters max bytes = code_points bytes ≤ max
 Within Items room vs = (length vs ≤ room.max) × (list_all (λ v. fits v room.item) vs ≡ true)

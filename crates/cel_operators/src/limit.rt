@@ -3,7 +3,8 @@
 ghost use Rattle.std.specs.Prelude.{◌≡◌, IfOk, option_copied, option_map, option_and_then};
 ghost use Rattle.cel_value.specs.declared.cel_type.CelType.{out-CelType};
 ghost use Rattle.cel_operators.specs.Limits.{room_of};
-ghost use Rattle.cel_operators.specs.Wants.{Whole, Natural, Ordered, Characters, Items, Entries, Indexed, Sought, Wholes, Naturals, Texts};
+ghost use Rattle.cel_operators.specs.Wants.{Whole, Natural, Moment, Lapse, Ordered, Characters, Items, Entries, Indexed, Sought};
+ghost use Rattle.cel_operators.specs.Wants.{Wholes, Naturals, Texts};
 ghost use Rattle.cel_operators.specs.TextOperators.{type_under, field_named};
 ghost use Rattle.cel_operators.specs.Wants.{Members, Ranged, limit_of, wholes_limit, naturals_limit, texts_limit, is_truth, is_there};
 
@@ -36,6 +37,8 @@ pub fn takes(want: Want, cel_type: &CelType) -> bool
         Want::Truth => is_truth(cel_type),
         Want::Whole => is_whole(cel_type),
         Want::Natural => is_natural(cel_type),
+        Want::Moment => is_moment(cel_type),
+        Want::Lapse => is_lapse(cel_type),
         Want::Ordered => is_ordered(cel_type),
         Want::Characters => text_limit(cel_type).is_some(),
         Want::Items => list_limit(cel_type).is_some(),
@@ -71,13 +74,33 @@ pub fn is_natural(cel_type: &CelType) -> bool
     matches!(without_null(cel_type), CelType::Never | CelType::Uint)
 }
 
+/// Whether a type may stand where a timestamp is asked.
+fn is_moment(cel_type: &CelType) -> bool
+    ensures { result ≡ is_there (limit_of Moment cel_type.now) }
+{
+    matches!(without_null(cel_type), CelType::Never | CelType::Timestamp)
+}
+
+/// Whether a type may stand where a duration is asked.
+fn is_lapse(cel_type: &CelType) -> bool
+    ensures { result ≡ is_there (limit_of Lapse cel_type.now) }
+{
+    matches!(without_null(cel_type), CelType::Never | CelType::Duration)
+}
+
 /// Whether a type may stand where a value that has an order is asked.
 pub fn is_ordered(cel_type: &CelType) -> bool
     ensures { result ≡ is_there (limit_of Ordered cel_type.now) }
 {
     matches!(
         without_null(cel_type),
-        CelType::Never | CelType::Bool | CelType::Int | CelType::Uint | CelType::Text { .. }
+        CelType::Never
+            | CelType::Bool
+            | CelType::Int
+            | CelType::Uint
+            | CelType::Text { .. }
+            | CelType::Timestamp
+            | CelType::Duration
     )
 }
 

@@ -1,4 +1,4 @@
-ghost use Rattle.std.specs.Prelude.{◌≡◌};
+ghost use Rattle.std.specs.Prelude.{◌≡◌, Some};
 ghost use Rattle.failing.specs.Failures.{Answers};
 ghost use Rattle.cel_operators.specs.Operators.{row, code_of, operands_of, operator_of, type_of_one, type_of_two};
 
@@ -12,7 +12,8 @@ use crate::type_rule::{TypeRule, Untyped};
 use cel_value::{CelError, CelType, Value};
 use std::alloc::Global;
 
-/// An operator at one kind of operands (cel-spec, "List of Standard Definitions").
+/// An operator at one kind of operands (cel-spec, "List of Standard Definitions"). A variant's place is the number that stands
+/// for it in images.
 #[derive(Clone, Copy, Debug, PartialEq, Eq)]
 pub enum Operator {
     Not,
@@ -63,6 +64,30 @@ pub enum Operator {
     MaxInts,
     MaxUints,
     Join,
+    TimestampOfText,
+    DurationOfText,
+    AddToTimestamp,
+    AddTimestamp,
+    AddDurations,
+    SubtractTimestamps,
+    SubtractFromTimestamp,
+    SubtractDurations,
+    StringOfTimestamp,
+    StringOfDuration,
+    IntOfTimestamp,
+    YearOf,
+    MonthOf,
+    DateOf,
+    DayOfMonth,
+    DayOfWeek,
+    DayOfYear,
+    HourOf,
+    MinuteOf,
+    SecondOf,
+    MillisecondOf,
+    HoursIn,
+    MinutesIn,
+    SecondsIn,
 }
 
 /// An operator that takes certain operands, and the type of its answers.
@@ -80,60 +105,12 @@ pub struct Made {
 }
 
 impl Operator {
-    /// The number that stands for the operator in an instruction.
+    /// The number that stands for the operator in an instruction: its place among the variants, which is that in the list.
     pub fn code(&self) -> usize
-        ensures { result ≡ code_of self.now }
+        ensures number { result ≡ code_of self.now }
+        ensures listed { operator_of result ≡ Some self.now }
     {
-        match self {
-            Operator::Not => 0,
-            Operator::Negate => 1,
-            Operator::Add => 2,
-            Operator::AddUint => 3,
-            Operator::AddText => 4,
-            Operator::AddList => 5,
-            Operator::Subtract => 6,
-            Operator::SubtractUint => 7,
-            Operator::Multiply => 8,
-            Operator::MultiplyUint => 9,
-            Operator::Divide => 10,
-            Operator::DivideUint => 11,
-            Operator::Remainder => 12,
-            Operator::RemainderUint => 13,
-            Operator::Equal => 14,
-            Operator::NotEqual => 15,
-            Operator::Less => 16,
-            Operator::AtMost => 17,
-            Operator::Greater => 18,
-            Operator::AtLeast => 19,
-            Operator::InList => 20,
-            Operator::InMap => 21,
-            Operator::IndexList => 22,
-            Operator::IndexMap => 23,
-            Operator::SizeText => 24,
-            Operator::SizeList => 25,
-            Operator::SizeMap => 26,
-            Operator::StartsWith => 27,
-            Operator::EndsWith => 28,
-            Operator::Contains => 29,
-            Operator::LowerAscii => 30,
-            Operator::UpperAscii => 31,
-            Operator::StringOfInt => 32,
-            Operator::StringOfUint => 33,
-            Operator::StringOfText => 34,
-            Operator::IntOfInt => 35,
-            Operator::IntOfUint => 36,
-            Operator::IntOfText => 37,
-            Operator::UintOfInt => 38,
-            Operator::UintOfUint => 39,
-            Operator::UintOfText => 40,
-            Operator::SumInts => 41,
-            Operator::SumUints => 42,
-            Operator::MinInts => 43,
-            Operator::MinUints => 44,
-            Operator::MaxInts => 45,
-            Operator::MaxUints => 46,
-            Operator::Join => 47,
-        }
+        *self as usize
     }
 
     /// How many operands the operator has, and what each must be.
@@ -152,7 +129,33 @@ impl Operator {
             | Operator::UpperAscii
             | Operator::StringOfText
             | Operator::IntOfText
-            | Operator::UintOfText => Operands::One(Want::Characters),
+            | Operator::UintOfText
+            | Operator::TimestampOfText
+            | Operator::DurationOfText => Operands::One(Want::Characters),
+            Operator::StringOfTimestamp
+            | Operator::IntOfTimestamp
+            | Operator::YearOf
+            | Operator::MonthOf
+            | Operator::DateOf
+            | Operator::DayOfMonth
+            | Operator::DayOfWeek
+            | Operator::DayOfYear
+            | Operator::HourOf
+            | Operator::MinuteOf
+            | Operator::SecondOf
+            | Operator::MillisecondOf => Operands::One(Want::Moment),
+            Operator::StringOfDuration
+            | Operator::HoursIn
+            | Operator::MinutesIn
+            | Operator::SecondsIn => Operands::One(Want::Lapse),
+            Operator::AddToTimestamp | Operator::SubtractFromTimestamp => {
+                Operands::Two(Want::Moment, Want::Lapse)
+            }
+            Operator::AddTimestamp => Operands::Two(Want::Lapse, Want::Moment),
+            Operator::SubtractTimestamps => Operands::Two(Want::Moment, Want::Moment),
+            Operator::AddDurations | Operator::SubtractDurations => {
+                Operands::Two(Want::Lapse, Want::Lapse)
+            }
             Operator::SizeList => Operands::One(Want::Items),
             Operator::SizeMap => Operands::One(Want::Entries),
             Operator::SumInts | Operator::MinInts | Operator::MaxInts => Operands::One(
@@ -207,6 +210,30 @@ impl Operator {
                 where_taken(Want::Characters, operand, CelType::Int)
             }
             Operator::UintOfText => where_taken(Want::Characters, operand, CelType::Uint),
+            Operator::TimestampOfText => {
+                where_taken(Want::Characters, operand, CelType::Timestamp)
+            }
+            Operator::DurationOfText => where_taken(Want::Characters, operand, CelType::Duration),
+            Operator::StringOfTimestamp => {
+                where_taken(Want::Moment, operand, CelType::Text { max: 30 })
+            }
+            Operator::IntOfTimestamp
+            | Operator::YearOf
+            | Operator::MonthOf
+            | Operator::DateOf
+            | Operator::DayOfMonth
+            | Operator::DayOfWeek
+            | Operator::DayOfYear
+            | Operator::HourOf
+            | Operator::MinuteOf
+            | Operator::SecondOf
+            | Operator::MillisecondOf => where_taken(Want::Moment, operand, CelType::Int),
+            Operator::StringOfDuration => {
+                where_taken(Want::Lapse, operand, CelType::Text { max: 22 })
+            }
+            Operator::HoursIn | Operator::MinutesIn | Operator::SecondsIn => {
+                where_taken(Want::Lapse, operand, CelType::Int)
+            }
             Operator::LowerAscii | Operator::UpperAscii | Operator::StringOfText => {
                 same_text(operand)
             }
@@ -268,6 +295,18 @@ impl Operator {
             Operator::IndexList => index_list(left, right),
             Operator::IndexMap => index_map(left, right),
             Operator::Join => joined(left, right),
+            Operator::AddToTimestamp | Operator::SubtractFromTimestamp => {
+                where_both_taken(Want::Moment, Want::Lapse, left, right, CelType::Timestamp)
+            }
+            Operator::AddTimestamp => {
+                where_both_taken(Want::Lapse, Want::Moment, left, right, CelType::Timestamp)
+            }
+            Operator::SubtractTimestamps => {
+                where_both_taken(Want::Moment, Want::Moment, left, right, CelType::Duration)
+            }
+            Operator::AddDurations | Operator::SubtractDurations => {
+                where_both_taken(Want::Lapse, Want::Lapse, left, right, CelType::Duration)
+            }
             _ => Err(Untyped::Fault(TypeRule::NoOverload)),
         }
     }
@@ -283,7 +322,8 @@ impl Operator {
     }
 }
 
-static OPERATORS: [Operator; 48] = [
+/// The operators by their numbers, in the order of the variants.
+static OPERATORS: [Operator; 72] = [
     Operator::Not,
     Operator::Negate,
     Operator::Add,
@@ -332,4 +372,28 @@ static OPERATORS: [Operator; 48] = [
     Operator::MaxInts,
     Operator::MaxUints,
     Operator::Join,
+    Operator::TimestampOfText,
+    Operator::DurationOfText,
+    Operator::AddToTimestamp,
+    Operator::AddTimestamp,
+    Operator::AddDurations,
+    Operator::SubtractTimestamps,
+    Operator::SubtractFromTimestamp,
+    Operator::SubtractDurations,
+    Operator::StringOfTimestamp,
+    Operator::StringOfDuration,
+    Operator::IntOfTimestamp,
+    Operator::YearOf,
+    Operator::MonthOf,
+    Operator::DateOf,
+    Operator::DayOfMonth,
+    Operator::DayOfWeek,
+    Operator::DayOfYear,
+    Operator::HourOf,
+    Operator::MinuteOf,
+    Operator::SecondOf,
+    Operator::MillisecondOf,
+    Operator::HoursIn,
+    Operator::MinutesIn,
+    Operator::SecondsIn,
 ];

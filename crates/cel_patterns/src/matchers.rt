@@ -12,12 +12,20 @@ use std::alloc::Global;
 use std::collections::BTreeMap;
 
 /// What finds patterns in texts. It keeps what it built for each pattern that it met, and no answer depends on that.
-#[derive(Drop)]
 pub struct Matchers {
     places: BTreeMap<String, usize>,
     kept: Vec<Built>,
     ghost named: { (text : List ℕ) → option_map (slice_get (map built_text kept.items)) (get_by_text places text)
         ≡ option_map (λ _. Some text) (get_by_text places text) },
+}
+
+impl Drop for Matchers {
+    fn drop(self) {
+        let Matchers {
+            places: _places,
+            kept: _kept,
+        } = self;
+    }
 }
 
 impl Matchers {

@@ -12,10 +12,18 @@ use std::marker::Model;
 
 /// Which texts `regex` builds, as far as it was asked; contracts see what was asked and answered. It is asked once for
 /// each text.
-#[derive(Drop)]
 pub struct Patterns {
     answers: BTreeMap<String, bool>,
     refused: Vec<String>,
+}
+
+impl Drop for Patterns {
+    fn drop(self) {
+        let Patterns {
+            answers: _answers,
+            refused: _refused,
+        } = self;
+    }
 }
 
 impl Model for Patterns {

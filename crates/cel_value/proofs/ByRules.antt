@@ -10,6 +10,7 @@ use Rattle.cel_value.specs.declared.cel_type.Field.{Field}
 use Rattle.cel_value.specs.declared.cel_type.CelType as T
 use Rattle.cel_value.specs.declared.cel_type.CelType.{CelType, roll-CelType, out-CelType, the_lemmas}
 use Rattle.cel_value.specs.declared.cel_type.CelType.TheVariants.{rolls-Never, rolls-Null, rolls-Bool, rolls-Int, rolls-Uint, rolls-Opaque}
+use Rattle.cel_value.specs.declared.cel_type.CelType.TheVariants.{rolls-Timestamp, rolls-Duration}
 use Rattle.cel_value.specs.declared.cel_type.CelType.TheVariants.{rolls-Text, rolls-List, rolls-Map, rolls-Object, rolls-Nullable}
 use Rattle.cel_value.specs.declared.cel_type.CelType.TheOpen.{CelType-F}
 use Rattle.cel_value.specs.declared.cel_type.CelType.TheFolds.{ind-CelType, map-CelType}
@@ -174,6 +175,8 @@ kinds_ruled : (y : CelType-F Such) (p : CelType-F CelType)
 kinds_ruled CelType-F.Bool CelType-F.Bool = rw rolls-Bool (Joins.itself T.Bool)
 kinds_ruled CelType-F.Int CelType-F.Int = rw rolls-Int (Joins.itself T.Int)
 kinds_ruled CelType-F.Uint CelType-F.Uint = rw rolls-Uint (Joins.itself T.Uint)
+kinds_ruled CelType-F.Timestamp CelType-F.Timestamp = rw rolls-Timestamp (Joins.itself T.Timestamp)
+kinds_ruled CelType-F.Duration CelType-F.Duration = rw rolls-Duration (Joins.itself T.Duration)
 kinds_ruled CelType-F.Opaque CelType-F.Opaque = rw rolls-Opaque (Joins.itself T.Opaque)
 kinds_ruled (CelType-F.Text m) (CelType-F.Text n) = rw (rolls-Text m, rolls-Text n) (Joins.texts m n)
 kinds_ruled (CelType-F.List m a e) (CelType-F.List n b t) =

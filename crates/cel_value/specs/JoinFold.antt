@@ -33,6 +33,8 @@ abbrev pub join_kinds : CelType-F Joiner → CelType-F CelType → Option CelTyp
 join_kinds CelType-F.Bool CelType-F.Bool = Some T.Bool
 join_kinds CelType-F.Int CelType-F.Int = Some T.Int
 join_kinds CelType-F.Uint CelType-F.Uint = Some T.Uint
+join_kinds CelType-F.Timestamp CelType-F.Timestamp = Some T.Timestamp
+join_kinds CelType-F.Duration CelType-F.Duration = Some T.Duration
 join_kinds CelType-F.Opaque CelType-F.Opaque = Some T.Opaque
 join_kinds (CelType-F.Text m) (CelType-F.Text n) = Some (T.Text (max m n))
 join_kinds (CelType-F.List m p s) (CelType-F.List n q t) = option_map (λ u. T.List (max m n) (p && q) u) (s.1 t)

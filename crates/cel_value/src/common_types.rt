@@ -161,6 +161,10 @@ fn join_kinds(alloc: Global, left: &CelType, right: &CelType) -> Result<Option<C
         CelType::Bool => Ok(matches!(right, CelType::Bool).then_some(CelType::Bool)),
         CelType::Int => Ok(matches!(right, CelType::Int).then_some(CelType::Int)),
         CelType::Uint => Ok(matches!(right, CelType::Uint).then_some(CelType::Uint)),
+        CelType::Timestamp => {
+            Ok(matches!(right, CelType::Timestamp).then_some(CelType::Timestamp))
+        }
+        CelType::Duration => Ok(matches!(right, CelType::Duration).then_some(CelType::Duration)),
         CelType::Opaque => Ok(matches!(right, CelType::Opaque).then_some(CelType::Opaque)),
         CelType::Text { max } => match right {
             CelType::Text { max: other } => Ok(Some(CelType::Text {

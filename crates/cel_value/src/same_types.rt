@@ -16,6 +16,8 @@ pub fn same_type(left: &CelType, right: &CelType) -> bool
         (CelType::Bool, CelType::Bool) => true,
         (CelType::Int, CelType::Int) => true,
         (CelType::Uint, CelType::Uint) => true,
+        (CelType::Timestamp, CelType::Timestamp) => true,
+        (CelType::Duration, CelType::Duration) => true,
         (CelType::Opaque, CelType::Opaque) => true,
         (CelType::Text { max: one }, CelType::Text { max: other }) => one == other,
         (

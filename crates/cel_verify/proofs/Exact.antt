@@ -1,12 +1,15 @@
 -- The bounds of an accepted image are below the ceiling.
-use Rattle.std.proofs.Common.{◌≡◌, ℕ, ◌-◌, ◌<◌, ◌≤◌, min, length, Some, None, sym, subst, arith}
+use Rattle.std.proofs.Common.{◌≡◌, ℕ, ◌-◌, ◌<◌, ◌≤◌, min, length, Bool, true, false, ◌||◌, nat_lt, Option, Some, None}
+use Rattle.std.proofs.Common.{refl, sym, subst, arith}
+use Rattle.std.proofs.lemmas.Bool.{ltb-false, ltb-true, or_parts}
 use Rattle.cel_code.specs.declared.image.Image.{Image}
 use Rattle.cel_verify.specs.declared.bounds.Bounds.{Bounds}
 use Rattle.cel_verify.specs.Sound.{IsSound}
-use Rattle.cel_verify.specs.Paths.{IsPathCost, IsPathSteps}
+use Rattle.cel_verify.specs.Paths.{IsRouteCharge, IsPathCost, IsPathSteps}
 use Rattle.cel_verify.specs.Depths.{greatest_depth}
-use Rattle.cel_verify.specs.Accepted.{IsCounted, IsAccepted, IsRefused, Misplaced, TooDear, AreBounds, AreCapped}
-use Rattle.cel_verify.specs.Accepted.{misplaced_entry, fault, budget}
+use Rattle.cel_verify.specs.Accepted.{IsCounted, IsAccepted, IsDeclared, IsRefused, AreBounds, AreCapped}
+use Rattle.cel_verify.specs.Accepted.{Misplaced, TooDear, DeclaresLess, DeclaresMore}
+use Rattle.cel_verify.specs.Accepted.{misplaced_entry, fault, budget, is_over}
 use Rattle.cel_verify.specs.declared.fault.VerifyFault.{VerifyFault}
 use Rattle.failing.specs.declared.failed.Failed.TheVariants.{Fault}
 use Rattle.cel_verify.specs.declared.fault.VerifyRule.TheVariants.{BadTarget, OverBudget}
@@ -22,17 +25,37 @@ below n m cap e h = omega arith
 under : (n m most cap : ℕ) → m ≡ min n cap → m ≤ most → most < cap → n ≤ most
 under n m most cap e h k = omega arith
 
+-- a cost that is over nothing is that of the dearest route, which is within what is declared
+module _ (image : Image) (b : Bounds) (k : AreCapped image b) where
+  dearest : (most : ℕ) → b.cost ≤ most → most ≤ budget → (charge : ℕ) → IsRouteCharge image charge → charge ≤ most
+  dearest most h within charge r =
+      let le = k.cost.is.bound charge r in
+      let real = under k.cost.most b.cost most ceiling k.cost.capped h (omega (arith, within)) in
+      omega arith
+
+  within_budget : (d : Option ℕ) → is_over b.cost d ≡ false → b.cost ≤ budget
+  within_budget None h = ltb-false budget b.cost h
+  within_budget (Some most) h =
+      let p = or_parts (nat_lt most b.cost) (nat_lt budget most) h in
+      let one = ltb-false most b.cost p.0 in
+      let two = ltb-false budget most p.1 in
+      omega (arith, one, two)
+
+  within_declared : (d : Option ℕ) → is_over b.cost d ≡ false → IsDeclared image d
+  within_declared None h = tt
+  within_declared (Some most) h =
+      let p = or_parts (nat_lt most b.cost) (nat_lt budget most) h in
+      (dearest most (ltb-false most b.cost p.0) (ltb-false budget most p.1), ltb-false budget most p.1)
+
 pub accepted : (image : Image) (b : Bounds) → IsCounted image → IsSound image → misplaced_entry image ≡ None → AreCapped image b
-    → b.cost ≤ budget → IsAccepted image
+    → is_over b.cost image.declared ≡ false → IsAccepted image
 accepted image b counted sound placed k h =
     record {
       counted = counted;
       sound = sound;
       placed = placed;
-      cheap = λ charge r.
-          let le = k.cost.is.bound charge r in
-          let most = under k.cost.most b.cost budget ceiling k.cost.capped h (omega arith) in
-          omega arith;
+      cheap = dearest image b k budget (within_budget image b k image.declared h) (omega arith);
+      declared = within_declared image b k image.declared h;
     }
 
 pub exact : (image : Image) (b : Bounds) → IsAccepted image → AreCapped image b → AreBounds image b
@@ -55,11 +78,35 @@ pub out_of_place : (image : Image) (f : VerifyFault) → IsCounted image → IsS
     → f.rule ≡ BadTarget → IsRefused image (Fault f)
 out_of_place image f counted sound placed is = (Misplaced counted sound placed is, λ a. let none = a.placed in cc)
 
--- bounds over the budget tell a route that charges too much
+-- bounds over the budget, or over what is declared, tell a route that charges too much
 pub too_dear : (image : Image) (b : Bounds) (f : VerifyFault) → IsCounted image → IsSound image → misplaced_entry image ≡ None
-    → AreCapped image b → budget < b.cost → f ≡ fault OverBudget (length image.code - 1) → IsRefused image (Fault f)
-too_dear image b f counted sound placed k h is =
-    let over : budget < k.cost.most = omega (arith, k.cost.capped) in (
-      TooDear counted sound placed k.cost.most k.cost.is.attained over is,
-      λ a. let le = a.cheap k.cost.most k.cost.is.attained in omega arith,
+    → AreCapped image b → is_over b.cost image.declared ≡ true → f ≡ fault OverBudget (length image.code - 1) → IsRefused image (Fault f)
+too_dear image b f counted sound placed k h is = at image.declared refl h
+  where
+    less : (most : ℕ) → image.declared ≡ Some most → most < b.cost → IsRefused image (Fault f)
+    less most e h =
+        let over : most < k.cost.most = omega (arith, k.cost.capped) in (
+          DeclaresLess counted sound placed most k.cost.most e k.cost.is.attained over is,
+          λ a. let le = (subst (IsDeclared image) e a.declared).0 k.cost.most k.cost.is.attained in omega arith,
+        )
+
+    more : (most : ℕ) → image.declared ≡ Some most → budget < most → IsRefused image (Fault f)
+    more most e h = (
+      DeclaresMore counted sound placed most e h is,
+      λ a. let le = (subst (IsDeclared image) e a.declared).1 in omega arith,
     )
+
+    which : (most : ℕ) → image.declared ≡ Some most → (x y : Bool) → nat_lt most b.cost ≡ x → nat_lt budget most ≡ y
+        → (x || y) ≡ true → IsRefused image (Fault f)
+    which most e true y one two h = less most e (ltb-true most b.cost one)
+    which most e false true one two h = more most e (ltb-true budget most two)
+    which most e false false one two h = absurd cc
+
+    at : (d : Option ℕ) → image.declared ≡ d → is_over b.cost d ≡ true → IsRefused image (Fault f)
+    at None e h =
+        let dear : budget < b.cost = ltb-true budget b.cost h in
+        let over : budget < k.cost.most = omega (arith, k.cost.capped) in (
+          TooDear counted sound placed k.cost.most k.cost.is.attained over is,
+          λ a. let le = a.cheap k.cost.most k.cost.is.attained in omega arith,
+        )
+    at (Some most) e h = which most e (nat_lt most b.cost) (nat_lt budget most) refl refl h

@@ -16,7 +16,14 @@ use Rattle.cel_verify.proofs.ToGo.{path_cost, path_steps}
 use Rattle.cel_value.proofs.Reflexive.{assignable-refl}
 
 abbrev whole : List Instr → Image
-whole code = record { slots = []; constants = value.Int (pos 1) ∷ value.Bool true ∷ []; targets = []; result = type.Int; code = code }
+whole code = record {
+  slots = [];
+  constants = value.Int (pos 1) ∷ value.Bool true ∷ [];
+  targets = [];
+  result = type.Int;
+  declared = None;
+  code = code;
+}
 
 -- an operand is missing
 short : rule_at (whole (Const 0 ∷ Op 2 ∷ End ∷ [])) 1 (Some (Op 2))
@@ -72,6 +79,7 @@ both =
       constants = value.Bool true ∷ [];
       targets = record { at = 4; types = type.Bool ∷ [] } ∷ [];
       result = type.Bool;
+      declared = None;
       code = Const 0 ∷ AndTest 4 ∷ Const 0 ∷ And ∷ End ∷ [];
     }
 
@@ -102,6 +110,7 @@ over_three =
       constants = value.Bool true ∷ [];
       targets = record { at = 5; types = type.Bool ∷ [] } ∷ [];
       result = type.Bool;
+      declared = None;
       code = instr.Slot 0 ∷ instr.Loop 0 5 ∷ instr.Item ∷ Const 0 ∷ instr.Next ∷ End ∷ [];
     }
 
@@ -133,6 +142,7 @@ long_side to behind =
       constants = value.Bool true ∷ [];
       targets = record { at = to; types = type.Bool ∷ [] } ∷ [];
       result = type.Bool;
+      declared = None;
       code = Const 0 ∷ AndTest to ∷ instr.Slot 0 ∷ instr.Slot 0 ∷ Op 4 ∷ behind;
     }
 

@@ -1,5 +1,5 @@
 -- Which images are accepted, and why one is not.
-use Rattle.std.specs.Prelude.{◌≡◌, ◌≢◌, ℕ, ◌+◌, ◌-◌, ◌<◌, ◌≤◌, ◌⊎◌, ◌&&◌, min, nat_le}
+use Rattle.std.specs.Prelude.{◌≡◌, ◌≢◌, ℕ, ◌+◌, ◌-◌, ◌<◌, ◌≤◌, ◌⊎◌, Bool, ◌&&◌, ◌||◌, min, nat_le}
 use Rattle.std.specs.Prelude.{nat_lt, List, [], ◌∷◌, length, slice_get, if◌then◌else◌, Option, Some, None}
 use Rattle.cel_code.specs.declared.instr.Instr.{Instr}
 use Rattle.cel_code.specs.declared.instr.Instr.TheVariants.{End}
@@ -56,12 +56,23 @@ misplaced count least (e ∷ es) = if nat_le least e.at && nat_lt e.at count the
 abbrev pub misplaced_entry : Image → Option ℕ
 misplaced_entry image = misplaced (length image.code) 0 image.targets
 
--- an image that is accepted: no forward route charges more than the budget
+-- a cost is over what is declared, or that is over the budget
+abbrev pub is_over : ℕ → Option ℕ → Bool
+is_over cost None = nat_lt budget cost
+is_over cost (Some most) = nat_lt most cost || nat_lt budget most
+
+-- what an image declares is no less than any forward route charges, and no more than the budget
+abbrev pub IsDeclared : Image → Option ℕ → Type 0
+IsDeclared image None = Unit {0}
+IsDeclared image (Some most) = ((charge : ℕ) → IsRouteCharge image charge → charge ≤ most) × (most ≤ budget)
+
+-- an image that is accepted: no forward route charges more than the budget, nor than the image declares
 pub record IsAccepted (image : Image) : Type 0 where
   pub counted : IsCounted image
   pub sound : IsSound image
   pub placed : misplaced_entry image ≡ None
   pub cheap : (charge : ℕ) → IsRouteCharge image charge → charge ≤ budget
+  pub declared : IsDeclared image image.declared
 
 -- the bounds of an image
 pub record AreBounds (image : Image) (bounds : Bounds) : Type 0 where
@@ -82,7 +93,7 @@ abbrev pub fault : VerifyRule → ℕ → VerifyFault
 fault broken at = record { rule = broken; at = at }
 
 -- why an image is not accepted: in this order, a list is too long, END is not last and alone, an instruction breaks its
--- rule, an entry is out of its place, a route charges too much
+-- rule, an entry is out of its place, a route charges too much, or more than the image declares, or this declares too much
 pub data IsFault (image : Image) (f : VerifyFault) : Type 0 where
   TooMany : ¬ IsCounted image → f ≡ fault TooDeep 0 → IsFault image f
   EndsWrong : IsCounted image → IsWrongEnd image.code f.at → f.rule ≡ BadTarget → IsFault image f
@@ -90,6 +101,11 @@ pub data IsFault (image : Image) (f : VerifyFault) : Type 0 where
   Misplaced : IsCounted image → IsSound image → misplaced_entry image ≡ Some f.at → f.rule ≡ BadTarget → IsFault image f
   TooDear : IsCounted image → IsSound image → misplaced_entry image ≡ None
       → (charge : ℕ) → IsRouteCharge image charge → budget < charge → f ≡ fault OverBudget (length image.code - 1) → IsFault image f
+  DeclaresLess : IsCounted image → IsSound image → misplaced_entry image ≡ None
+      → (most charge : ℕ) → image.declared ≡ Some most → IsRouteCharge image charge → most < charge
+      → f ≡ fault OverBudget (length image.code - 1) → IsFault image f
+  DeclaresMore : IsCounted image → IsSound image → misplaced_entry image ≡ None
+      → (most : ℕ) → image.declared ≡ Some most → budget < most → f ≡ fault OverBudget (length image.code - 1) → IsFault image f
 
 -- a refusal: for want of memory, or for the image's fault, with which it is not accepted
 abbrev pub IsRefused : Image → Failed VerifyFault → Type 0

@@ -1,4 +1,4 @@
-ghost use Rattle.std.specs.Prelude.{◌≡◌, ◌↔◌, ◌≤◌, true, List, IsTrue, Err, IfOk, IfErr, MatchOption, MatchResult, length};
+ghost use Rattle.std.specs.Prelude.{◌≡◌, ◌↔◌, ◌≤◌, ℕ, true, List, IsTrue, Some, Err, IfOk, IfErr, MatchOption, MatchResult, length};
 ghost use Rattle.failing.specs.declared.failed.Failed.TheVariants as failed;
 ghost use Rattle.cel_operators.specs.Outcomes.{Outcome, slots_fit};
 ghost use Rattle.cel_verify.specs.Sound.{EndsOnce, IsSound, IsWalked, max_depth as most_operands, max_loops as most_loops};
@@ -6,7 +6,7 @@ ghost use Rattle.cel_verify.specs.Paths.{HasGreatest, IsRouteCharge, IsRouteLeng
 ghost use Rattle.cel_verify.specs.Typed.{RunsWithin};
 ghost use Rattle.cel_verify.specs.Depths.{greatest_depth, greatest_nesting, NeverMore, NeverMoreLoops};
 ghost use Rattle.cel_verify.specs.Walked.{AreMeasures};
-ghost use Rattle.cel_verify.specs.Accepted.{IsCounted, IsWrongEnd, IsAccepted, IsRefused, AreBounds, AreCapped, fault, budget};
+ghost use Rattle.cel_verify.specs.Accepted.{IsCounted, IsWrongEnd, IsAccepted, IsRefused, AreBounds, AreCapped, fault, budget, is_over};
 
 use crate::bounds::Bounds;
 use crate::fault::{VerifyError, VerifyFault, VerifyRule};
@@ -23,10 +23,18 @@ const MAX_COUNT: usize = 65_536;
 const BUDGET: u64 = 10_000_000;
 
 /// An image that was accepted.
-#[derive(Drop)]
 pub struct Program {
     image: Image,
     bounds: Bounds,
+}
+
+impl Drop for Program {
+    fn drop(self) {
+        let Program {
+            image: _image,
+            bounds: _bounds,
+        } = self;
+    }
 }
 
 impl Model for Program {
@@ -53,10 +61,11 @@ impl Program {
         &self.image
     }
 
-    /// The charge of the dearest route, 10,000,000 at most: no run charges more.
+    /// The charge of the dearest route, 10,000,000 at most and no more than the image declares: no run charges more.
     pub fn cost_bound(&self) -> u64
         ensures cost { IsPathCost self.now result }
         ensures within { result ≤ budget }
+        ensures declared { (most : ℕ) → self.now.declared ≡ Some most → (result ≤ most) × (most ≤ budget) }
     {
         self.bounds.cost
     }
@@ -90,7 +99,8 @@ impl Program {
 /// The program of an image, exactly where the image is accepted; else the first fault, and the image.
 ///
 /// An accepted image is labelled by the types of its stack and its open loops, its dearest route charges no more than the
-/// budget, and the machine is never stuck in it: each run ends within as many steps as the longest route has.
+/// budget, nor than the image declares, which is within the budget, and the machine is never stuck in it: each run ends within as
+/// many steps as the longest route has.
 pub fn verify(alloc: Global, image: Image) -> Result<Program, (VerifyError, Image)>
     ensures accepted { MatchResult result (λ p. (p ≡ image) × IsAccepted image) (λ e. IsRefused image e.0) }
     ensures back { IfErr result (λ e. e.1 ≡ image) }
@@ -121,10 +131,20 @@ fn check(alloc: Global, image: &Image) -> Result<Bounds, VerifyError>
         return refuse(VerifyRule::BadTarget, at);
     }
     let bounds = bounded(alloc, image, measures)?;
-    if bounds.cost > BUDGET {
+    if is_over(bounds.cost, image.declared) {
         return refuse(VerifyRule::OverBudget, image.code.len() - 1);
     }
     Ok(bounds)
+}
+
+// Whether a cost is over what is declared, or that is over the budget.
+fn is_over(cost: u64, declared: Option<u64>) -> bool
+    ensures { result ≡ is_over cost declared }
+{
+    match declared {
+        None => cost > BUDGET,
+        Some(most) => cost > most || most > BUDGET,
+    }
 }
 
 // The bounds of a sound image, each up to the greatest number.

@@ -1,25 +1,22 @@
 -- The fault that is found is the one for which the schema is refused.
-use Rattle.std.proofs.Common.{◌≡◌, ℕ, zero, suc, List, ◌∷◌, ◌||◌, Bool, true, false, if◌then◌else◌, codes}
-use Rattle.std.proofs.Common.{Option, Some, None, Result, Ok, Err, ap, sym, ◌∙◌, refl}
+use Rattle.std.proofs.Common.{◌≡◌, ℕ, zero, suc, List, ◌∷◌, Bool, if◌then◌else◌, Option, Some, None, Result, Ok, Err, ap, sym, ◌∙◌, refl}
 use Rattle.serde_json.specs.Data as json
-use Rattle.serde_json.specs.Data.{Data, Items, Members}
-use Rattle.serde_json.specs.Find.{get}
+use Rattle.serde_json.specs.Data.{Data, Members}
 use Rattle.cel_value.specs.declared.cel_type.CelType.{CelType}
 use Rattle.cel_value.specs.declared.cel_type.CelType as type
 use Rattle.vap_fit.specs.Seen.{◌>>=◌}
 use Rattle.vap_schema.specs.FixedTypes.{with_fixed_fields}
-use Rattle.vap_schema.specs.Schemas.{Inner, flag, limit_in, absent, stated, stated_word, is_plain, required_names}
-use Rattle.vap_schema.specs.Schemas.{properties_of, entry_of, is_object, is_among}
-use Rattle.vap_schema.specs.Schemas.{untyped, text_type, list_type, field_of, fields_of, record_type, entry_type, map_type, bare_type}
-use Rattle.vap_schema.specs.Schemas.{object_of, object_type, typed_as, own_type, nested_type, schema_type, object_type_of}
-use Rattle.vap_schema.specs.declared.keywords.TypeWord.{TypeWord}
-use Rattle.vap_schema.specs.declared.keywords.TypeWord.TheVariants as word
+use Rattle.vap_schema.specs.Forms as form
+use Rattle.vap_schema.specs.Forms.{Form, root_form, nested_form}
+use Rattle.vap_schema.specs.Names.{keyword_name}
+use Rattle.vap_schema.specs.Schemas.{Inner, field_of, fields_of, is_among, entry_type, form_type, nested_type, schema_type}
+use Rattle.vap_schema.specs.Schemas.{root_type, object_type_of}
+use Rattle.vap_schema.specs.declared.own_fault.Keyword.TheVariants.{Items, Properties, AdditionalProperties}
+use Rattle.vap_schema.specs.declared.own_fault.OwnFault.{OwnFault}
 use Rattle.vap_schema.specs.declared.schema_fault.SchemaFault.{SchemaFault}
-use Rattle.vap_schema.specs.declared.schema_fault.SchemaFault.TheVariants.{NoType, BadKeyword}
 use Rattle.schema_path.specs.Answers.{IsPlace, IsFaultOf}
 use Rattle.schema_path.specs.declared.place.FaultPlace.{FaultPlace}
-use Rattle.schema_path.specs.Places.{here, Found, Within, at, read_at, under, untyped_place, text_place, list_place, members_place}
-use Rattle.schema_path.specs.Places.{entry_place, one_place, object_place, place_by_word, own_place, nested_place}
+use Rattle.schema_path.specs.Places.{Found, Within, under, members_place, entry_place, form_place, nested_place, root_place}
 use Rattle.schema_path.specs.Places.{schema_place, document_place}
 
 -- the fault alone
@@ -37,23 +34,6 @@ abbrev pub Agree : Within → Inner → Type 0
 Agree within inner = (d : Data) → fault_in (within d) ≡ refusal_in (inner d)
 
 -- ---- step by step
-
-then_at : {A B : Type 0} (name : List ℕ) (r : Result A SchemaFault) (f : A → Found) (g : A → Result B SchemaFault)
-    → ((a : A) → fault_in (f a) ≡ refusal_in (g a)) → fault_in (at name r >>= f) ≡ refusal_in (r >>= g)
-then_at name (Ok a) f g same = same a
-then_at name (Err fault) f g same = refl
-
-then_read : {A B : Type 0} (name : List ℕ) (r : Result A SchemaFault) (f : Unit {0} → Found) (g : A → Result B SchemaFault)
-    → ((a : A) → fault_in (f tt) ≡ refusal_in (g a)) → fault_in (read_at name r >>= f) ≡ refusal_in (r >>= g)
-then_read name (Ok a) f g same = same a
-then_read name (Err fault) f g same = refl
-
--- what a limit is where it is absent makes no fault
-then_limit : {B : Type 0} (name : List ℕ) (n : ℕ) (o : Option Data) (f : Unit {0} → Found) (g : ℕ → Result B SchemaFault)
-    → ((a : ℕ) → fault_in (f tt) ≡ refusal_in (g a))
-    → fault_in (read_at name (limit_in 0 o) >>= f) ≡ refusal_in (limit_in n o >>= g)
-then_limit name n None f g same = same n
-then_limit name n (Some d) f g same = then_read name (limit_in 0 (Some d)) f g same
 
 then_inside : {A B : Type 0} (name : List ℕ) (found : Found) (r : Result A SchemaFault) (f : Unit {0} → Found)
     (g : A → Result B SchemaFault) → fault_in found ≡ refusal_in r → ((a : A) → fault_in (f tt) ≡ refusal_in (g a))
@@ -75,28 +55,6 @@ made_same found (Err fault) f same = same
 
 -- ---- one schema
 
-untyped_end : (b : Bool) → fault_in (if b then Ok tt else Err (here NoType)) ≡ refusal_in (if b then Ok type.Opaque else Err NoType)
-untyped_end true = refl
-untyped_end false = refl
-
-untyped_same : (d : Data) → fault_in (untyped_place d) ≡ refusal_in (untyped d)
-untyped_same d =
-    then_at (codes "x-kubernetes-preserve-unknown-fields") (flag (codes "x-kubernetes-preserve-unknown-fields") d) _ _ (λ kept.
-    then_at (codes "x-kubernetes-int-or-string") (flag (codes "x-kubernetes-int-or-string") d) _ _ (λ either.
-    untyped_end (kept || either)))
-
-text_same : (d : Data) → fault_in (text_place d) ≡ refusal_in (text_type d)
-text_same d = then_limit (codes "maxLength") 1048576 (get (codes "maxLength") d) _ _ (λ max. refl)
-
-list_same : (within : Within) (inner : Inner) (d : Data) → Agree within inner
-    → fault_in (list_place within d) ≡ refusal_in (list_type inner d)
-list_same within inner d agree =
-    then_limit (codes "maxItems") 524287 (get (codes "maxItems") d) _ _ (λ max.
-    then_read (codes "x-kubernetes-list-type") (is_plain d) _ _ (λ plain.
-    then_at (codes "items") (stated (get (codes "items") d)) _ _ (λ items.
-    under_same (codes "items") (within items) (inner items >>= (λ item. Ok (type.List max plain item)))
-    (made_same (within items) (inner items) (λ item. type.List max plain item) (agree items)))))
-
 members_same : (within : Within) (inner : Inner) (required : List ℕ → Bool) (ms : Members) → Agree within inner
     → fault_in (members_place within ms) ≡ refusal_in (fields_of inner required ms)
 members_same within inner required json.no_members agree = refl
@@ -112,74 +70,51 @@ entry_same : (within : Within) (inner : Inner) (d : Data) → Agree within inner
 entry_same within inner (json.boolean b) agree = refl
 entry_same within inner d agree = agree d
 
-bare_end : (kept : Bool) → fault_in (Ok tt) ≡ refusal_in {A = CelType} (Ok (bare_type kept))
-bare_end kept = refl
-
-one_same : (within : Within) (inner : Inner) (properties : Option Members) (required : Items) (entry : Option Data) (max : ℕ)
-    (kept : Bool) → Agree within inner
-    → fault_in (one_place within properties entry) ≡ refusal_in (object_of inner properties required entry max kept)
-one_same within inner (Some properties) required None max kept agree =
-    let among = λ (k : List ℕ). is_among k required in
-    under_same (codes "properties") (members_place within properties) (record_type inner required properties)
-    (made_same (members_place within properties) (fields_of inner among properties) (λ fields. type.Object fields)
-    (members_same within inner among properties agree))
-one_same within inner None required (Some entry) max kept agree =
-    under_same (codes "additionalProperties") (entry_place within entry) (map_type inner max entry)
+form_same : (within : Within) (inner : Inner) (f : Form) → Agree within inner
+    → fault_in (form_place within f) ≡ refusal_in (form_type inner f)
+form_same within inner form.anything agree = refl
+form_same within inner form.truth agree = refl
+form_same within inner form.whole agree = refl
+form_same within inner form.timestamp agree = refl
+form_same within inner form.duration agree = refl
+form_same within inner (form.text max) agree = refl
+form_same within inner (form.list max plain items) agree =
+    under_same (keyword_name Items) (within items) (inner items >>= (λ item. Ok (type.List max plain item)))
+    (made_same (within items) (inner items) (λ item. type.List max plain item) (agree items))
+form_same within inner (form.map max entry) agree =
+    under_same (keyword_name AdditionalProperties) (entry_place within entry)
+    (entry_type inner entry >>= (λ item. Ok (type.Map max 1048576 item)))
     (made_same (entry_place within entry) (entry_type inner entry) (λ item. type.Map max 1048576 item)
     (entry_same within inner entry agree))
-one_same within inner None required None max kept agree = bare_end kept
-one_same within inner (Some properties) required (Some entry) max kept agree = refl
+form_same within inner (form.fields required properties) agree =
+    let among = λ (k : List ℕ). is_among k required in
+    under_same (keyword_name Properties) (members_place within properties)
+    (fields_of inner among properties >>= (λ fields. Ok (type.Object fields)))
+    (made_same (members_place within properties) (fields_of inner among properties) (λ fields. type.Object fields)
+    (members_same within inner among properties agree))
+form_same within inner form.bare agree = refl
 
-object_same : (within : Within) (inner : Inner) (d : Data) → Agree within inner
-    → fault_in (object_place within d) ≡ refusal_in (object_type inner d)
-object_same within inner d agree =
-    then_at (codes "properties") (properties_of d) _ _ (λ properties.
-    then_read (codes "required") (required_names d) _ _ (λ required.
-    then_at (codes "additionalProperties") (entry_of d) _ _ (λ entry.
-    then_limit (codes "maxProperties") 524287 (get (codes "maxProperties") d) _ _ (λ max.
-    then_at (codes "x-kubernetes-preserve-unknown-fields") (flag (codes "x-kubernetes-preserve-unknown-fields") d) _ _ (λ kept.
-    one_same within inner properties required entry max kept agree)))))
+nested_same : (within : Within) (inner : Inner) (r : Result (Bool × Form) OwnFault) → Agree within inner
+    → fault_in (nested_place within r) ≡ refusal_in (nested_type inner r)
+nested_same within inner (Ok p) agree =
+    made_same (form_place within p.1) (form_type inner p.1) (λ t. if p.0 then type.Nullable t else t) (form_same within inner p.1 agree)
+nested_same within inner (Err f) agree = refl
 
-word_same : (within : Within) (inner : Inner) (d : Data) (w : Option TypeWord) → Agree within inner
-    → fault_in (place_by_word within d w) ≡ refusal_in (typed_as inner d w)
-word_same within inner d None agree = untyped_same d
-word_same within inner d (Some word.Boolean) agree = refl
-word_same within inner d (Some word.Integer) agree = refl
-word_same within inner d (Some word.Number) agree = refl
-word_same within inner d (Some word.String) agree = text_same d
-word_same within inner d (Some word.Array) agree = list_same within inner d agree
-word_same within inner d (Some word.Object) agree = object_same within inner d agree
-
-own_same : (within : Within) (inner : Inner) (d : Data) → Agree within inner
-    → fault_in (own_place within d) ≡ refusal_in (own_type inner d)
-own_same within inner d agree =
-    then_read (codes "$ref") (absent (codes "$ref") d) _ _ (λ _.
-    then_at (codes "type") (stated_word d) _ _ (λ w. word_same within inner d w agree))
-
-if_object : {A : Type 0} (b : Bool) (found : Found) (r : Result A SchemaFault) → fault_in found ≡ refusal_in r
-    → fault_in (if b then found else Err (here BadKeyword)) ≡ refusal_in (if b then r else Err BadKeyword)
-if_object true found r same = same
-if_object false found r same = refl
-
-nested_same : (within : Within) (inner : Inner) (d : Data) → Agree within inner
-    → fault_in (nested_place within d) ≡ refusal_in (nested_type inner d)
-nested_same within inner d agree =
-    if_object (is_object d) _ _
-    (then_at (codes "nullable") (flag (codes "nullable") d) _ _ (λ nullable.
-    made_same (own_place within d) (own_type inner d) (λ t. if nullable then type.Nullable t else t) (own_same within inner d agree)))
+root_same : (within : Within) (inner : Inner) (r : Result Form OwnFault) → Agree within inner
+    → fault_in (root_place within r) ≡ refusal_in (root_type inner r)
+root_same within inner (Ok f) agree =
+    made_same (form_place within f) (form_type inner f) with_fixed_fields (form_same within inner f agree)
+root_same within inner (Err f) agree = refl
 
 -- ---- schemas inside each other
 
 levels_same : (levels : ℕ) → Agree (schema_place levels) (schema_type levels)
 unfolding schema_place schema_type
 levels_same zero d = refl
-levels_same (suc levels) d = nested_same (schema_place levels) (schema_type levels) d (levels_same levels)
+levels_same (suc levels) d = nested_same (schema_place levels) (schema_type levels) (nested_form d) (levels_same levels)
 
 document_same : (d : Data) → fault_in (document_place d) ≡ refusal_in (object_type_of d)
-document_same d =
-    if_object (is_object d) _ _
-    (made_same (own_place (schema_place 99) d) (own_type (schema_type 99) d) with_fixed_fields
-    (own_same (schema_place 99) (schema_type 99) d (levels_same 99)))
+document_same d = root_same (schema_place 99) (schema_type 99) (root_form d) (levels_same 99)
 
 -- ---- the answer
 

@@ -3,6 +3,7 @@ use Rattle.std.proofs.Common.{◌≡◌, ℕ, zero, suc, ◌-◌, ◌<◌, List,
 use Rattle.std.specs.Prelude.{is_some}
 use Rattle.serde_json.specs.Data.{Data, Members, member}
 use Rattle.vap_fit.specs.Seen.{◌>>=◌}
+use Rattle.vap_schema.specs.Forms.{nested_form}
 use Rattle.vap_schema.specs.declared.schema_fault.SchemaFault.TheVariants.{TooDeep}
 use Rattle.schema_path.specs.Answers.{IsPlaceBackwards}
 use Rattle.schema_path.specs.Places.{Found, Within, here, under, members_place, nested_place, schema_place}
@@ -13,10 +14,10 @@ unfolding schema_place
 too_deep zero d h = refl
 too_deep (suc n) d h = absurd (omega arith)
 
-pub one_level : (levels : ℕ) (d : Data) → 0 < levels → schema_place levels d ≡ nested_place (schema_place (levels - 1)) d
+pub one_level : (levels : ℕ) (d : Data) → 0 < levels → schema_place levels d ≡ nested_place (schema_place (levels - 1)) (nested_form d)
 unfolding schema_place
 one_level zero d h = absurd (omega arith)
-one_level (suc n) d h = let same : n ≡ suc n - 1 = omega arith in ap (λ m. nested_place (schema_place m) d) same
+one_level (suc n) d h = let same : n ≡ suc n - 1 = omega arith in ap (λ m. nested_place (schema_place m) (nested_form d)) same
 
 -- the place in a property is the object's
 pub members_stop : (within : Within) (k : List ℕ) (d : Data) (ms : Members) (whole : Found) (found : Option FaultPlace)

@@ -1,3 +1,2 @@
 pub mod Places
-pub mod Inside
 pub mod Answers

@@ -1,18 +1,16 @@
 //! The place of the first fault of a schema. It takes no memory until a fault is told.
 
-ghost use Rattle.std.specs.Prelude.{◌≡◌, IfOk, Err, map};
+ghost use Rattle.std.specs.Prelude.{◌≡◌, [], IfOk, Err, map};
 ghost use Rattle.serde_json.specs.View.{view, members_view};
 ghost use Rattle.vap_schema.specs.Schemas.{object_type_of};
-ghost use Rattle.schema_path.specs.Places.{Found, under, schema_place, members_place, entry_place, document_place};
-ghost use Rattle.schema_path.specs.Places.{own_fault_place};
-ghost use Rattle.schema_path.specs.Inside.{inside_place};
+ghost use Rattle.vap_schema.specs.Forms.{form_in};
+ghost use Rattle.schema_path.specs.Places.{Found, under, own_place, form_place, members_place, entry_place};
+ghost use Rattle.schema_path.specs.Places.{schema_place, document_place};
 ghost use Rattle.schema_path.specs.Answers.{IsPlace, IsPlaceBackwards, IsFaultOf, backwards};
 
-use crate::inside::{Inside, nested_inside, root_inside};
-use crate::keywords::OwnFault;
 use serde_json::{Map, Value as Json};
 use std::alloc::{AllocError, Global};
-use vap_schema::SchemaFault;
+use vap_schema::{Form, Keyword, OwnFault, SchemaFault, nested_form, root_form};
 
 /// A fault of a schema, and the names of keywords and properties that lead to it, as `properties`, `spec`, `type`.
 #[derive(Drop)]
@@ -46,8 +44,8 @@ fn turned(place: FaultPlace<'_>) -> FaultPlace<'_>
 fn place_in_root(alloc: Global, schema: &Json) -> Result<Option<FaultPlace<'_>>, AllocError>
     ensures { IfOk result (IsPlaceBackwards (document_place (view schema.now))) }
 {
-    match root_inside(schema) {
-        Ok(inside) => place_inside(99, alloc, inside),
+    match root_form(schema) {
+        Ok(form) => place_in_form(99, alloc, form),
         Err(own) => own_place(alloc, own),
     }
 }
@@ -58,32 +56,38 @@ fn place_in(levels: u32, alloc: Global, schema: &Json) -> Result<Option<FaultPla
     ensures { IfOk result (IsPlaceBackwards (schema_place levels (view schema.now))) }
 {
     if levels == 0 {
-        return own_place(alloc, OwnFault::Schema(SchemaFault::TooDeep));
+        return Ok(Some(here(alloc, SchemaFault::TooDeep)));
     }
-    match nested_inside(schema) {
-        Ok(inside) => place_inside(levels - 1, alloc, inside),
+    match nested_form(schema) {
+        Ok((_, form)) => place_in_form(levels - 1, alloc, form),
         Err(own) => own_place(alloc, own),
     }
 }
 
-/// The place in what stands inside a schema.
+/// The place in the schemas inside a form.
 #[cycle(place_in)]
-fn place_inside<'a>(
+fn place_in_form<'a>(
     levels: u32,
     alloc: Global,
-    inside: Inside<'a>,
+    form: Form<'a>,
 ) -> Result<Option<FaultPlace<'a>>, AllocError>
-    ensures { IfOk result (IsPlaceBackwards (inside_place (schema_place levels) inside.entry)) }
+    ensures { IfOk result (IsPlaceBackwards (form_place (schema_place levels) (form_in form.entry))) }
 {
-    match inside {
-        Inside::Nothing => Ok(None),
-        Inside::Items(items) => under("items", place_in(levels, alloc, items)),
-        Inside::Properties(properties) => {
-            under("properties", place_among(levels, alloc, properties))
+    match form {
+        Form::List { items, .. } => { under(Keyword::Items.name(), place_in(levels, alloc, items)) }
+        Form::Map { entry, .. } => {
+            under(
+                Keyword::AdditionalProperties.name(),
+                place_in_entry(levels, alloc, entry),
+            )
         }
-        Inside::Entry(entry) => {
-            under("additionalProperties", place_in_entry(levels, alloc, entry))
+        Form::Record { properties, .. } => {
+            under(
+                Keyword::Properties.name(),
+                place_among(levels, alloc, properties),
+            )
         }
+        _ => Ok(None),
     }
 }
 
@@ -135,19 +139,24 @@ fn under<'a>(
     }
 }
 
-/// The place of a schema's own fault.
+/// The place of a fault that a schema has itself.
 fn own_place<'a>(alloc: Global, own: OwnFault) -> Result<Option<FaultPlace<'a>>, AllocError>
-    ensures { IfOk result (IsPlaceBackwards (Err (own_fault_place own))) }
+    ensures { IfOk result (IsPlaceBackwards (Err (own_place own))) }
 {
-    let mut path = Vec::new(alloc);
-    match own {
-        OwnFault::Schema(fault) => Ok(Some(FaultPlace { fault, path })),
-        OwnFault::Keyword(name) => {
-            path.push(name)?;
-            Ok(Some(FaultPlace {
-                fault: SchemaFault::BadKeyword,
-                path,
-            }))
-        }
+    let mut place = here(alloc, own.fault());
+    if let OwnFault::Keyword(keyword) = own {
+        place.path.push(keyword.name())?;
+    }
+    Ok(Some(place))
+}
+
+/// The place of a schema itself.
+fn here<'a>(alloc: Global, fault: SchemaFault) -> FaultPlace<'a>
+    ensures fault { result.fault ≡ fault }
+    ensures path { result.path.items ≡ [] }
+{
+    FaultPlace {
+        fault,
+        path: Vec::new(alloc),
     }
 }

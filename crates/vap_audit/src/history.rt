@@ -30,9 +30,14 @@ pub struct Stray {
 }
 
 /// What was decided, oldest first, which contracts see as the list of its entries.
-#[derive(Drop)]
 pub struct History {
     entries: Vec<Entry>,
+}
+
+impl Drop for History {
+    fn drop(self) {
+        let History { entries: _entries } = self;
+    }
 }
 
 impl Model for History {

@@ -31,7 +31,6 @@ pub struct ValidationActions {
 }
 
 /// What a binding says. Rules that are absent are as rules that say nothing, which match every request.
-#[derive(Drop)]
 pub struct BindingSpec {
     pub policy_name: Text,
     pub param_ref: Option<ParamRef>,
@@ -39,10 +38,26 @@ pub struct BindingSpec {
     pub validation_actions: ValidationActions,
 }
 
+impl Drop for BindingSpec {
+    fn drop(self) {
+        let BindingSpec {
+            policy_name: _policy_name,
+            param_ref: _param_ref,
+            match_resources: _match_resources,
+            validation_actions: _validation_actions,
+        } = self;
+    }
+}
+
 /// A binding, which may have several owners.
-#[derive(Drop)]
 pub struct Binding {
     pub spec: Shared<BindingSpec>,
+}
+
+impl Drop for Binding {
+    fn drop(self) {
+        let Binding { spec: _spec } = self;
+    }
 }
 
 impl Binding {

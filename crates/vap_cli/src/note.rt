@@ -138,7 +138,7 @@ pub fn error_words(error: CelError) -> &'static str {
         CelError::OutOfRange => "An index is outside of its list.",
         CelError::NullOperand => "An operand is null.",
         CelError::DuplicateKey => "A key comes twice in a map.",
-        CelError::BadConversion => "A text does not spell the number that is asked.",
+        CelError::BadConversion => "A text does not spell the number or the time that is asked.",
         CelError::EmptyList => "The least or greatest item of no items is asked.",
     }
 }

@@ -10,6 +10,7 @@ use Rattle.serde_json.specs.Data as json
 use Rattle.serde_json.specs.Data.{Data, Items, Members, Num}
 use Rattle.serde_json.specs.Events.{items_len, members_len}
 use Rattle.serde_json.specs.Find.{as_null}
+use Rattle.cel_time.specs.Reading.{timestamp_of, date_of, duration_of}
 use Rattle.cel_value.specs.Value.{code_points}
 use Rattle.cel_value.specs.declared.value.Value as value
 use Rattle.cel_value.specs.declared.value.Value.{Value}
@@ -52,6 +53,16 @@ abbrev pub seen_int : List ℕ → Num → Result ℤ FitFault
 seen_int path (json.unsigned n) = if nat_lt n (2 ^ 63) then Ok (pos n) else Err (fault IntRange path)
 seen_int path (json.negative z) = Ok z
 seen_int path (json.float x) = Err (fault WrongKind path)
+
+-- the instant of a timestamp's text, or of a date's, whose day begins in UTC
+abbrev pub or_date : Option ℤ → List ℕ → Option ℤ
+or_date None s = date_of s
+or_date (Some n) s = Some n
+
+-- what a text spells, which is of the wrong kind if it spells nothing
+abbrev pub seen_time : Option ℤ → List ℕ → Result ℤ FitFault
+seen_time None path = Err (fault WrongKind path)
+seen_time (Some n) path = Ok n
 
 -- nothing, or the fault that a limit is passed
 abbrev pub within : ℕ → ℕ → List ℕ → Result (Unit {0}) FitFault
@@ -156,6 +167,12 @@ seen_at CelType-F.Int path (json.number n) = do
 seen_at (CelType-F.Text max) path (json.string s) = do
   text ← seen_text max path s
   Ok (value.Text text)
+seen_at CelType-F.Timestamp path (json.string s) = do
+  n ← seen_time (or_date (timestamp_of s) s) path
+  Ok (value.Timestamp n)
+seen_at CelType-F.Duration path (json.string s) = do
+  n ← seen_time (duration_of s) path
+  Ok (value.Duration n)
 seen_at (CelType-F.List max plain item) path (json.array ds) = do
   vs ← seen_list item.1 max path ds
   Ok (value.List vs)

@@ -5,6 +5,7 @@ ghost use Rattle.std.specs.List.{list_all};
 ghost use Rattle.serde_json.specs.View.{view, number_view, items_view, members_view};
 ghost use Rattle.failing.specs.Failures.{Answers, IfFault};
 ghost use Rattle.plain.specs.Keys.{IsInKeyOrder};
+ghost use Rattle.cel_time.specs.Reading.{timestamp_of, duration_of};
 ghost use Rattle.cel_value.specs.Fits.{fits, HasItsField};
 ghost use Rattle.cel_value.specs.declared.value.Value as V;
 ghost use Rattle.cel_value.specs.declared.cel_type.CelType.{Object as ObjectType};
@@ -15,12 +16,14 @@ ghost use Rattle.vap_fit.specs.Paths.{path_text};
 ghost use Rattle.vap_fit.specs.Seen.{Carries, made, if_all_there};
 ghost use Rattle.vap_fit.specs.Seen.{seen, seen_int, seen_text, seen_list, seen_items, seen_map};
 ghost use Rattle.vap_fit.specs.Seen.{seen_entries, seen_entry, seen_object, seen_members, seen_member, seen_field};
+ghost use Rattle.vap_fit.specs.Seen.{seen_time, or_date};
 ghost use Rattle.vap_fit.specs.Seen.{all_there, misfit, fault, within, reader_of, readers_of, is_absent};
 ghost use Rattle.vap_fit.specs.Entries.{entry_fits};
 
 use crate::fit_fault::{FitError, FitFault, FitFaultKind};
 use crate::in_step::{is_at, place_from};
 use crate::path::{Path, written};
+use cel_time::{Timestamp, read_date, read_duration, read_timestamp};
 use cel_value::{CelType, Field, Value, code_points};
 use plain::{Items, Keyed, Text, TextMap};
 use serde_json::{Map, Number, Value as Json};
@@ -73,6 +76,14 @@ fn fit_at(
         },
         CelType::Text { max } => match document {
             Json::String(text) => text_value(fit_text(alloc, *max, text.as_str(), path)),
+            _ => Err(misfit(alloc, document, path)),
+        },
+        CelType::Timestamp => match document {
+            Json::String(text) => timestamp_value(fit_timestamp(alloc, text.as_str(), path)),
+            _ => Err(misfit(alloc, document, path)),
+        },
+        CelType::Duration => match document {
+            Json::String(text) => duration_value(fit_duration(alloc, text.as_str(), path)),
             _ => Err(misfit(alloc, document, path)),
         },
         CelType::List { max, item, .. } => match document {
@@ -281,6 +292,18 @@ fn text_value(text: Result<Text, FitError>) -> Result<Value, FitError>
     Ok(Value::Text(text?))
 }
 
+fn timestamp_value(timestamp: Result<Timestamp, FitError>) -> Result<Value, FitError>
+    ensures { result ≡ made V.Timestamp timestamp }
+{
+    Ok(Value::Timestamp(timestamp?))
+}
+
+fn duration_value(duration: Result<i64, FitError>) -> Result<Value, FitError>
+    ensures { result ≡ made V.Duration duration }
+{
+    Ok(Value::Duration(duration?))
+}
+
 fn list_value(items: Result<Items<Value>, FitError>) -> Result<Value, FitError>
     ensures { result ≡ made V.List items }
 {
@@ -397,6 +420,34 @@ fn fit_text(alloc: Global, max: u32, text: &str, path: &Path<'_>) -> Result<Text
 {
     check_limit(alloc, max, code_points(text), path)?;
     Ok(Text::from_str(alloc, text)?)
+}
+
+fn fit_timestamp(alloc: Global, text: &str, path: &Path<'_>) -> Result<Timestamp, FitError>
+    ensures { Answers (seen_time (or_date (timestamp_of text.now) text.now) (path_text path.now)) result }
+{
+    match timestamp_or_date(text) {
+        Some(timestamp) => Ok(timestamp),
+        None => Err(refusal(alloc, FitFaultKind::WrongKind, path)),
+    }
+}
+
+/// A timestamp, or the midnight in UTC with which a date begins.
+fn timestamp_or_date(text: &str) -> Option<Timestamp>
+    ensures { result ≡ or_date (timestamp_of text.now) text.now }
+{
+    match read_timestamp(text) {
+        Some(timestamp) => Some(timestamp),
+        None => read_date(text),
+    }
+}
+
+fn fit_duration(alloc: Global, text: &str, path: &Path<'_>) -> Result<i64, FitError>
+    ensures { Answers (seen_time (duration_of text.now) (path_text path.now)) result }
+{
+    match read_duration(text) {
+        Some(duration) => Ok(duration),
+        None => Err(refusal(alloc, FitFaultKind::WrongKind, path)),
+    }
 }
 
 fn check_key(alloc: Global, key_max: u32, name: &str, place: &Path<'_>) -> Result<(), FitError>

@@ -7,13 +7,14 @@ use cel_value::{CelType, Value};
 use json_text::to_json;
 use std::alloc::{AllocError, Global};
 
-/// Slots, constants, targets, the type of the outcome, and the instructions.
+/// Slots, constants, targets, the type of the outcome, what is declared, and the instructions.
 pub fn listing(alloc: Global, image: &Image) -> Result<String, AllocError> {
     let mut out = String::new(alloc);
     put_slots(&mut out, image.slots.as_slice())?;
     put_constants(alloc, &mut out, image.constants.as_slice())?;
     put_targets(&mut out, image.targets.as_slice())?;
     put_result(&mut out, &image.result)?;
+    put_declared(&mut out, image.declared)?;
     put_code(&mut out, image.code.as_slice())?;
     Ok(out)
 }
@@ -48,6 +49,13 @@ fn put_result(out: &mut String, outcome: &CelType) -> Result<(), AllocError> {
     out.push_str("result ")?;
     put_type(out, outcome)?;
     out.push_str("\n")
+}
+
+fn put_declared(out: &mut String, declared: Option<u64>) -> Result<(), AllocError> {
+    if let Some(most) = declared {
+        write!(out, "declared {most}\n")?;
+    }
+    Ok(())
 }
 
 fn put_code(out: &mut String, code: &[Instr]) -> Result<(), AllocError> {

@@ -22,6 +22,8 @@ pub fn put_type(out: &mut String, cel_type: &CelType) -> Result<(), AllocError> 
         CelType::Bool => out.push_str("Bool"),
         CelType::Int => out.push_str("Int"),
         CelType::Uint => out.push_str("Uint"),
+        CelType::Timestamp => out.push_str("Timestamp"),
+        CelType::Duration => out.push_str("Duration"),
         CelType::Text { max } => write!(out, "Text{{{max}}}"),
         CelType::List { max, plain, item } => {
             let kind = if *plain { "plain" } else { "not plain" };

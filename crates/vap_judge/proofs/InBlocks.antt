@@ -2,7 +2,7 @@
 use Rattle.std.proofs.Common.{◌≡◌, ◌<◌, ◌≤◌, ◌+◌, ℕ, Bool, true, false, ◌||◌, List, [], ◌∷◌, ◌++◌, length, take, drop, get_or, map, filter}
 use Rattle.std.proofs.Common.{sym, ap, ◌∙◌, subst, suc, add-one, take-append-drop}
 use Rattle.std.proofs.lemmas.Grind.{flat_map-append}
-use Rattle.std.proofs.lemmas.List.{drop_all, length-append, map-append}
+use Rattle.std.proofs.lemmas.List.{drop_all, map-append}
 use Rattle.std.proofs.lemmas.List.Elements.{All-from_recursion, filter-append, recursion_from_All}
 use Rattle.std.proofs.lemmas.List.Folds.{list_any-append}
 use Rattle.std.proofs.Math.Seq.{drop-cons}
@@ -10,12 +10,10 @@ use Rattle.std.specs.List.{All, AllByRecursion, list_any}
 use Rattle.cel_value.specs.declared.cel_type.CelType.{CelType}
 use Rattle.vap_programs.specs.declared.programs.Programs.{Programs}
 use Rattle.vap_read.specs.declared.object.Object.{Object}
-use Rattle.vap_params.specs.Seen.{IsSeenAt, Param}
+use Rattle.vap_params.specs.Seen.{Param}
 use Rattle.vap_params.specs.Blocks.{joined}
 use Rattle.vap_judge.specs.Evaluations.{Evaluation, Rule}
 use Rattle.vap_judge.specs.Judging.{Case, at_param}
-use Rattle.vap_judge.specs.Patterns.{OneMayMatch}
-use Rattle.vap_judge.proofs.Looked.{after, in_front}
 
 module _ {X : Type 0} where
   -- the blocks from a place on are the block there and those behind it
@@ -27,17 +25,6 @@ module _ {X : Type 0} where
   before : (blocks : List (List X)) (k : ℕ) → joined blocks ≡ joined (take k blocks) ++ joined (drop k blocks)
   before blocks k =
       ap joined (sym (take-append-drop k blocks)) ∙ flat_map-append (λ (b : List X). b) (take k blocks) (drop k blocks)
-
-  -- how many there are before a place
-  pub count_left : (blocks : List (List X)) (k : ℕ)
-      → length (joined (take k blocks)) + length (joined (drop k blocks)) ≡ length (joined blocks)
-  count_left blocks k =
-      sym (ap (λ (xs : List X). length xs) (before blocks k) ∙ length-append (joined (take k blocks)) (joined (drop k blocks)))
-
-  pub count_here : (blocks : List (List X)) (k : ℕ) (block : List X) → k < length blocks → block ≡ get_or blocks k block
-      → length (joined (drop k blocks)) ≡ length block + length (joined (drop (k + 1) blocks))
-  count_here blocks k block within is =
-      ap (λ (xs : List X). length xs) (here blocks k block within is) ∙ length-append block (joined (drop (k + 1) blocks))
 
   -- behind the last there are none
   pub none_left : (blocks : List (List X)) (k : ℕ) → length blocks ≤ k → joined (drop k blocks) ≡ []
@@ -112,19 +99,3 @@ module _ (c : Case) (w : Rule) (ps : Programs) (t : CelType) (test : Object → 
       → found block ++ found (joined (drop (k + 1) blocks)) ≡ found (joined (drop k blocks))
   next_block blocks k block within is =
       sym (ap found (here blocks k block within is) ∙ both block (joined (drop (k + 1) blocks)))
-
-  -- one of those of a block looks for a pattern, and so does one of all
-  pub one_in_block : (blocks : List (List Param)) (os : List Object) (k : ℕ) (block : List Param) → objects (joined blocks) ≡ os
-      → k < length blocks → block ≡ get_or blocks k block → OneMayMatch (found block)
-      → OneMayMatch (map (at_param c w ps t) (filter test os))
-  one_in_block blocks os k block is_all within is one =
-      subst (λ xs. OneMayMatch (map (at_param c w ps t) (filter test xs))) is_all
-      (
-      subst OneMayMatch (sym (ap found (before blocks k) ∙ both (joined (take k blocks)) (joined (drop k blocks))))
-      (
-      after (found (joined (take k blocks))) (found (joined (drop k blocks)))
-      (
-      subst OneMayMatch (next_block blocks k block within is) (in_front (found block) (found (joined (drop (k + 1) blocks))) one)
-      )
-      )
-      )

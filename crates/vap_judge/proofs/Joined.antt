@@ -40,12 +40,6 @@ joined_more f es gs =
     ∙ ap (λ n. f.charged + n) (sym (sum_by-append charge_in es gs))
     )
 
--- what is found so far, with what the rest finds, is all, also behind the next evaluations
-pub next_found : (old new all : Findings) (es rest more : List Evaluation) → new ≡ joined old (found_by es) → es ++ rest ≡ more
-    → joined old (found_by more) ≡ all → joined new (found_by rest) ≡ all
-next_found old new all es rest more step cut before =
-    ap (λ f. joined f (found_by rest)) step ∙ joined_more old es rest ∙ ap (λ xs. joined old (found_by xs)) cut ∙ before
-
 pub cut_at : {X : Type 0} (xs : List X) (i : ℕ) (x : X) → i < length xs → x ≡ get_or xs i x → drop i xs ≡ x ∷ drop (i + 1) xs
 cut_at {X} xs i x lt is =
     drop-cons xs i x lt ∙ ap (λ (y : X). y ∷ drop (suc i) xs) (sym is) ∙ ap (λ (k : ℕ). x ∷ drop k xs) (sym (add-one i))

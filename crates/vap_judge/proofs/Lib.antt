@@ -1,5 +1,6 @@
 pub mod Fitting
 pub mod InBlocks
+pub mod Budget
 pub mod Joined
 pub mod KeptParams
 pub mod Looked
@@ -7,5 +8,4 @@ pub mod Named
 pub mod PassedOver
 pub mod Priced
 pub mod Skipped
-pub mod Steps
 pub mod WorkedRows

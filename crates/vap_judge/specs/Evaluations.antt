@@ -1,5 +1,5 @@
 -- Evaluations of policies, and what they find.
-use Rattle.std.specs.Prelude.{ℕ, ◌+◌, List, [], ◌++◌, map, None}
+use Rattle.std.specs.Prelude.{ℕ, ◌+◌, ◌-◌, nat_lt, if◌then◌else◌, List, [], ◌∷◌, ◌++◌, codes, map, None}
 use Rattle.std.specs.List.{flat_map, sum_by}
 use Rattle.cel_operators.specs.Outcomes.{Outcome}
 use Rattle.vap_answer.specs.declared.finding.Finding.{Finding}
@@ -10,6 +10,7 @@ use Rattle.vap_found.specs.Validations.{counted}
 use Rattle.vap_found.specs.declared.found.Failure.{Failure}
 use Rattle.vap_found.specs.declared.found.Note.{Note as FoundNote}
 use Rattle.vap_policies.specs.declared.policy.FailurePolicy.{FailurePolicy}
+use Rattle.vap_programs.specs.Pairs.{price_of}
 use Rattle.vap_programs.specs.declared.programs.Programs.{Programs}
 
 -- the names of a policy and of a binding, and what becomes of a failure under them
@@ -23,6 +24,37 @@ pub record Rule : Type 0 where
 pub data Evaluation : Type 0 where
   Ran : Rule → Programs → List Outcome → Evaluation
   Failed : Rule → List ℕ → Evaluation
+
+-- ---- the budget of a request
+
+-- the most that the evaluations of a request may cost together, each by its price
+abbrev pub budget : ℕ
+budget = 200000000
+
+-- what is said of a policy that is misconfigured
+unfoldable pub misconfigured : List ℕ → List ℕ
+misconfigured name = codes "policy is misconfigured: " ++ name
+
+-- an evaluation in place of one whose price is more than what is left of the budget
+abbrev pub refused : Rule → Evaluation
+refused w = Failed w (misconfigured (codes "RequestBudget"))
+
+-- what becomes of an evaluation, where so much of the budget is left
+abbrev pub fitting : ℕ → Evaluation → Evaluation
+fitting left (Ran w ps slots) = if nat_lt left (price_of ps) then refused w else Ran w ps slots
+fitting left (Failed w message) = Failed w message
+
+-- what is left behind it: only what runs costs its price
+abbrev pub left_after : ℕ → Evaluation → ℕ
+left_after left (Ran w ps slots) = if nat_lt left (price_of ps) then left else left - price_of ps
+left_after left (Failed w message) = left
+
+-- what becomes of evaluations in their order, where so much is left before them
+abbrev pub budgeted : ℕ → List Evaluation → List Evaluation
+budgeted left [] = []
+budgeted left (e ∷ es) = fitting left e ∷ budgeted (left_after left e) es
+
+-- ---- what is found
 
 -- a failure under its rule
 abbrev pub finding_of : Rule → Failure → Finding

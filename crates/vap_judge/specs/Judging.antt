@@ -1,5 +1,5 @@
 -- The verdict of a set on a request (Kubernetes, "Validating Admission Policy").
-use Rattle.std.specs.Prelude.{ℕ, Bool, ◌++◌, if◌then◌else◌, codes, List, [], ◌∷◌, map, filter}
+use Rattle.std.specs.Prelude.{ℕ, Bool, if◌then◌else◌, codes, List, [], ◌∷◌, map, filter}
 use Rattle.std.specs.Prelude.{Option, Some, None, Result, Ok, Err}
 use Rattle.std.specs.List.{flat_map}
 use Rattle.plain.specs.declared.text.Keyed.{Keyed}
@@ -35,7 +35,7 @@ use Rattle.vap_set.specs.declared.bound.BoundPolicy.{BoundPolicy}
 use Rattle.vap_set.specs.declared.choice.Choice.{Choice as ChoiceOf}
 use Rattle.vap_slots.specs.Held.{held_at, slots_of}
 use Rattle.vap_slots.specs.declared.held.Held.{Held}
-use Rattle.vap_judge.specs.Evaluations.{Evaluation, Ran, Failed, Rule, Findings, found_by}
+use Rattle.vap_judge.specs.Evaluations.{Evaluation, Ran, Failed, Rule, Findings, budget, budgeted, found_by, misconfigured}
 use Rattle.vap_judge.specs.Params.{Place, is_param, place_of}
 use Rattle.vap_judge.specs.Places.{is_exempt, kind_at}
 
@@ -106,10 +106,6 @@ at_params c w ps None p = Ran w ps (slots_of c.held value.Null) ∷ []
 
 -- ---- policies and bindings
 
--- what is said of a policy that is misconfigured
-unfoldable pub misconfigured : List ℕ → List ℕ
-misconfigured name = codes "policy is misconfigured: " ++ name
-
 -- of what a policy is at the kind of the request: one that is misconfigured fails
 abbrev pub of_pair : Case → Rule → Option Pair → Option Fitted → Option ParamRef → List Evaluation
 of_pair c w None q p = []
@@ -149,9 +145,13 @@ of_policy c p = flat_map (of_binding c p) (filter (binding_matches c) p.bindings
 abbrev pub of_policies : Case → List BoundPolicy → List Evaluation
 of_policies c ps = flat_map (of_policy c) (filter (policy_matches c) ps)
 
--- all evaluations, in their order
+-- all evaluations that are asked for, in their order
+abbrev pub asked_of : Case → List Evaluation
+asked_of c = of_policies c (policies_of c.set)
+
+-- all evaluations, within the budget of a request
 abbrev pub evaluations_of : Case → List Evaluation
-evaluations_of c = of_policies c (policies_of c.set)
+evaluations_of c = budgeted budget (asked_of c)
 
 -- ---- the verdict
 

@@ -1,5 +1,5 @@
 -- What may be run where, and how much it charges at the most.
-use Rattle.std.specs.Prelude.{◌≡◌, ◌≤◌, ◌<◌, ◌+◌, ◌*◌, ◌^◌, ℕ, true, List, Option, Some, None}
+use Rattle.std.specs.Prelude.{◌≡◌, ◌≤◌, true, List, Option, Some, None}
 use Rattle.cel_check.specs.Typing.{types_in}
 use Rattle.cel_operators.specs.Outcomes.{slots_fit}
 use Rattle.cel_value.specs.CelType.{fits}
@@ -43,25 +43,3 @@ pub record CanRun (c : Case) (params : Option Fitted) (types : List CelType) (ps
   pub ready : IsReady types ps
   pub within : price_of ps ≤ most
   pub fit : (v : Value) → fits v (type_of_params (kept_params params)) ≡ true → slots_fit types (slots_of c.held v) ≡ true
-
--- the most that is charged for so many params
-abbrev pub most_for : ℕ → ℕ
-most_for n = n * most
-
--- as many params as a binding may have, a policy with its bindings, and a set
-abbrev pub params_of_binding : ℕ
-params_of_binding = 4096
-
-abbrev pub params_of_policy : ℕ
-params_of_policy = 256 * params_of_binding
-
-abbrev pub params_of_set : ℕ
-params_of_set = 256 * params_of_policy
-
--- there is room for what so many params charge
-abbrev pub HasRoom : ℕ → ℕ → Type 0
-HasRoom charged n = charged + most_for n < 2 ^ 64
-
--- so many params charged no more
-abbrev pub Grows : ℕ → ℕ → ℕ → Type 0
-Grows old new n = new ≤ old + most_for n

@@ -1,6 +1,6 @@
 //! The evaluations of policies at a request, in their order.
 
-ghost use Rattle.std.specs.Prelude.{◌≡◌, ◌≤◌, Some, true, List, [], ◌∷◌, length, map, filter, IfOk, IsErrOf, OnOk};
+ghost use Rattle.std.specs.Prelude.{◌≡◌, ◌≤◌, ◌+◌, Some, true, List, [], ◌∷◌, map, filter, IfOk, IsErrOf, OnOk};
 ghost use Rattle.std.specs.List.{All};
 ghost use Rattle.std.specs.Option.{option_copied};
 ghost use Rattle.failing.specs.declared.failed.Failed.TheVariants.{Fault};
@@ -9,20 +9,18 @@ ghost use Rattle.cel_apply.specs.Lent.{lent};
 ghost use Rattle.cel_operators.specs.Outcomes.{slots_fit};
 ghost use Rattle.cel_value.specs.declared.cel_type.CelType.{CelType};
 ghost use Rattle.vap_found.specs.Patterns.{PolicyMayMatch};
-ghost use Rattle.vap_programs.specs.Names.{pair_fault_name};
 ghost use Rattle.vap_programs.specs.Pairs.{most, price_of};
 ghost use Rattle.vap_programs.specs.Ready.{IsReady};
-ghost use Rattle.vap_set.specs.Ready.{AreFew, HasFew, IsReadyAt};
+ghost use Rattle.vap_set.specs.Ready.{IsReadyAt};
 ghost use Rattle.vap_params.specs.Seen.{IsSeenAt};
 ghost use Rattle.vap_slots.specs.Held.{slots_of};
-ghost use Rattle.vap_judge.specs.Adds.{Adds, case_in};
-ghost use Rattle.vap_judge.specs.Evaluations.{Failed, Ran};
-ghost use Rattle.vap_judge.specs.Judging.{at_each, at_param, at_params, at_seen, in_place, misconfigured};
-ghost use Rattle.vap_judge.specs.Judging.{evaluations_of, of_binding, of_policies, of_policy};
+ghost use Rattle.vap_judge.specs.Adds.{Adds, IsWithin, Looks, case_in};
+ghost use Rattle.vap_judge.specs.Evaluations.{Failed, Ran, budget, found_by, joined, misconfigured, refused};
+ghost use Rattle.vap_judge.specs.Judging.{asked_of, at_each, at_param, at_params, at_seen, in_place};
+ghost use Rattle.vap_judge.specs.Judging.{of_binding, of_policies, of_policy};
 ghost use Rattle.vap_judge.specs.Params.{is_param, place_of};
-ghost use Rattle.vap_judge.specs.Patterns.{EvaluationMayMatch, OneMayMatch};
-ghost use Rattle.vap_judge.specs.Ready.{CanRun, HasRoom, IsCase, params_of_binding, params_of_policy, params_of_set};
-ghost use Rattle.vap_judge.specs.Shown.{lent_place, rule_of as lent_rule};
+ghost use Rattle.vap_judge.specs.Ready.{CanRun, IsCase};
+ghost use Rattle.vap_judge.specs.Shown.{findings_of, lent_place, rule_of as lent_rule};
 
 use crate::case::Case;
 use crate::findings::{Findings, Rule};
@@ -34,16 +32,20 @@ use plain::{Keyed, Shared, Text};
 use std::alloc::{AllocError, Global};
 use vap_bindings::{Binding, NotFoundAction, ParamRef};
 use vap_params::{KindParams, Param};
-use vap_programs::{Pair, PairFault, Programs};
+use vap_programs::{Pair, Programs};
 use vap_set::BoundPolicy;
 
-/// A case, with what is found at it so far.
+/// The most that the evaluations of a request may cost together, each by its price.
+pub const BUDGET: u64 = 200_000_000;
+
+/// A case, with what is found at it so far, and what is left of the request's budget.
 #[derive(Drop)]
 pub struct Judging<'a> {
     pub alloc: Global,
     pub case: &'a Case<'a>,
     pub matchers: &'a mut Matchers,
     pub findings: Findings,
+    pub left: u64,
 }
 
 /// A value or an error, lent.
@@ -57,25 +59,35 @@ fn lent(outcome: &Result<Value, CelError>) -> Result<&Value, CelError>
 }
 
 /// What is said of a policy that is misconfigured.
-#[tactic(auto, unfolding(crate::specs::Judging::misconfigured))]
-fn misconfigured(alloc: Global, fault: &PairFault) -> Result<Text, AllocError>
-    ensures { IfOk result (λ text. text ≡ misconfigured (pair_fault_name fault.now)) }
+#[tactic(auto, unfolding(crate::specs::Evaluations::misconfigured))]
+fn misconfigured(alloc: Global, name: &str) -> Result<Text, AllocError>
+    ensures { IfOk result (λ text. text ≡ misconfigured name.now) }
 {
-    let name = fault.name();
     Ok(Text::from_string(format!(in alloc; "policy is misconfigured: {name}")?))
 }
 
 impl Judging<'_> {
     /// Adds a failure with a message.
     fn fail(&mut self, rule: &Rule<'_>, message: &str) -> Result<(), JudgeError>
-        ensures adds { OnOk result (Adds self.old self.new (Failed (lent_rule rule.now) message.now ∷ []) 0) }
+        requires within { IsWithin self.old }
+        ensures adds { OnOk result (Adds self.old self.new (Failed (lent_rule rule.now) message.now ∷ [])) }
         ensures pattern { IsErrOf result (Fault Pattern) → ⊥ }
     {
         Ok(self.findings.fail(self.alloc, rule, message)?)
     }
 
+    /// Adds the failure of a policy for which too little of the budget is left.
+    fn refuse(&mut self, rule: &Rule<'_>) -> Result<(), JudgeError>
+        requires within { IsWithin self.old }
+        ensures adds { OnOk result (Adds self.old self.new (refused (lent_rule rule.now) ∷ [])) }
+        ensures pattern { IsErrOf result (Fault Pattern) → ⊥ }
+    {
+        let message = misconfigured(self.alloc, "RequestBudget")?;
+        self.fail(rule, message.as_str())
+    }
+
     /// Runs a policy's programs where `params` holds this value.
-    fn run(
+    fn run_programs(
         &mut self,
         rule: &Rule<'_>,
         programs: &Programs,
@@ -83,11 +95,13 @@ impl Judging<'_> {
     ) -> Result<(), JudgeError>
         ghost types: { List CelType }
         requires ready { IsReady types programs.now }
-        requires within { price_of programs.now ≤ most }
+        requires priced { price_of programs.now ≤ most }
         requires fit { slots_fit types (slots_of self.old.case.now.held.now params.now) ≡ true }
-        requires room { HasRoom self.old.findings.charged 1 }
-        ensures adds { OnOk result (Adds self.old self.new
-            (Ran (lent_rule rule.now) programs.now (slots_of self.old.case.now.held.now params.now) ∷ []) 1) }
+        requires within { self.old.findings.charged + price_of programs.now ≤ budget }
+        ensures same { OnOk result ((self.new.case ≡ self.old.case) × (self.new.left ≡ self.old.left)) }
+        ensures found { OnOk result (findings_of self.new.findings ≡ joined (findings_of self.old.findings) (found_by
+            (Ran (lent_rule rule.now) programs.now (slots_of self.old.case.now.held.now params.now) ∷ []))) }
+        ensures charged { OnOk result (self.new.findings.charged ≤ self.old.findings.charged + price_of programs.now) }
         ensures pattern { IsErrOf result (Fault Pattern) → PolicyMayMatch programs.now }
     {
         let held = self.case.held;
@@ -115,6 +129,30 @@ impl Judging<'_> {
         Ok(())
     }
 
+    /// Runs a policy's programs where `params` holds this value, unless their price is more than what is left of the budget.
+    fn run(
+        &mut self,
+        rule: &Rule<'_>,
+        programs: &Programs,
+        params: &Value,
+    ) -> Result<(), JudgeError>
+        ghost types: { List CelType }
+        requires ready { IsReady types programs.now }
+        requires priced { price_of programs.now ≤ most }
+        requires fit { slots_fit types (slots_of self.old.case.now.held.now params.now) ≡ true }
+        requires within { IsWithin self.old }
+        ensures adds { OnOk result (Adds self.old self.new
+            (Ran (lent_rule rule.now) programs.now (slots_of self.old.case.now.held.now params.now) ∷ [])) }
+        ensures pattern { IsErrOf result (Fault Pattern) → Looks self.old
+            (Ran (lent_rule rule.now) programs.now (slots_of self.old.case.now.held.now params.now) ∷ []) }
+    {
+        if programs.price > self.left {
+            return self.refuse(rule);
+        }
+        self.left -= programs.price;
+        self.run_programs(rule, programs, params)
+    }
+
     /// Evaluates a policy at a param.
     fn param(
         &mut self,
@@ -124,13 +162,13 @@ impl Judging<'_> {
     ) -> Result<(), JudgeError>
         ghost types: { List CelType }
         requires ready { IsReady types programs.now }
-        requires within { price_of programs.now ≤ most }
+        requires priced { price_of programs.now ≤ most }
         requires fit { IfOk param.now.outcome (λ v. slots_fit types (slots_of self.old.case.now.held.now v) ≡ true) }
-        requires room { HasRoom self.old.findings.charged 1 }
+        requires budget { IsWithin self.old }
         ensures adds { OnOk result (Adds self.old self.new
-            (at_seen (case_in self.old) (lent_rule rule.now) programs.now param.now.outcome ∷ []) 1) }
-        ensures pattern { IsErrOf result (Fault Pattern) → EvaluationMayMatch
-            (at_seen (case_in self.old) (lent_rule rule.now) programs.now param.now.outcome) }
+            (at_seen (case_in self.old) (lent_rule rule.now) programs.now param.now.outcome ∷ [])) }
+        ensures pattern { IsErrOf result (Fault Pattern) → Looks self.old
+            (at_seen (case_in self.old) (lent_rule rule.now) programs.now param.now.outcome ∷ []) }
     {
         match &param.outcome {
             Ok(value) => self.run(rule, programs, value),
@@ -152,12 +190,11 @@ impl Judging<'_> {
         ghost types: { List CelType }
         requires ready { CanRun (case_in self.old) (Some selection.now.params.now) types programs.now }
         requires seen { All (IsSeenAt selection.now.params.now.cel_type) params.now }
-        requires room { HasRoom self.old.findings.charged (length params.now) }
+        requires budget { IsWithin self.old }
         ensures adds { OnOk result (Adds self.old self.new
             (map (at_param (case_in self.old) (lent_rule rule.now) programs.now selection.now.params.now.cel_type)
-            (filter (is_param (lent_place selection.now.place) selection.now.reference.now) (map (λ p. p.object) params.now)))
-            (length params.now)) }
-        ensures pattern { IsErrOf result (Fault Pattern) → OneMayMatch
+            (filter (is_param (lent_place selection.now.place) selection.now.reference.now) (map (λ p. p.object) params.now)))) }
+        ensures pattern { IsErrOf result (Fault Pattern) → Looks self.old
             (map (at_param (case_in self.old) (lent_rule rule.now) programs.now selection.now.params.now.cel_type)
             (filter (is_param (lent_place selection.now.place) selection.now.reference.now) (map (λ p. p.object) params.now))) }
     {
@@ -179,12 +216,11 @@ impl Judging<'_> {
     ) -> Result<(), JudgeError>
         ghost types: { List CelType }
         requires ready { CanRun (case_in self.old) (Some selection.now.params.now) types programs.now }
-        requires room { HasRoom self.old.findings.charged params_of_binding }
+        requires budget { IsWithin self.old }
         ensures adds { OnOk result (Adds self.old self.new
             (map (at_param (case_in self.old) (lent_rule rule.now) programs.now selection.now.params.now.cel_type)
-            (filter (is_param (lent_place selection.now.place) selection.now.reference.now) selection.now.params.now.objects))
-            params_of_binding) }
-        ensures pattern { IsErrOf result (Fault Pattern) → OneMayMatch
+            (filter (is_param (lent_place selection.now.place) selection.now.reference.now) selection.now.params.now.objects))) }
+        ensures pattern { IsErrOf result (Fault Pattern) → Looks self.old
             (map (at_param (case_in self.old) (lent_rule rule.now) programs.now selection.now.params.now.cel_type)
             (filter (is_param (lent_place selection.now.place) selection.now.reference.now) selection.now.params.now.objects)) }
     {
@@ -203,13 +239,12 @@ impl Judging<'_> {
     ) -> Result<(), JudgeError>
         ghost types: { List CelType }
         requires ready { CanRun (case_in self.old) (Some selection.now.params.now) types programs.now }
-        requires room { HasRoom self.old.findings.charged params_of_binding }
+        requires budget { IsWithin self.old }
         ensures adds { OnOk result (Adds self.old self.new
             (at_each (case_in self.old) (lent_rule rule.now) programs.now selection.now.params.now.cel_type
             selection.now.reference.now.parameter_not_found_action
-            (filter (is_param (lent_place selection.now.place) selection.now.reference.now) selection.now.params.now.objects))
-            params_of_binding) }
-        ensures pattern { IsErrOf result (Fault Pattern) → OneMayMatch
+            (filter (is_param (lent_place selection.now.place) selection.now.reference.now) selection.now.params.now.objects))) }
+        ensures pattern { IsErrOf result (Fault Pattern) → Looks self.old
             (at_each (case_in self.old) (lent_rule rule.now) programs.now selection.now.params.now.cel_type
             selection.now.reference.now.parameter_not_found_action
             (filter (is_param (lent_place selection.now.place) selection.now.reference.now) selection.now.params.now.objects)) }
@@ -233,12 +268,11 @@ impl Judging<'_> {
     ) -> Result<(), JudgeError>
         ghost types: { List CelType }
         requires ready { CanRun (case_in self.old) (Some params.now) types programs.now }
-        requires room { HasRoom self.old.findings.charged params_of_binding }
+        requires budget { IsWithin self.old }
         ensures adds { OnOk result (Adds self.old self.new
             (in_place (case_in self.old) (lent_rule rule.now) programs.now params.now reference.now
-            (place_of params.now.namespaced reference.now.namespace (case_in self.old).request.namespace))
-            params_of_binding) }
-        ensures pattern { IsErrOf result (Fault Pattern) → OneMayMatch
+            (place_of params.now.namespaced reference.now.namespace (case_in self.old).request.namespace))) }
+        ensures pattern { IsErrOf result (Fault Pattern) → Looks self.old
             (in_place (case_in self.old) (lent_rule rule.now) programs.now params.now reference.now
             (place_of params.now.namespaced reference.now.namespace (case_in self.old).request.namespace)) }
     {
@@ -268,11 +302,10 @@ impl Judging<'_> {
     ) -> Result<(), JudgeError>
         ghost types: { List CelType }
         requires ready { CanRun (case_in self.old) (option_copied params) types programs.now }
-        requires room { HasRoom self.old.findings.charged params_of_binding }
+        requires budget { IsWithin self.old }
         ensures adds { OnOk result (Adds self.old self.new
-            (at_params (case_in self.old) (lent_rule rule.now) programs.now (option_copied params.entry) reference.now)
-            params_of_binding) }
-        ensures pattern { IsErrOf result (Fault Pattern) → OneMayMatch
+            (at_params (case_in self.old) (lent_rule rule.now) programs.now (option_copied params.entry) reference.now)) }
+        ensures pattern { IsErrOf result (Fault Pattern) → Looks self.old
             (at_params (case_in self.old) (lent_rule rule.now) programs.now (option_copied params.entry) reference.now) }
     {
         match (params, reference) {
@@ -289,9 +322,9 @@ impl Judging<'_> {
     fn binding(&mut self, policy: &BoundPolicy, binding: &Keyed<Binding>) -> Result<(), JudgeError>
         requires case { IsCase self.old.case.now }
         requires ready { IsReadyAt self.old.case.now.set.now (case_in self.old).kind policy.now }
-        requires room { HasRoom self.old.findings.charged params_of_binding }
-        ensures adds { OnOk result (Adds self.old self.new (of_binding (case_in self.old) policy.now binding.now) params_of_binding) }
-        ensures pattern { IsErrOf result (Fault Pattern) → OneMayMatch (of_binding (case_in self.old) policy.now binding.now) }
+        requires budget { IsWithin self.old }
+        ensures adds { OnOk result (Adds self.old self.new (of_binding (case_in self.old) policy.now binding.now)) }
+        ensures pattern { IsErrOf result (Fault Pattern) → Looks self.old (of_binding (case_in self.old) policy.now binding.now) }
     {
         let case = self.case;
         let spec = policy.policy.spec.get();
@@ -308,7 +341,7 @@ impl Judging<'_> {
                 self.params(&rule, programs, params, &bound.param_ref)
             }
             Some(Pair::Misconfigured(fault)) => {
-                let message = misconfigured(self.alloc, fault)?;
+                let message = misconfigured(self.alloc, fault.name())?;
                 self.fail(&rule, message.as_str())
             }
             None => Ok(()),
@@ -320,10 +353,9 @@ impl Judging<'_> {
     fn policy(&mut self, policy: &BoundPolicy) -> Result<(), JudgeError>
         requires case { IsCase self.old.case.now }
         requires ready { IsReadyAt self.old.case.now.set.now (case_in self.old).kind policy.now }
-        requires few { HasFew policy.now }
-        requires room { HasRoom self.old.findings.charged params_of_policy }
-        ensures adds { OnOk result (Adds self.old self.new (of_policy (case_in self.old) policy.now) params_of_policy) }
-        ensures pattern { IsErrOf result (Fault Pattern) → OneMayMatch (of_policy (case_in self.old) policy.now) }
+        requires budget { IsWithin self.old }
+        ensures adds { OnOk result (Adds self.old self.new (of_policy (case_in self.old) policy.now)) }
+        ensures pattern { IsErrOf result (Fault Pattern) → Looks self.old (of_policy (case_in self.old) policy.now) }
     {
         for binding in policy.bindings.as_slice() {
             let rules = &binding.value.spec.get().match_resources;
@@ -338,10 +370,9 @@ impl Judging<'_> {
     fn policies(&mut self, policies: &[Shared<BoundPolicy>]) -> Result<(), JudgeError>
         requires case { IsCase self.old.case.now }
         requires ready { All (IsReadyAt self.old.case.now.set.now (case_in self.old).kind) policies.now }
-        requires few { AreFew policies.now }
-        requires room { HasRoom self.old.findings.charged params_of_set }
-        ensures adds { OnOk result (Adds self.old self.new (of_policies (case_in self.old) policies.now) params_of_set) }
-        ensures pattern { IsErrOf result (Fault Pattern) → OneMayMatch (of_policies (case_in self.old) policies.now) }
+        requires budget { IsWithin self.old }
+        ensures adds { OnOk result (Adds self.old self.new (of_policies (case_in self.old) policies.now)) }
+        ensures pattern { IsErrOf result (Fault Pattern) → Looks self.old (of_policies (case_in self.old) policies.now) }
     {
         for policy in policies {
             let bound = policy.get();
@@ -356,9 +387,9 @@ impl Judging<'_> {
     /// Evaluates each policy of the set that matches, which is among those that may cover the resource.
     pub fn all(&mut self) -> Result<(), JudgeError>
         requires case { IsCase self.old.case.now }
-        requires room { HasRoom self.old.findings.charged params_of_set }
-        ensures adds { OnOk result (Adds self.old self.new (evaluations_of (case_in self.old)) params_of_set) }
-        ensures pattern { IsErrOf result (Fault Pattern) → OneMayMatch (evaluations_of (case_in self.old)) }
+        requires budget { IsWithin self.old }
+        ensures adds { OnOk result (Adds self.old self.new (asked_of (case_in self.old))) }
+        ensures pattern { IsErrOf result (Fault Pattern) → Looks self.old (asked_of (case_in self.old)) }
     {
         let resource = &self.case.request.admission().resource;
         let group = resource.group.as_str();

@@ -1,6 +1,6 @@
 //! The verdict on a request.
 
-ghost use Rattle.std.specs.Prelude.{◌≡◌, [], IfOk, IsErrOf};
+ghost use Rattle.std.specs.Prelude.{◌≡◌, ◌≤◌, [], IfOk, IsErrOf};
 ghost use Rattle.std.specs.Option.{option_copied};
 ghost use Rattle.failing.specs.declared.failed.Failed.TheVariants.{Fault};
 ghost use Rattle.cel_machine.specs.declared.fault.RunFault.TheVariants.{Pattern};
@@ -9,7 +9,7 @@ ghost use Rattle.vap_answer.specs.Verdicts.{unfit_verdict};
 ghost use Rattle.vap_fit.specs.Names.{fit_fault_text};
 ghost use Rattle.vap_set.specs.Ready.{type_at};
 ghost use Rattle.vap_set.specs.Sets.{kinds_of};
-ghost use Rattle.vap_judge.specs.Evaluations.{found_by};
+ghost use Rattle.vap_judge.specs.Evaluations.{budget, found_by};
 ghost use Rattle.vap_judge.specs.Judging.{evaluations_of, verdict_at, verdict_by, verdict_of};
 ghost use Rattle.vap_judge.specs.PassedOver.{NoneIsPassedOver};
 ghost use Rattle.vap_judge.specs.Patterns.{KindMayMatch, MayMatch, OneMayMatch};
@@ -19,7 +19,7 @@ ghost use Rattle.vap_judge.specs.Ready.{IsCase};
 ghost use Rattle.vap_judge.specs.Shown.{case_of};
 
 use crate::case::Case;
-use crate::evaluations::Judging;
+use crate::evaluations::{BUDGET, Judging};
 use crate::findings::Findings;
 use crate::judge_error::JudgeError;
 use crate::places::{is_exempt, kind_at};
@@ -42,6 +42,7 @@ fn judge_case(
     requires { IsCase case.now }
     ensures verdict { IfOk result (λ verdict. verdict
         ≡ verdict_by case.now.set.now.events (found_by (evaluations_of (case_of case.now)))) }
+    ensures spent { IfOk result (λ verdict. verdict.charged ≤ budget) }
     ensures pattern { IsErrOf result (Fault Pattern) → OneMayMatch (evaluations_of (case_of case.now)) }
 {
     let findings = Findings::new(alloc);
@@ -50,6 +51,7 @@ fn judge_case(
         case,
         matchers,
         findings,
+        left: BUDGET,
     };
     judging.all()?;
     Ok(judging.findings.verdict(alloc, case.set.events())?)
@@ -94,6 +96,7 @@ fn judge_at(
 ) -> Result<Verdict, JudgeError>
     requires { option_copied kind ≡ kind_at (kinds_of set.now) request.now.admission }
     ensures verdict { IfOk result (λ verdict. verdict ≡ verdict_at set.now request.now.admission (option_copied kind.entry)) }
+    ensures spent { IfOk result (λ verdict. verdict.charged ≤ budget) }
     ensures pattern { IsErrOf result (Fault Pattern) → KindMayMatch set.now request.now.admission (option_copied kind.entry) }
 {
     let opaque = CelType::Opaque;
@@ -117,7 +120,8 @@ fn judge_at(
 
 /// The verdict of a set on a request, at the revision that is the number of the set's events. It is given up if memory runs out,
 /// or if a pattern that was built before is not built again: that only if a policy runs that gives `matches` a literal text. No
-/// policy that matches the request is passed over, and none charges more than its price for one param.
+/// policy that matches the request is passed over, none charges more than its price for one param, and all together charge at most
+/// the request's budget: a policy whose price is more than what is left of that is not run, which is a failure of it.
 #[tactic(auto, unfolding(crate::specs::Judging::verdict_of))]
 pub fn judge(
     alloc: Global,
@@ -128,6 +132,7 @@ pub fn judge(
     ensures exact { IfOk result (λ verdict. verdict ≡ verdict_of set.now request.now) }
     ensures none_passed_over { NoneIsPassedOver set.now request.now.admission }
     ensures priced { ArePriced set.now (kind_at (kinds_of set.now) request.now.admission) }
+    ensures spent { IfOk result (λ verdict. verdict.charged ≤ budget) }
     ensures pattern { IsErrOf result (Fault Pattern) → MayMatch set.now request.now.admission }
 {
     let kinds = set.kinds();

@@ -10,7 +10,6 @@ use plain::Text;
 use std::alloc::AllocError;
 
 /// A kind of objects in one version.
-#[derive(Drop)]
 pub struct Kind {
     pub group: Text,
     pub version: Text,
@@ -21,6 +20,19 @@ pub struct Kind {
     pub namespaced: bool,
     /// The type of its objects. There is none where the schema is refused: the kind is then as one that is unknown.
     pub object_type: Option<CelType>,
+}
+
+impl Drop for Kind {
+    fn drop(self) {
+        let Kind {
+            group: _group,
+            version: _version,
+            kind: _kind,
+            plural: _plural,
+            namespaced: _namespaced,
+            object_type: _object_type,
+        } = self;
+    }
 }
 
 fn copied(cel_type: &Option<CelType>) -> Result<Option<CelType>, AllocError>

@@ -11,10 +11,18 @@ use std::marker::Model;
 use vap_read::Object;
 
 /// A definition with the kinds that it defines by itself. Contracts see it as the definition.
-#[derive(Drop)]
 pub struct ReadDefinition {
     object: Shared<Object>,
     kinds: Items<Kind>,
+}
+
+impl Drop for ReadDefinition {
+    fn drop(self) {
+        let ReadDefinition {
+            object: _object,
+            kinds: _kinds,
+        } = self;
+    }
 }
 
 impl Model for ReadDefinition {

@@ -34,10 +34,20 @@ pub struct Rule {
 
 /// What a policy's `matchConstraints` or a binding's `matchResources` holds. Its `matchPolicy` says nothing more: a
 /// request is matched by its own group, version and resource.
-#[derive(Drop)]
 pub struct Rules {
     pub resource_rules: Items<Rule>,
     pub exclude_resource_rules: Items<Rule>,
     pub namespace_selector: Option<Selector>,
     pub object_selector: Option<Selector>,
+}
+
+impl Drop for Rules {
+    fn drop(self) {
+        let Rules {
+            resource_rules: _resource_rules,
+            exclude_resource_rules: _exclude_resource_rules,
+            namespace_selector: _namespace_selector,
+            object_selector: _object_selector,
+        } = self;
+    }
 }

@@ -33,13 +33,23 @@ pub type ParamBlock = Block<Outcome>;
 
 /// The objects of a kind as params, by namespace, then by name. Contracts see it as these objects and the type that they are
 /// fitted to: that each is fitted is kept with it.
-#[derive(Drop)]
 pub struct KindParams {
     kind: ParamKind,
     namespaced: bool,
     cel_type: CelType,
     /// By their keys.
     params: Table<Outcome>,
+}
+
+impl Drop for KindParams {
+    fn drop(self) {
+        let KindParams {
+            kind: _kind,
+            namespaced: _namespaced,
+            cel_type: _cel_type,
+            params: _params,
+        } = self;
+    }
 }
 
 impl Model for KindParams {

@@ -53,7 +53,6 @@ pub enum FailurePolicy {
 }
 
 /// What a policy says, each list in the order of its document.
-#[derive(Drop)]
 pub struct PolicySpec {
     pub param_kind: Option<ParamKind>,
     pub match_constraints: Rules,
@@ -64,10 +63,29 @@ pub struct PolicySpec {
     pub failure_policy: FailurePolicy,
 }
 
+impl Drop for PolicySpec {
+    fn drop(self) {
+        let PolicySpec {
+            param_kind: _param_kind,
+            match_constraints: _match_constraints,
+            match_conditions: _match_conditions,
+            variables: _variables,
+            validations: _validations,
+            audit_annotations: _audit_annotations,
+            failure_policy: _failure_policy,
+        } = self;
+    }
+}
+
 /// A policy, which may have several owners.
-#[derive(Drop)]
 pub struct Policy {
     pub spec: Shared<PolicySpec>,
+}
+
+impl Drop for Policy {
+    fn drop(self) {
+        let Policy { spec: _spec } = self;
+    }
 }
 
 impl Policy {

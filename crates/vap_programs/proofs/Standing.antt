@@ -25,7 +25,7 @@ use Rattle.vap_programs.specs.declared.wanted.Wanted.TheVariants.{Whatever, Trut
 use Rattle.vap_programs.specs.Scopes.{NoPatterns, Scope, source, is_unknown, first_names, with_variable}
 use Rattle.vap_programs.specs.Wanted.{is_wanted, wrong_type, compiled, as_wanted, compiled_as}
 use Rattle.vap_programs.specs.Pairs.{after, behind, each, condition_of, Scoped, scoped_from, message_of, check_of, annotation_of}
-use Rattle.vap_programs.specs.Pairs.{price_of, most, within_price, decisions_behind}
+use Rattle.vap_programs.specs.Pairs.{price_of, most, programs_of, within_price, decisions_behind}
 use Rattle.vap_programs.specs.Pairs.{programs_behind, programs_at, programs_with, pair_by, pair_of}
 use Rattle.vap_programs.specs.Ready.{IsAt, AreConditionsAt, Follow, IsMessageAt, IsCheckAt, AreChecksAt, AreAnnotationsAt, all_types}
 use Rattle.vap_programs.specs.Ready.{IsReady, IsPairReady, IsPairWithin}
@@ -213,6 +213,7 @@ pub record Parts (choice : NoPatterns) (names : Scope) (p : PolicySpec) (ps : Pr
   pub validations : each (check_of choice scope) p.validations ≡ Ok ps.validations
   pub annotations : each (annotation_of choice scope) p.audit_annotations ≡ Ok ps.annotations
   pub within : price_of ps ≤ most
+  pub priced : ps.price ≡ price_of ps
 
 pub parts : (choice : NoPatterns) (names : Scope) (p : PolicySpec) (ps : Programs) → programs_at choice names p ≡ Ok ps
     → Parts choice names p ps
@@ -221,10 +222,10 @@ parts choice names p ps e =
     let b = stepped (scoped_from choice names [] p.variables) (decisions_behind choice a.0 p) ps a.2 in
     let c = stepped (each (check_of choice b.0.names) p.validations)
     (λ ks. after (each (annotation_of choice b.0.names) p.audit_annotations)
-    (λ ns. within_price (record { conditions = a.0; variables = b.0.variables; validations = ks; annotations = ns }))) ps b.2 in
+    (λ ns. within_price (programs_of a.0 b.0.variables ks ns))) ps b.2 in
     let d = stepped (each (annotation_of choice b.0.names) p.audit_annotations)
-    (λ ns. within_price (record { conditions = a.0; variables = b.0.variables; validations = c.0; annotations = ns })) ps c.2 in
-    let h = bought (record { conditions = a.0; variables = b.0.variables; validations = c.0; annotations = d.0 }) ps d.2 in
+    (λ ns. within_price (programs_of a.0 b.0.variables c.0 ns)) ps c.2 in
+    let h = bought (programs_of a.0 b.0.variables c.0 d.0) ps d.2 in
     subst (Parts choice names p) h.0 (record {
       scope = b.0.names;
       conditions = a.1;
@@ -232,6 +233,7 @@ parts choice names p ps e =
       validations = c.1;
       annotations = d.1;
       within = subst (λ z. price_of z ≤ most) (sym h.0) h.1;
+      priced = refl;
     })
 
 pub programs_ready : (choice : NoPatterns) (names : Scope) (p : PolicySpec) (ps : Programs) → programs_at choice names p ≡ Ok ps
@@ -248,6 +250,7 @@ programs_ready choice names p ps e =
       validations = subst (λ x. AreChecksAt x ps.validations) l (checks_at choice t.scope p.validations ps.validations t.validations);
       annotations = subst (λ x. AreAnnotationsAt x ps.annotations) l
           (annotations_at choice t.scope p.audit_annotations ps.annotations t.annotations);
+      priced = t.priced;
     }
 
 by_ready : (types : KindTypes) (params : ParamsType) (r : Result Programs PairFault)

@@ -100,6 +100,21 @@ price_behind ps = sum_by check_estimate ps.validations + sum_by annotation_estim
 abbrev pub price_of : Programs → ℕ
 price_of ps = sum_by condition_estimate ps.conditions + (sum_by estimate_at ps.variables + price_behind ps)
 
+-- what these may charge at the most
+abbrev pub price_with : List Condition → List Source → List Check → List Annotation → ℕ
+price_with cs vs ks ns =
+    sum_by condition_estimate cs + (sum_by estimate_at vs + (sum_by check_estimate ks + sum_by annotation_estimate ns))
+
+-- programs, with their price
+abbrev pub programs_of : List Condition → List Source → List Check → List Annotation → Programs
+programs_of cs vs ks ns = record {
+  conditions = cs;
+  variables = vs;
+  validations = ks;
+  annotations = ns;
+  price = price_with cs vs ks ns;
+}
+
 -- the greatest price
 abbrev pub most : ℕ
 most = 100000000
@@ -115,7 +130,7 @@ abbrev pub decisions_behind : NoPatterns → List Condition → PolicySpec → S
 decisions_behind choice cs p d =
     after (each (check_of choice d.names) p.validations) (λ ks.
     after (each (annotation_of choice d.names) p.audit_annotations) (λ ns.
-    within_price (record { conditions = cs; variables = d.variables; validations = ks; annotations = ns })))
+    within_price (programs_of cs d.variables ks ns)))
 
 -- what stands behind the conditions
 abbrev pub programs_behind : NoPatterns → Scope → PolicySpec → List Condition → Result Programs PairFault

@@ -54,12 +54,13 @@ abbrev pub all_types : List CelType → List Source → List CelType
 all_types types [] = types
 all_types types (s ∷ ss) = all_types (types ++ type_at s ∷ []) ss
 
--- all expressions of a policy may be run where names have these types at first
+-- all expressions of a policy may be run where names have these types at first, and its price is kept
 pub record IsReady (types : List CelType) (ps : Programs) : Type 0 where
   pub conditions : AreConditionsAt types ps.conditions
   pub variables : Follow types ps.variables (all_types types ps.variables)
   pub validations : AreChecksAt (all_types types ps.variables) ps.validations
   pub annotations : AreAnnotationsAt (all_types types ps.variables) ps.annotations
+  pub priced : ps.price ≡ price_of ps
 
 -- likewise, of what runs at a kind
 abbrev pub IsPairReady : KindTypes → ParamsType → Pair → Type 0

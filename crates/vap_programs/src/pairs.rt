@@ -5,7 +5,7 @@ ghost use Rattle.failing.specs.declared.failed.Failed.TheVariants.{Fault};
 ghost use Rattle.cel_expression.specs.declared.refusal.CompileFault.TheVariants.{Unverified};
 ghost use Rattle.vap_programs.specs.Expressions.{of_decisions, of_behind, expressions_of, IsOneUnverified};
 ghost use Rattle.vap_programs.specs.Scopes.{first_names};
-ghost use Rattle.vap_programs.specs.Pairs.{within_price, decisions_behind, programs_behind, programs_at, programs_with, pair_of};
+ghost use Rattle.vap_programs.specs.Pairs.{decisions_behind, programs_behind, programs_at, programs_with, pair_of};
 ghost use Rattle.vap_programs.specs.Defined.{scoped_by};
 ghost use Rattle.vap_programs.specs.Ready.{PairsAreReady, PairsAreWithin};
 
@@ -13,7 +13,7 @@ use crate::annotations::compile_annotations;
 use crate::conditions::compile_conditions;
 use crate::names::{KindTypes, NameTypes, ParamsType, first_names};
 use crate::pair_fault::PairFault;
-use crate::prices::is_over;
+use crate::prices::within_price;
 use crate::programs::{Condition, Pair, Programs};
 use crate::validations::compile_checks;
 use crate::variables::{Defined, compile_variables};
@@ -22,17 +22,6 @@ use cel_expression::CompileError;
 use plain::Items;
 use std::alloc::Global;
 use vap_policies::PolicySpec;
-
-/// Programs, unless their price is too high.
-fn within_price(programs: Programs) -> Result<Programs, PairFault>
-    ensures { result ≡ within_price programs }
-{
-    if is_over(&programs) {
-        Err(PairFault::OverBudget)
-    } else {
-        Ok(programs)
-    }
-}
 
 /// What stands behind the variables.
 fn compile_decisions(
@@ -52,12 +41,12 @@ fn compile_decisions(
         Ok(validations) => {
             match compile_annotations(alloc, choice, &names, policy.audit_annotations.as_slice())? {
                 Err(fault) => Ok(Err(fault)),
-                Ok(annotations) => Ok(within_price(Programs {
+                Ok(annotations) => Ok(within_price(
                     conditions,
                     variables,
                     validations,
                     annotations,
-                })),
+                )),
             }
         }
     }

@@ -1,11 +1,13 @@
 //! What a policy may charge.
 
-ghost use Rattle.std.specs.Prelude.{◌≡◌, ◌-◌, ◌^◌, min, nat_lt, sum_by};
+ghost use Rattle.std.specs.Prelude.{◌≡◌, ◌-◌, ◌^◌, min, sum_by};
 ghost use Rattle.cel_expression.specs.Expressions.{estimate_at};
-ghost use Rattle.vap_programs.specs.Pairs.{condition_estimate, check_estimate, annotation_estimate, price_of, most};
+ghost use Rattle.vap_programs.specs.Pairs.{condition_estimate, check_estimate, annotation_estimate, price_with, programs_of, within_price};
 
+use crate::pair_fault::PairFault;
 use crate::programs::{Annotation, Check, Condition, Programs};
 use cel_expression::Compiled;
+use plain::Items;
 
 /// The most that a policy may charge for one param.
 const MOST: u64 = 100_000_000;
@@ -59,19 +61,44 @@ fn price_of_annotations(annotations: &[Annotation]) -> u64
     price
 }
 
-/// The most that programs may charge for one param, up to the greatest number.
-fn price(programs: &Programs) -> u64
-    ensures { result ≡ min (price_of programs.now) (2 ^ 64 - 1) }
+/// The most that these may charge together for one param, up to the greatest number.
+fn price(
+    conditions: &[Condition],
+    variables: &[Compiled],
+    validations: &[Check],
+    annotations: &[Annotation],
+) -> u64
+    ensures { result ≡ min (price_with conditions.now variables.now validations.now annotations.now) (2 ^ 64 - 1) }
 {
-    price_of_conditions(programs.conditions.as_slice())
-        .saturating_add(price_of_variables(programs.variables.as_slice()))
-        .saturating_add(price_of_checks(programs.validations.as_slice()))
-        .saturating_add(price_of_annotations(programs.annotations.as_slice()))
+    price_of_conditions(conditions)
+        .saturating_add(price_of_variables(variables))
+        .saturating_add(price_of_checks(validations))
+        .saturating_add(price_of_annotations(annotations))
 }
 
-/// Whether programs may charge more than a policy may.
-pub fn is_over(programs: &Programs) -> bool
-    ensures { result ≡ nat_lt most (price_of programs.now) }
+/// Programs with their price, unless that is more than a policy may charge.
+pub fn within_price(
+    conditions: Items<Condition>,
+    variables: Items<Compiled>,
+    validations: Items<Check>,
+    annotations: Items<Annotation>,
+) -> Result<Programs, PairFault>
+    ensures { result ≡ within_price (programs_of conditions variables validations annotations) }
 {
-    price(programs) > MOST
+    let price = price(
+        conditions.as_slice(),
+        variables.as_slice(),
+        validations.as_slice(),
+        annotations.as_slice(),
+    );
+    if price > MOST {
+        return Err(PairFault::OverBudget);
+    }
+    Ok(Programs {
+        conditions,
+        variables,
+        validations,
+        annotations,
+        price,
+    })
 }

@@ -28,13 +28,26 @@ pub struct Annotation {
     pub value: Compiled,
 }
 
-/// The expressions of a policy at a kind, each list in the order of the policy.
-#[derive(Drop)]
+/// The expressions of a policy at a kind, each list in the order of the policy, and their price: what they may charge together
+/// for one param.
 pub struct Programs {
     pub conditions: Items<Condition>,
     pub variables: Items<Compiled>,
     pub validations: Items<Check>,
     pub annotations: Items<Annotation>,
+    pub price: u64,
+}
+
+impl Drop for Programs {
+    fn drop(self) {
+        let Programs {
+            conditions: _conditions,
+            variables: _variables,
+            validations: _validations,
+            annotations: _annotations,
+            price: _price,
+        } = self;
+    }
 }
 
 /// A policy at a kind.

@@ -7,9 +7,14 @@ use serde_json::Value as Json;
 use std::marker::Model;
 
 /// A document, which contracts see as its data.
-#[derive(Drop)]
 pub struct Document {
     json: Json,
+}
+
+impl Drop for Document {
+    fn drop(self) {
+        let Document { json: _json } = self;
+    }
 }
 
 impl Model for Document {

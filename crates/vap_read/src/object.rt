@@ -14,9 +14,18 @@ pub enum Content {
 }
 
 /// An object with its key, and what it was read as.
-#[derive(Drop)]
 pub struct Object {
     pub key: Key,
     pub content: Content,
     pub document: Document,
+}
+
+impl Drop for Object {
+    fn drop(self) {
+        let Object {
+            key: _key,
+            content: _content,
+            document: _document,
+        } = self;
+    }
 }

@@ -16,9 +16,14 @@ use std::collections::btree_map::Iter;
 use std::marker::Model;
 
 /// Objects, each under its key, which contracts see as the list of their keys and them, by key.
-#[derive(Drop)]
 pub struct ObjectMap {
     entries: BTreeMap<Key, Shared<Object>>,
+}
+
+impl Drop for ObjectMap {
+    fn drop(self) {
+        let ObjectMap { entries: _entries } = self;
+    }
 }
 
 impl Model for ObjectMap {

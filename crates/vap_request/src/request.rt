@@ -37,7 +37,6 @@ pub struct UserInfo {
 }
 
 /// What a review asks to be admitted, with the review.
-#[derive(Drop)]
 pub struct Admission {
     pub uid: Text,
     pub kind: Kind,
@@ -51,10 +50,34 @@ pub struct Admission {
     pub review: Boxed<Json>,
 }
 
+impl Drop for Admission {
+    fn drop(self) {
+        let Admission {
+            uid: _uid,
+            kind: _kind,
+            resource: _resource,
+            sub_resource: _sub_resource,
+            name: _name,
+            namespace: _namespace,
+            operation: _operation,
+            user_info: _user_info,
+            dry_run: _dry_run,
+            review: _review,
+        } = self;
+    }
+}
+
 /// A request, which may have several owners. Contracts see it as what it asks: that this is within the limits is kept with it.
-#[derive(Drop)]
 pub struct Request {
     pub(crate) admission: Shared<Admission>,
+}
+
+impl Drop for Request {
+    fn drop(self) {
+        let Request {
+            admission: _admission,
+        } = self;
+    }
 }
 
 impl Model for Request {

@@ -10,6 +10,7 @@ use Rattle.serde_json.specs.Data.{Data, Members, no_members, member}
 use Rattle.cel_value.specs.declared.cel_type.Field.{Field}
 use Rattle.cel_value.specs.declared.cel_type.CelType.{CelType}
 use Rattle.vap_fit.specs.Seen.{◌>>=◌}
+use Rattle.vap_schema.specs.Forms.{nested_form}
 use Rattle.vap_schema.specs.Schemas.{Inner, schema_type, nested_type, field_of, fields_of, is_named}
 use Rattle.vap_schema.specs.declared.schema_fault.SchemaFault.{SchemaFault}
 use Rattle.vap_schema.specs.declared.schema_fault.SchemaFault.TheVariants.{TooDeep}
@@ -22,10 +23,10 @@ unfolding schema_type
 too_deep zero d h = refl
 too_deep (suc n) d h = absurd (omega arith)
 
-pub one_level : (levels : ℕ) (d : Data) → 0 < levels → schema_type levels d ≡ nested_type (schema_type (levels - 1)) d
+pub one_level : (levels : ℕ) (d : Data) → 0 < levels → schema_type levels d ≡ nested_type (schema_type (levels - 1)) (nested_form d)
 unfolding schema_type
 one_level zero d h = absurd (omega arith)
-one_level (suc n) d h = let same : n ≡ suc n - 1 = omega arith in ap (λ m. nested_type (schema_type m) d) same
+one_level (suc n) d h = let same : n ≡ suc n - 1 = omega arith in ap (λ m. nested_type (schema_type m) (nested_form d)) same
 
 abbrev Fields : Type 0
 Fields = List (Keyed (Field CelType))

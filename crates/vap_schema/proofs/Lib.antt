@@ -1,4 +1,3 @@
-pub mod Forms
 pub mod Levels
 pub mod Searched
 pub mod WorkedRows

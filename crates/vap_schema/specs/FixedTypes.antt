@@ -23,7 +23,8 @@ metadata_fields =
     (with_optional (codes "namespace") (type.Text 253)
     (with_optional (codes "uid") (type.Text 253)
     (with_optional (codes "labels") (texts_type 63)
-    (with_optional (codes "annotations") (texts_type 262144) [])))))
+    (with_optional (codes "annotations") (texts_type 262144)
+    (with_optional (codes "creationTimestamp") type.Timestamp []))))))
 
 -- the type of `metadata`
 abbrev pub metadata_type : CelType

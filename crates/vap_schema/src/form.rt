@@ -1,14 +1,15 @@
 //! What a schema says by its own keywords, the schemas inside it unread.
 
 ghost use Rattle.serde_json.specs.View.{view, items_view};
-ghost use Rattle.vap_schema.specs.Schemas.{own_type, nested_type, untyped, text_type, list_type, object_type};
-ghost use Rattle.vap_schema.specs.Schemas.{object_of, members_seen, entry_seen, FormIs, NestedIs};
+ghost use Rattle.vap_schema.specs.Keywords.{members_seen, entry_seen};
+ghost use Rattle.vap_schema.specs.Forms.{root_form, nested_form, own_form, untyped_form, text_form, list_form, object_form};
+ghost use Rattle.vap_schema.specs.Forms.{object_by, FormIs, NestedIs};
 
 use crate::keywords::{
-    TypeWord, check_absent, entry_of, flag, is_plain, limit, properties_of, required_names,
-    stated_word,
+    TimeFormat, TypeWord, check_absent, entry_of, flag, is_plain, limit, properties_of,
+    required_names, stated_format, stated_word, value_of,
 };
-use crate::schema_fault::SchemaFault;
+use crate::own_fault::{Keyword, OwnFault};
 use serde_json::{Map, Value as Json};
 
 /// The form of a schema's type, null apart.
@@ -17,6 +18,8 @@ pub enum Form<'a> {
     Opaque,
     Bool,
     Int,
+    Timestamp,
+    Duration,
     Text {
         max: u32,
     },
@@ -25,6 +28,7 @@ pub enum Form<'a> {
         plain: bool,
         items: &'a Json,
     },
+    /// Entries under any names: true, or the schema of each.
     Map {
         max: u32,
         entry: &'a Json,
@@ -37,25 +41,35 @@ pub enum Form<'a> {
     Bare,
 }
 
-/// Whether a schema that is no root gives null too, and its form.
-pub fn nested_form(schema: &Json) -> Result<(bool, Form<'_>), SchemaFault>
-    ensures { NestedIs (λ inner. nested_type inner (view schema.now)) result }
+/// The form of a root, or the fault that it has itself.
+pub fn root_form(schema: &Json) -> Result<Form<'_>, OwnFault>
+    ensures { FormIs (root_form (view schema.now)) result }
 {
     if !schema.is_object() {
-        return Err(SchemaFault::BadKeyword);
+        return Err(OwnFault::NoObject);
     }
-    let nullable = flag(schema, "nullable")?;
+    own_form(schema)
+}
+
+/// Whether a schema that is no root gives null too, and its form, or the fault that it has itself.
+pub fn nested_form(schema: &Json) -> Result<(bool, Form<'_>), OwnFault>
+    ensures { NestedIs (nested_form (view schema.now)) result }
+{
+    if !schema.is_object() {
+        return Err(OwnFault::NoObject);
+    }
+    let nullable = flag(schema, Keyword::Nullable)?;
     let form = own_form(schema)?;
     Ok((nullable, form))
 }
 
 /// The form of a schema, null apart.
-pub fn own_form(schema: &Json) -> Result<Form<'_>, SchemaFault>
-    ensures { FormIs (λ inner. own_type inner (view schema.now)) result }
+fn own_form(schema: &Json) -> Result<Form<'_>, OwnFault>
+    ensures { FormIs (own_form (view schema.now)) result }
 {
-    check_absent(schema, "$ref")?;
+    check_absent(schema, Keyword::Reference)?;
     match stated_word(schema)? {
-        None => untyped(schema),
+        None => untyped_form(schema),
         Some(TypeWord::Boolean) => Ok(Form::Bool),
         Some(TypeWord::Integer) => Ok(Form::Int),
         Some(TypeWord::Number) => Ok(Form::Opaque),
@@ -65,45 +79,52 @@ pub fn own_form(schema: &Json) -> Result<Form<'_>, SchemaFault>
     }
 }
 
-fn untyped(schema: &Json) -> Result<Form<'_>, SchemaFault>
-    ensures { FormIs (λ _. untyped (view schema.now)) result }
+fn untyped_form(schema: &Json) -> Result<Form<'_>, OwnFault>
+    ensures { FormIs (untyped_form (view schema.now)) result }
 {
-    let kept = flag(schema, "x-kubernetes-preserve-unknown-fields")?;
-    let either = flag(schema, "x-kubernetes-int-or-string")?;
+    let kept = flag(schema, Keyword::PreserveUnknownFields)?;
+    let either = flag(schema, Keyword::IntOrString)?;
     if kept || either {
         Ok(Form::Opaque)
     } else {
-        Err(SchemaFault::NoType)
+        Err(OwnFault::NoType)
     }
 }
 
-fn text_form(schema: &Json) -> Result<Form<'_>, SchemaFault>
-    ensures { FormIs (λ _. text_type (view schema.now)) result }
+/// A text that spells a time has no limit of its own.
+fn text_form(schema: &Json) -> Result<Form<'_>, OwnFault>
+    ensures { FormIs (text_form (view schema.now)) result }
 {
-    let max = limit(schema, "maxLength", 1_048_576)?;
-    Ok(Form::Text { max })
+    match stated_format(schema)? {
+        Some(TimeFormat::Timestamp) => Ok(Form::Timestamp),
+        Some(TimeFormat::Duration) => Ok(Form::Duration),
+        None => {
+            let max = limit(schema, Keyword::MaxLength, 1_048_576)?;
+            Ok(Form::Text { max })
+        }
+    }
 }
 
-fn list_form(schema: &Json) -> Result<Form<'_>, SchemaFault>
-    ensures { FormIs (λ inner. list_type inner (view schema.now)) result }
+fn list_form(schema: &Json) -> Result<Form<'_>, OwnFault>
+    ensures { FormIs (list_form (view schema.now)) result }
 {
-    let max = limit(schema, "maxItems", 524_287)?;
+    let max = limit(schema, Keyword::MaxItems, 524_287)?;
     let plain = is_plain(schema)?;
-    match schema.get("items") {
+    match value_of(schema, Keyword::Items) {
         Some(items) => Ok(Form::List { max, plain, items }),
-        None => Err(SchemaFault::BadKeyword),
+        None => Err(OwnFault::Keyword(Keyword::Items)),
     }
 }
 
 /// An object: every keyword that some object has is read, whichever of them then count.
-fn object_form(schema: &Json) -> Result<Form<'_>, SchemaFault>
-    ensures { FormIs (λ inner. object_type inner (view schema.now)) result }
+fn object_form(schema: &Json) -> Result<Form<'_>, OwnFault>
+    ensures { FormIs (object_form (view schema.now)) result }
 {
     let properties = properties_of(schema)?;
     let required = required_names(schema)?;
     let entry = entry_of(schema)?;
-    let max = limit(schema, "maxProperties", 524_287)?;
-    let kept = flag(schema, "x-kubernetes-preserve-unknown-fields")?;
+    let max = limit(schema, Keyword::MaxProperties, 524_287)?;
+    let kept = flag(schema, Keyword::PreserveUnknownFields)?;
     one_form(properties, required, entry, max, kept)
 }
 
@@ -114,9 +135,8 @@ fn one_form<'a>(
     entry: Option<&'a Json>,
     max: u32,
     kept: bool,
-) -> Result<Form<'a>, SchemaFault>
-    ensures { FormIs (λ inner.
-        object_of inner (members_seen properties.entry) (items_view required.now) (entry_seen entry.entry) max kept) result }
+) -> Result<Form<'a>, OwnFault>
+    ensures { FormIs (object_by (members_seen properties.entry) (items_view required.now) (entry_seen entry.entry) max kept) result }
 {
     match (properties, entry) {
         (Some(properties), None) => Ok(Form::Record {
@@ -125,6 +145,6 @@ fn one_form<'a>(
         }),
         (None, Some(entry)) => Ok(Form::Map { max, entry }),
         (None, None) => Ok(if kept { Form::Opaque } else { Form::Bare }),
-        (Some(_), Some(_)) => Err(SchemaFault::BadKeyword),
+        (Some(_), Some(_)) => Err(OwnFault::Keyword(Keyword::AdditionalProperties)),
     }
 }

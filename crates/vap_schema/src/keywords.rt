@@ -1,12 +1,13 @@
 //! The keywords of one schema (OpenAPI v3, "Schema Object"; Kubernetes, "Specifying a structural schema").
 
-ghost use Rattle.std.specs.Prelude.{◌≡◌, IfOk};
+ghost use Rattle.std.specs.Prelude.{◌≡◌, IfOk, option_map};
 ghost use Rattle.serde_json.specs.View.{view, items_view};
-ghost use Rattle.vap_schema.specs.Schemas.{flag, limit, absent, type_word, stated_word, is_plain, all_texts};
-ghost use Rattle.vap_schema.specs.Schemas.{required_names, properties_of, entry_of, is_named};
-ghost use Rattle.vap_schema.specs.Schemas.{IsInTextOrder, AreTexts, NamesAre, PropertiesAre, EntryIs};
+ghost use Rattle.vap_schema.specs.Keywords.{value_of, flag, limit, absent, type_word, stated_word, time_format, stated_format};
+ghost use Rattle.vap_schema.specs.Keywords.{is_plain, all_texts, required_names, properties_of, entry_of};
+ghost use Rattle.vap_schema.specs.Keywords.{NamesAre, PropertiesAre, EntryIs};
+ghost use Rattle.vap_schema.specs.Schemas.{is_named, IsInTextOrder, AreTexts};
 
-use crate::schema_fault::SchemaFault;
+use crate::own_fault::{Keyword, OwnFault};
 use serde_json::{Map, Value as Json};
 use std::alloc::{AllocError, Global};
 
@@ -21,59 +22,73 @@ pub enum TypeWord {
     Object,
 }
 
-/// A keyword that is true or false, and false where it is absent.
-pub fn flag(schema: &Json, name: &str) -> Result<bool, SchemaFault>
-    ensures { result ≡ flag name.now (view schema.now) }
+/// The formats of texts that spell a time.
+#[derive(Clone, Copy)]
+pub enum TimeFormat {
+    Timestamp,
+    Duration,
+}
+
+/// What a schema has under a keyword.
+pub fn value_of(schema: &Json, keyword: Keyword) -> Option<&Json>
+    ensures { option_map (λ v. view v.now) result ≡ value_of keyword (view schema.now) }
 {
-    match schema.get(name) {
+    schema.get(keyword.name())
+}
+
+/// A keyword that is true or false, and false where it is absent.
+pub fn flag(schema: &Json, keyword: Keyword) -> Result<bool, OwnFault>
+    ensures { result ≡ flag keyword (view schema.now) }
+{
+    match value_of(schema, keyword) {
         Some(value) => match value.as_bool() {
             Some(truth) => Ok(truth),
-            None => Err(SchemaFault::BadKeyword),
+            None => Err(OwnFault::Keyword(keyword)),
         },
         None => Ok(false),
     }
 }
 
 /// A keyword that is a limit, with what it is where it is absent.
-pub fn limit(schema: &Json, name: &str, unstated: u32) -> Result<u32, SchemaFault>
-    ensures { result ≡ limit name.now unstated (view schema.now) }
+pub fn limit(schema: &Json, keyword: Keyword, unstated: u32) -> Result<u32, OwnFault>
+    ensures { result ≡ limit keyword unstated (view schema.now) }
 {
-    match schema.get(name) {
+    match value_of(schema, keyword) {
         Some(value) => match value.as_u64() {
             Some(number) => {
                 if number < 4_294_967_296 {
                     Ok(number as u32)
                 } else {
-                    Err(SchemaFault::BadKeyword)
+                    Err(OwnFault::Keyword(keyword))
                 }
             }
-            None => Err(SchemaFault::BadKeyword),
+            None => Err(OwnFault::Keyword(keyword)),
         },
         None => Ok(unstated),
     }
 }
 
 /// Refuses a keyword that may not stand there.
-pub fn check_absent(schema: &Json, name: &str) -> Result<(), SchemaFault>
-    ensures { result ≡ absent name.now (view schema.now) }
+pub fn check_absent(schema: &Json, keyword: Keyword) -> Result<(), OwnFault>
+    ensures { result ≡ absent keyword (view schema.now) }
 {
-    match schema.get(name) {
-        Some(_) => Err(SchemaFault::BadKeyword),
+    match value_of(schema, keyword) {
+        Some(_) => Err(OwnFault::Keyword(keyword)),
         None => Ok(()),
     }
 }
 
 /// The word of `type`, if there is one.
-pub fn stated_word(schema: &Json) -> Result<Option<TypeWord>, SchemaFault>
+pub fn stated_word(schema: &Json) -> Result<Option<TypeWord>, OwnFault>
     ensures { result ≡ stated_word (view schema.now) }
 {
-    match schema.get("type") {
+    match value_of(schema, Keyword::Type) {
         Some(value) => match value.as_str() {
             Some(text) => match type_word(text) {
                 Some(word) => Ok(Some(word)),
-                None => Err(SchemaFault::BadKeyword),
+                None => Err(OwnFault::Keyword(Keyword::Type)),
             },
-            None => Err(SchemaFault::BadKeyword),
+            None => Err(OwnFault::Keyword(Keyword::Type)),
         },
         None => Ok(None),
     }
@@ -99,32 +114,57 @@ fn type_word(text: &str) -> Option<TypeWord>
     }
 }
 
+/// The time that a text spells by its `format`, if it spells one.
+pub fn stated_format(schema: &Json) -> Result<Option<TimeFormat>, OwnFault>
+    ensures { result ≡ stated_format (view schema.now) }
+{
+    match value_of(schema, Keyword::Format) {
+        Some(value) => match value.as_str() {
+            Some(text) => Ok(time_format(text)),
+            None => Err(OwnFault::Keyword(Keyword::Format)),
+        },
+        None => Ok(None),
+    }
+}
+
+fn time_format(text: &str) -> Option<TimeFormat>
+    ensures { result ≡ time_format text.now }
+{
+    if text == "date-time" || text == "date" {
+        Some(TimeFormat::Timestamp)
+    } else if text == "duration" {
+        Some(TimeFormat::Duration)
+    } else {
+        None
+    }
+}
+
 /// Whether a list is plain: neither a set nor an associative list.
-pub fn is_plain(schema: &Json) -> Result<bool, SchemaFault>
+pub fn is_plain(schema: &Json) -> Result<bool, OwnFault>
     ensures { result ≡ is_plain (view schema.now) }
 {
-    match schema.get("x-kubernetes-list-type") {
+    match value_of(schema, Keyword::ListType) {
         Some(value) => match value.as_str() {
             Some(text) => Ok(!(text == "set" || text == "map")),
-            None => Err(SchemaFault::BadKeyword),
+            None => Err(OwnFault::Keyword(Keyword::ListType)),
         },
         None => Ok(true),
     }
 }
 
 /// The names of required fields.
-pub fn required_names(schema: &Json) -> Result<&[Json], SchemaFault>
+pub fn required_names(schema: &Json) -> Result<&[Json], OwnFault>
     ensures { NamesAre (required_names (view schema.now)) result }
 {
-    match schema.get("required") {
+    match value_of(schema, Keyword::Required) {
         Some(Json::Array(names)) => {
             if all_texts(names.as_slice()) {
                 Ok(names.as_slice())
             } else {
-                Err(SchemaFault::BadKeyword)
+                Err(OwnFault::Keyword(Keyword::Required))
             }
         }
-        Some(_) => Err(SchemaFault::BadKeyword),
+        Some(_) => Err(OwnFault::Keyword(Keyword::Required)),
         None => Ok(&[]),
     }
 }
@@ -171,25 +211,25 @@ pub fn is_named(texts: &[&str], name: &str) -> bool
 }
 
 /// The properties, if they are named.
-pub fn properties_of(schema: &Json) -> Result<Option<&Map<String, Json>>, SchemaFault>
+pub fn properties_of(schema: &Json) -> Result<Option<&Map<String, Json>>, OwnFault>
     ensures { PropertiesAre (properties_of (view schema.now)) result }
 {
-    match schema.get("properties") {
+    match value_of(schema, Keyword::Properties) {
         Some(Json::Object(properties)) => Ok(Some(properties)),
-        Some(_) => Err(SchemaFault::BadKeyword),
+        Some(_) => Err(OwnFault::Keyword(Keyword::Properties)),
         None => Ok(None),
     }
 }
 
 /// What may stand under any name, if anything may: true or a schema.
-pub fn entry_of(schema: &Json) -> Result<Option<&Json>, SchemaFault>
+pub fn entry_of(schema: &Json) -> Result<Option<&Json>, OwnFault>
     ensures { EntryIs (entry_of (view schema.now)) result }
 {
-    match schema.get("additionalProperties") {
+    match value_of(schema, Keyword::AdditionalProperties) {
         Some(entry) => match entry {
             Json::Bool(truth) => Ok(if *truth { Some(entry) } else { None }),
             Json::Object(_) => Ok(Some(entry)),
-            _ => Err(SchemaFault::BadKeyword),
+            _ => Err(OwnFault::Keyword(Keyword::AdditionalProperties)),
         },
         None => Ok(None),
     }

@@ -5,11 +5,12 @@ ghost use Rattle.cel_value.specs.declared.cel_type.CelType as T;
 ghost use Rattle.serde_json.specs.View.{view, items_view, members_view};
 ghost use Rattle.failing.specs.Failures.{Answers};
 ghost use Rattle.vap_fit.specs.Seen.{Carries};
+ghost use Rattle.vap_schema.specs.Forms.{form_in};
 ghost use Rattle.vap_schema.specs.Schemas.{schema_type, form_type, or_null, entry_type, record_type};
 ghost use Rattle.vap_schema.specs.Schemas.{fields_of, object_type_of, is_named, IsInTextOrder};
 
 use crate::fixed_types::with_fixed_fields;
-use crate::form::{Form, nested_form, own_form};
+use crate::form::{Form, nested_form, root_form};
 use crate::keywords::{in_text_order, is_named};
 use crate::schema_fault::{SchemaError, SchemaFault};
 use cel_value::{CelType, Field};
@@ -41,10 +42,7 @@ impl Schema {
     pub fn from_json(alloc: Global, json: &Json) -> Result<Schema, SchemaError>
         ensures { Answers (object_type_of (view json.now)) result }
     {
-        if !json.is_object() {
-            return Err(SchemaError::Fault(SchemaFault::BadKeyword));
-        }
-        let form = own_form(json)?;
+        let form = root_form(json)?;
         let object_type = read_form(99, alloc, form)?;
         Ok(Schema {
             object_type: with_fixed_fields(alloc, object_type)?,
@@ -74,12 +72,14 @@ fn read_schema(levels: u32, alloc: Global, schema: &Json) -> Result<CelType, Sch
 /// The type of a form, where so many schemas may stand inside each other in it.
 #[cycle(read_schema)]
 fn read_form(levels: u32, alloc: Global, form: Form<'_>) -> Result<CelType, SchemaError>
-    ensures { Answers (form_type (schema_type levels) form.entry) result }
+    ensures { Answers (form_type (schema_type levels) (form_in form.entry)) result }
 {
     match form {
         Form::Opaque => Ok(CelType::Opaque),
         Form::Bool => Ok(CelType::Bool),
         Form::Int => Ok(CelType::Int),
+        Form::Timestamp => Ok(CelType::Timestamp),
+        Form::Duration => Ok(CelType::Duration),
         Form::Text { max } => Ok(CelType::Text { max }),
         Form::List { max, plain, items } => {
             list_of(alloc, max, plain, read_schema(levels, alloc, items))

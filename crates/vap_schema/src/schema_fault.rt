@@ -3,6 +3,7 @@
 ghost use Rattle.std.specs.Prelude.{◌≡◌};
 ghost use Rattle.vap_schema.specs.Names.{schema_fault_name};
 
+use crate::own_fault::OwnFault;
 use failing::Failed;
 use thiserror::Error;
 
@@ -41,5 +42,16 @@ impl From<SchemaFault> for Failed<SchemaFault> {
 
     fn from(fault: SchemaFault) -> Failed<SchemaFault> {
         Failed::Fault(fault)
+    }
+}
+
+impl From<OwnFault> for Failed<SchemaFault> {
+    ghost use Rattle.failing.specs.declared.failed.Failed.TheVariants.{Fault};
+    ghost use Rattle.vap_schema.specs.Keywords.{fault_of};
+
+    ghost from_gives = { λ own e. e ≡ Fault (fault_of own) };
+
+    fn from(own: OwnFault) -> Failed<SchemaFault> {
+        Failed::Fault(own.fault())
     }
 }

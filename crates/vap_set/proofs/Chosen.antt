@@ -1,11 +1,9 @@
 -- Some of the policies of a set.
-use Rattle.std.proofs.Common.{◌≤◌, ℕ, suc, Bool, true, false, cond, List, [], ◌∷◌, length, sym, subst, arith}
+use Rattle.std.proofs.Common.{ℕ, Bool, true, false, cond, List, [], ◌∷◌, sym, subst}
 use Rattle.std.specs.Prelude.{filter}
 use Rattle.std.specs.List.{All, AllByRecursion}
 use Rattle.std.proofs.lemmas.List.Elements.{All-from_recursion, recursion_from_All}
-use Rattle.vap_params.proofs.InOrder.{no_longer}
 use Rattle.vap_set.specs.Index.{AreEnough}
-use Rattle.vap_set.specs.Ready.{AreFew, HasFew}
 use Rattle.vap_set.specs.declared.bound.BoundPolicy.{BoundPolicy}
 
 module _ {X : Type 0} (P : X → Type 0) (keep : X → Bool) where
@@ -21,10 +19,3 @@ module _ {X : Type 0} (P : X → Type 0) (keep : X → Bool) where
 pub chosen_all : (P : BoundPolicy → Type 0) (g s : List ℕ) (all some : List BoundPolicy) → AreEnough g s all some → All P all → All P some
 chosen_all P g s all some few each =
     subst (All P) (sym few.are) (All-from_recursion P (filter few.keep all) (kept_all P few.keep all (recursion_from_All P all each)))
-
--- some of few are few
-pub few_chosen : (g s : List ℕ) (all some : List BoundPolicy) → AreEnough g s all some → AreFew all → AreFew some
-few_chosen g s all some few are = (
-  subst (λ (ps : List BoundPolicy). length ps ≤ 256) (sym few.are) (omega (arith, no_longer few.keep all, are.0)),
-  chosen_all HasFew g s all some few are.1,
-)

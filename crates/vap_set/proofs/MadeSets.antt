@@ -1,5 +1,5 @@
 -- What is made of objects is what their set holds.
-use Rattle.std.proofs.Common.{◌≡◌, ℕ, false, List, [], ◌∷◌, ◌++◌, map, refl, sym, ap, ◌∙◌, subst, arith}
+use Rattle.std.proofs.Common.{◌≡◌, ℕ, false, List, [], ◌∷◌, ◌++◌, map, refl, sym, ap, ◌∙◌, subst}
 use Rattle.std.specs.Prelude.{IsSome}
 use Rattle.std.specs.List.{Contains}
 use Rattle.std.proofs.lemmas.List.Elements.{All-from_recursion}
@@ -17,7 +17,6 @@ use Rattle.vap_read.specs.declared.key.Key.{Key}
 use Rattle.vap_read.specs.declared.object.Object.{Object}
 use Rattle.vap_params.specs.Fitted.{Fitted, all_params}
 use Rattle.vap_set.specs.Patterns.{IsChoiceFor, of_policies, of_policy}
-use Rattle.vap_set.specs.Ready.{AreFew, HasFew}
 use Rattle.vap_set.specs.Sets.{Holdings, IsOfObjects, bound_of, held_by, holdings_of, no_choice, of_bound, policies_by}
 use Rattle.vap_set.specs.declared.bound.BoundPolicy.{BoundPolicy}
 use Rattle.vap_set.specs.declared.choice.Choice.{Choice}
@@ -74,9 +73,6 @@ pub rules_chosen : (c : Cluster) (r s : Rules) → r ≡ s → s.policies ≡ po
 rules_chosen c r s same policies chosen =
     subst (λ (x : Rules). IsChoiceFor (of_bound x.policies) x.choice.refused) (sym same)
     (made_chosen c s.choice s.choice policies chosen)
-
-pub nothing_few : {ps : List BoundPolicy} → ps ≡ [] → AreFew ps
-nothing_few {ps} none = subst AreFew (sym none) (omega arith, All-from_recursion HasFew [] tt)
 
 -- what is made of nothing is what the set of no objects holds
 pub nothing_made : (r : Rules) {qs : List Fitted} {ns : List (Key × Object)} → r.choice ≡ no_choice → r.definitions.kinds ≡ kinds_in []

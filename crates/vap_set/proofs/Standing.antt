@@ -1,17 +1,15 @@
 -- What a policy of a set is at a kind may be run there.
-use Rattle.std.proofs.Common.{◌≡◌, ◌≤◌, ℕ, Bool, true, false, cond, ◌&&◌, List, [], ◌∷◌, Option, Some, None, refl, sym}
+use Rattle.std.proofs.Common.{◌≡◌, ℕ, Bool, true, false, cond, ◌&&◌, List, [], ◌∷◌, Option, Some, None, refl, sym}
 use Rattle.std.proofs.Common.{ap, ◌∙◌, subst}
-use Rattle.std.proofs.Common.{map, filter, length, arith, length-append, option_map}
-use Rattle.std.specs.Prelude.{if◌then◌else◌}
+use Rattle.std.proofs.Common.{map, filter, option_map}
 use Rattle.std.specs.List.{AllByRecursion, find}
 use Rattle.std.specs.Str.{bytes_eq}
-use Rattle.std.proofs.lemmas.List.{length-map}
 use Rattle.std.proofs.lemmas.List.Elements.{All-from_recursion}
 use Rattle.plain.specs.declared.text.Keyed.{Keyed}
 use Rattle.vap_bindings.specs.declared.binding.Binding.{Binding}
 use Rattle.vap_kinds.specs.declared.kind.Kind.{Kind}
 use Rattle.vap_objects.specs.Cluster.{Cluster}
-use Rattle.vap_objects.specs.Listed.{bindings_in, bindings_of, definitions_in, if_bound, policies_in}
+use Rattle.vap_objects.specs.Listed.{bindings_in, definitions_in, policies_in}
 use Rattle.vap_policies.specs.declared.policy.Policy.{Policy}
 use Rattle.vap_policies.specs.declared.policy.PolicySpec.{PolicySpec}
 use Rattle.vap_programs.specs.Ready.{PairsAreReady, PairsAreWithin}
@@ -20,7 +18,7 @@ use Rattle.vap_set.specs.Made.{pair_made}
 use Rattle.vap_set.specs.Parts.{part_of}
 use Rattle.vap_set.specs.Sets.{Holdings, IsOfObjects, bound_of, holdings_of, is_looked_at, is_pair_of, kind_pair, kinds_of, pairs_of}
 use Rattle.vap_set.specs.Sets.{policies_by}
-use Rattle.vap_set.specs.Ready.{IsFirst, IsOneOf, IsReadyBy, IsReadyAt, HasFew, HasItsParams, AreFew, AreReady}
+use Rattle.vap_set.specs.Ready.{IsFirst, IsOneOf, IsReadyBy, IsReadyAt, HasItsParams, AreReady}
 use Rattle.vap_set.specs.declared.bound.KindPair.{KindPair}
 use Rattle.vap_set.specs.declared.choice.Choice.{Choice}
 use Rattle.vap_set.proofs.Firsts.{kinds_first, one_kind}
@@ -120,32 +118,6 @@ pub set_ready : PairsAreReady → PairsAreWithin → (h : Holdings) → IsOfObje
 set_ready ready within h source = subst AreReady (sym source.is) (built_ready ready within source.objects h.choice)
 
 -- ---- how many there are
-
-at_most_one : (name : List ℕ) (b : Keyed Binding) → length (if_bound name b) ≤ 1
-unfolding if_bound
-at_most_one name b = at (bytes_eq b.value.spec.policy_name name)
-  where
-    at : (t : Bool) → length (if t then b ∷ [] else []) ≤ 1
-    at true = omega arith
-    at false = omega arith
-
-no_more : (name : List ℕ) (bs : List (Keyed Binding)) → length (bindings_of name bs) ≤ length bs
-no_more name [] = omega arith
-no_more name (b ∷ bs) =
-    omega (arith, length-append (if_bound name b) (bindings_of name bs), at_most_one name b, no_more name bs)
-
-few_each : (choice : Choice) (kinds : List Kind) (bindings : List (Keyed Binding)) (ps : List (Keyed Policy))
-    → length bindings ≤ 256 → AllByRecursion HasFew (map (bound_of choice kinds bindings) ps)
-few_each choice kinds bindings [] few = tt
-few_each choice kinds bindings (p ∷ ps) few = (omega (arith, no_more p.key bindings, few), few_each choice kinds bindings ps few)
-
--- few policies and few bindings make a set of few
-pub few_bound : (choice : Choice) (kinds : List Kind) (bindings : List (Keyed Binding)) (ps : List (Keyed Policy))
-    → length bindings ≤ 256 → length ps ≤ 256 → AreFew (map (bound_of choice kinds bindings) ps)
-few_bound choice kinds bindings ps few_bindings few = (
-  omega (arith, length-map ps (bound_of choice kinds bindings), few),
-  All-from_recursion HasFew (map (bound_of choice kinds bindings) ps) (few_each choice kinds bindings ps few_bindings),
-)
 
 -- policies are bound by what is the same
 pub bound_same : {a choice : Choice} {k kinds : List Kind} {b bindings : List (Keyed Binding)} {p policies : List (Keyed Policy)}

@@ -13,7 +13,6 @@ use vap_policies::Policy;
 use vap_programs::Pair;
 
 /// A policy at a kind.
-#[derive(Drop)]
 pub struct KindPair {
     pub group: Text,
     pub version: Text,
@@ -21,8 +20,18 @@ pub struct KindPair {
     pub made: Shared<MadePair>,
 }
 
+impl Drop for KindPair {
+    fn drop(self) {
+        let KindPair {
+            group: _group,
+            version: _version,
+            kind: _kind,
+            made: _made,
+        } = self;
+    }
+}
+
 /// A policy with its bindings by name, and what it is at each kind.
-#[derive(Drop)]
 pub struct BoundPolicy {
     pub name: Text,
     pub policy: Policy,
@@ -33,6 +42,19 @@ pub struct BoundPolicy {
     pub pairs: Items<KindPair>,
     /// At the kinds that are not known.
     pub other: Shared<MadePair>,
+}
+
+impl Drop for BoundPolicy {
+    fn drop(self) {
+        let BoundPolicy {
+            name: _name,
+            policy: _policy,
+            own: _own,
+            bindings: _bindings,
+            pairs: _pairs,
+            other: _other,
+        } = self;
+    }
 }
 
 fn is_pair_of(kind: &Kind, pair: &KindPair) -> bool

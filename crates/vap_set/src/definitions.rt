@@ -1,6 +1,6 @@
 //! What a set holds of definitions.
 
-ghost use Rattle.std.specs.Prelude.{◌≡◌, IfOk};
+ghost use Rattle.std.specs.Prelude.{◌≡◌, [], IfOk};
 ghost use Rattle.vap_kinds.specs.Definitions.{is_definition};
 ghost use Rattle.vap_objects.specs.Listed.{kinds_in};
 ghost use Rattle.vap_params.specs.Reuse.{StaysUnless};
@@ -13,13 +13,22 @@ use vap_read::{Event, Object, ObjectMap};
 use vap_same::Same;
 
 /// The kinds that definitions give, and the definitions.
-#[derive(Drop)]
 pub struct Definitions {
     pub kinds: Items<Kind>,
     /// By their keys; no answer depends on them.
     pub entries: ObjectMap,
     /// By their names, each with its own kinds; no answer depends on them.
     pub read: Items<Keyed<Shared<ReadDefinition>>>,
+}
+
+impl Drop for Definitions {
+    fn drop(self) {
+        let Definitions {
+            kinds: _kinds,
+            entries: _entries,
+            read: _read,
+        } = self;
+    }
 }
 
 /// The definition of this name among others, which stand by name.
@@ -96,6 +105,13 @@ pub fn definitions_of(alloc: Global, objects: &Objects) -> Result<Shared<Definit
     ensures { IfOk result (λ found. found.kinds ≡ kinds_in objects.now.objects) }
 {
     definitions_with(alloc, objects, &[])
+}
+
+/// The definitions of no objects.
+pub fn no_definitions(alloc: Global) -> Result<Shared<Definitions>, AllocError>
+    ensures { IfOk result (λ found. found.kinds ≡ kinds_in []) }
+{
+    definitions_of(alloc, &Objects::new(alloc))
 }
 
 /// The definitions after events, of which those that changed are read.

@@ -24,13 +24,22 @@ pub struct Entry {
 }
 
 /// Policies, by name, and found by the resources that they name. Contracts see the policies.
-#[derive(Drop)]
 pub struct Index {
     all: Items<Shared<BoundPolicy>>,
     /// Those that may cover each place that a policy names, by place.
     entries: Items<Entry>,
     /// Those that may cover more than the places that they name.
     wide: Items<Shared<BoundPolicy>>,
+}
+
+impl Drop for Index {
+    fn drop(self) {
+        let Index {
+            all: _all,
+            entries: _entries,
+            wide: _wide,
+        } = self;
+    }
 }
 
 impl Model for Index {

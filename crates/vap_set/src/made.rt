@@ -22,7 +22,6 @@ use vap_slots::FixedTypes;
 
 /// What a policy is compiled of at a kind: the texts of its own that are taken as no patterns, the type of the objects, what the
 /// params are, and what it says.
-#[derive(Drop)]
 pub struct Inputs {
     pub refused: Shared<Items<Text>>,
     pub cel_type: CelType,
@@ -30,13 +29,33 @@ pub struct Inputs {
     pub policy: Shared<PolicySpec>,
 }
 
+impl Drop for Inputs {
+    fn drop(self) {
+        let Inputs {
+            refused: _refused,
+            cel_type: _cel_type,
+            params: _params,
+            policy: _policy,
+        } = self;
+    }
+}
+
 /// A policy at a kind, compiled. Contracts see it as what it was compiled of.
-#[derive(Drop)]
 pub struct MadePair {
     inputs: Inputs,
     pair: Pair,
     /// At which making of a set it was compiled; no answer depends on it.
     round: u64,
+}
+
+impl Drop for MadePair {
+    fn drop(self) {
+        let MadePair {
+            inputs: _inputs,
+            pair: _pair,
+            round: _round,
+        } = self;
+    }
 }
 
 impl Model for MadePair {

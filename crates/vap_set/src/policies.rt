@@ -1,6 +1,7 @@
 //! What policies are at each kind.
 
 ghost use Rattle.std.specs.Prelude.{◌≡◌, ℕ, List, IfOk, IsErrOf, map};
+ghost use Rattle.vap_objects.specs.Listed.{bindings_of};
 ghost use Rattle.vap_set.specs.Parts.{part_of};
 ghost use Rattle.vap_set.specs.Sets.{bound_of};
 ghost use Rattle.vap_set.specs.Still.{AreBound};
@@ -9,11 +10,12 @@ ghost use Rattle.vap_set.specs.declared.build_error.BuildFault.TheVariants as bu
 ghost use Rattle.failing.specs.declared.failed.Failed.TheVariants.{Fault};
 ghost use Rattle.cel_expression.specs.declared.refusal.CompileFault.TheVariants.{Unverified};
 
-use crate::bound::BoundPolicy;
+use crate::bound::{BoundPolicy, KindPair};
 use crate::build_error::{BuildError, BuildFault};
 use crate::changes::{Kept, not_below};
 use crate::choice::Choice;
 use crate::compiling::Compiling;
+use crate::made::MadePair;
 use crate::parts::part_of;
 use crate::texts::{PolicyTexts, own_texts};
 use plain::{Items, Keyed, Shared};
@@ -69,6 +71,33 @@ fn unbuilt(
     }
 }
 
+/// A policy with its bindings, and what it is at each kind. Cut for the prover: each way out drops what is held there.
+fn with_bindings(
+    alloc: Global,
+    policy: &Keyed<Shared<PolicyTexts>>,
+    bindings: &[Keyed<Binding>],
+    pairs: Items<KindPair>,
+    other: Shared<MadePair>,
+) -> Result<BoundPolicy, AllocError>
+    ensures { IfOk result (λ p. p ≡ record {
+      name = policy.now.key;
+      policy = policy.now.value;
+      own = policy.now.value;
+      bindings = bindings_of policy.now.key bindings.now;
+      pairs = pairs;
+      other = other;
+    }) }
+{
+    Ok(BoundPolicy {
+        name: policy.key.copy()?,
+        policy: policy.value.get().policy().copy()?,
+        own: policy.value.share()?,
+        bindings: bindings_of(alloc, policy.key.as_str(), bindings)?,
+        pairs,
+        other,
+    })
+}
+
 impl Workshop<'_> {
     fn bound_of(
         &self,
@@ -91,14 +120,9 @@ impl Workshop<'_> {
             policy: &own.policy().spec,
             round: self.kept.round,
         };
-        Ok(BoundPolicy {
-            name: policy.key.copy()?,
-            policy: own.policy().copy()?,
-            own: policy.value.share()?,
-            bindings: bindings_of(self.alloc, policy.key.as_str(), bindings)?,
-            pairs: compiling.pairs_of(old, self.kept)?,
-            other: compiling.other_of(self.kept.other(old))?,
-        })
+        let pairs = compiling.pairs_of(old, self.kept)?;
+        let other = compiling.other_of(self.kept.other(old))?;
+        Ok(with_bindings(self.alloc, policy, bindings, pairs, other)?)
     }
 
     /// The same, unless the first of these, which are bound as they would be now, is of it.

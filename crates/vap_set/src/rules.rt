@@ -1,11 +1,10 @@
 //! What a set holds of policies, bindings and definitions.
 
-ghost use Rattle.std.specs.Prelude.{◌≡◌, ◌≤◌, ℕ, List, length, IfOk, IsErrOf};
+ghost use Rattle.std.specs.Prelude.{◌≡◌, ℕ, List, [], IfOk, IsErrOf};
 ghost use Rattle.failing.specs.declared.failed.Failed.TheVariants.{Fault};
 ghost use Rattle.vap_objects.specs.Listed.{bindings_in, kinds_in, policies_in};
 ghost use Rattle.vap_set.specs.Patterns.{IsChoiceFor, of_policies};
-ghost use Rattle.vap_set.specs.Ready.{AreFew};
-ghost use Rattle.vap_set.specs.Sets.{policies_by};
+ghost use Rattle.vap_set.specs.Sets.{no_choice, policies_by};
 ghost use Rattle.vap_set.specs.Still.{AreBound};
 ghost use Rattle.vap_set.specs.Unverified.{IsUnverifiedIn};
 ghost use Rattle.vap_set.specs.declared.build_error.BuildFault.TheVariants.{Unverified};
@@ -13,19 +12,18 @@ ghost use Rattle.vap_set.specs.declared.build_error.BuildFault.TheVariants.{Unve
 use crate::build_error::BuildError;
 use crate::changes::Kept;
 use crate::choice::Choice;
-use crate::definitions::Definitions;
+use crate::definitions::{Definitions, no_definitions};
 use crate::index::Index;
 use crate::literal_patterns::{answers_for, choice_for};
 use crate::policies::{Workshop, policy_texts};
 use cel_patterns::Patterns;
-use plain::{Keyed, Shared};
-use std::alloc::Global;
+use plain::{Items, Keyed, Shared};
+use std::alloc::{AllocError, Global};
 use vap_objects::Objects;
 use vap_policies::Policy;
 use vap_slots::FixedTypes;
 
 /// What a set holds that is made of policies, bindings and definitions alone.
-#[derive(Drop)]
 pub struct Rules {
     pub choice: Shared<Choice>,
     pub definitions: Shared<Definitions>,
@@ -34,6 +32,40 @@ pub struct Rules {
     pub patterns: Shared<Patterns>,
     /// Made with a first set, and taken over by each that is made of it.
     pub fixed_types: Shared<FixedTypes>,
+}
+
+impl Drop for Rules {
+    fn drop(self) {
+        let Rules {
+            choice: _choice,
+            definitions: _definitions,
+            policies: _policies,
+            patterns: _patterns,
+            fixed_types: _fixed_types,
+        } = self;
+    }
+}
+
+impl Rules {
+    /// Those of no objects, by the choice that refuses nothing.
+    pub fn empty(alloc: Global) -> Result<Rules, AllocError>
+        ensures choice { IfOk result (λ r. r.choice ≡ no_choice) }
+        ensures kinds { IfOk result (λ r. r.definitions.kinds ≡ kinds_in []) }
+        ensures policies { IfOk result (λ r. r.policies ≡ []) }
+    {
+        let refusing_none = Shared::new(alloc, Choice::none(alloc)?)?;
+        let definitions = no_definitions(alloc)?;
+        let patterns = Shared::new(alloc, Patterns::new(alloc))?;
+        let fixed_types = Shared::new(alloc, FixedTypes::new(alloc)?)?;
+        let policies = Index::new(alloc, Items::from_vec(Vec::new(alloc)))?;
+        Ok(Rules {
+            choice: refusing_none,
+            definitions,
+            policies,
+            patterns,
+            fixed_types,
+        })
+    }
 }
 
 /// The rules among objects whose definitions and policies these are, where something may be kept of a set before.
@@ -46,11 +78,9 @@ pub fn rules_of(
 ) -> Result<Rules, BuildError>
     requires kinds { definitions.now.kinds ≡ kinds_in objects.now.objects }
     requires named { named.now ≡ policies_in objects.now.objects }
-    requires few { length named.now ≤ 256 }
     requires still { AreBound kept.now.choice.now (kinds_in objects.now.objects) (bindings_in objects.now.objects) kept.now.still.now }
     ensures kinds { IfOk result (λ r. r.definitions.kinds ≡ kinds_in objects.now.objects) }
     ensures policies { IfOk result (λ r. r.policies ≡ policies_by r.choice objects.now) }
-    ensures few { IfOk result (λ r. AreFew r.policies) }
     ensures choice { IfOk result (λ r. IsChoiceFor (of_policies (policies_in objects.now.objects)) r.choice.refused) }
     ensures unverified { (name : List ℕ) → IsErrOf result (Fault (Unverified name)) → IsUnverifiedIn objects.now name }
 {
@@ -65,11 +95,13 @@ pub fn rules_of(
         kept,
     };
     let bound = workshop.bound_policies(choice.get(), bindings.as_slice(), own.as_slice())?;
-    let policies = Index::new(alloc, bound)?;
+    let definitions = definitions.share()?;
     let fixed_types = kept.fixed_types.share()?;
+    // The index is made last, for the prover: each way out drops what is held there.
+    let policies = Index::new(alloc, bound)?;
     Ok(Rules {
         choice,
-        definitions: definitions.share()?,
+        definitions,
         policies,
         patterns,
         fixed_types,

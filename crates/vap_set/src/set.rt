@@ -1,6 +1,6 @@
 //! Sets.
 
-ghost use Rattle.std.specs.Prelude.{◌≡◌, ℕ, true, List, Some, IfOk, IsErrOf};
+ghost use Rattle.std.specs.Prelude.{◌≡◌, ℕ, [], true, List, Some, IfOk, IsErrOf};
 ghost use Rattle.std.specs.List.{All};
 ghost use Rattle.std.specs.Option.{option_copied};
 ghost use Rattle.failing.specs.declared.failed.Failed.TheVariants.{Fault};
@@ -11,7 +11,7 @@ ghost use Rattle.vap_objects.specs.Listed.{bindings_in, kinds_in, policies_in};
 ghost use Rattle.vap_objects.specs.OfKind.{namespaces_in};
 ghost use Rattle.vap_set.specs.Index.{AreEnough};
 ghost use Rattle.vap_set.specs.Patterns.{IsChoiceFor, of_policies};
-ghost use Rattle.vap_set.specs.Ready.{AreReady, AreReadyIn, AreFew};
+ghost use Rattle.vap_set.specs.Ready.{AreReady, AreReadyIn};
 ghost use Rattle.vap_params.specs.Reuse.{AreRefitted};
 ghost use Rattle.vap_set.specs.Reuse.{IsBefore};
 ghost use Rattle.vap_set.specs.Sets.{choice_in, holdings_of, kinds_of, namespace_in, no_choice, params_in, policies_of};
@@ -27,7 +27,6 @@ use crate::changes::{Changes, Kept};
 use crate::choice::Choice;
 use crate::counting::compiled_at;
 use crate::definitions::{Definitions, definitions_after, definitions_of};
-use crate::index::Index;
 use crate::report::{Misconfigured, report_of};
 use crate::reuse::{leaves_bound, namespaces_after};
 use crate::rules::{Rules, rules_of};
@@ -44,7 +43,6 @@ use vap_read::{Event, Object, ObjectMap};
 use vap_slots::FixedTypes;
 
 /// The policies among objects, compiled, with what judging needs of the other objects. Contracts see it as what it holds.
-#[derive(Drop)]
 pub struct PolicySet {
     events: u64,
     rules: Shared<Rules>,
@@ -54,12 +52,48 @@ pub struct PolicySet {
     round: u64,
 }
 
+impl Drop for PolicySet {
+    fn drop(self) {
+        let PolicySet {
+            events: _events,
+            rules: _rules,
+            params: _params,
+            namespaces: _namespaces,
+            round: _round,
+        } = self;
+    }
+}
+
 /// What is there already of a set that is made: its definitions, some of its params, and its Namespaces.
-#[derive(Drop)]
 struct Parts {
     definitions: Shared<Definitions>,
     params: Items<Shared<KindParams>>,
     namespaces: Shared<ObjectMap>,
+}
+
+impl Drop for Parts {
+    fn drop(self) {
+        let Parts {
+            definitions: _definitions,
+            params: _params,
+            namespaces: _namespaces,
+        } = self;
+    }
+}
+
+impl Parts {
+    /// Those of a set that is made of objects alone.
+    fn of(alloc: Global, objects: &Objects) -> Result<Parts, AllocError>
+        ensures kinds { IfOk result (λ parts. parts.definitions.kinds ≡ kinds_in objects.now.objects) }
+        ensures params { IfOk result (λ parts. parts.params ≡ []) }
+        ensures namespaces { IfOk result (λ parts. parts.namespaces ≡ namespaces_in objects.now.objects) }
+    {
+        Ok(Parts {
+            definitions: definitions_of(alloc, objects)?,
+            params: Items::from_vec(Vec::new(alloc)),
+            namespaces: Shared::new(alloc, objects.namespaces(alloc)?)?,
+        })
+    }
 }
 
 impl Model for PolicySet {
@@ -70,7 +104,6 @@ impl Model for PolicySet {
     ghost use Rattle.vap_set.specs.contracts.bound.BoundPolicy as of_policies;
     ghost use Rattle.vap_set.specs.contracts.choice.Choice as of_choices;
     ghost use Rattle.vap_params.specs.contracts.kind_params.KindParams as of_params;
-    ghost use Rattle.vap_set.specs.Ready.{AreFew};
     ghost use Rattle.vap_set.specs.Sets.{held_by, Holdings, IsChosen, IsOfObjects};
 
     ghost Value = { Holdings };
@@ -88,7 +121,6 @@ impl Model for PolicySet {
     ghost view = { λ s. held_by s.events s.rules s.params s.namespaces };
 
     ghost invariant = { λ s. IsOfObjects (held_by s.events s.rules s.params s.namespaces)
-        × AreFew s.rules.policies
         × IsChosen (held_by s.events s.rules s.params s.namespaces) };
 }
 
@@ -97,19 +129,13 @@ impl PolicySet {
     pub fn empty(alloc: Global) -> Result<PolicySet, AllocError>
         ensures { IfOk result (λ set. set ≡ holdings_of nothing no_choice) }
     {
-        let refused = Shared::new(alloc, Items::from_vec(Vec::new(alloc)))?;
-        let rules = Rules {
-            choice: Shared::new(alloc, Choice { refused })?,
-            definitions: definitions_of(alloc, &Objects::new(alloc))?,
-            policies: Index::new(alloc, Items::from_vec(Vec::new(alloc)))?,
-            patterns: Shared::new(alloc, Patterns::new(alloc))?,
-            fixed_types: Shared::new(alloc, FixedTypes::new(alloc)?)?,
-        };
+        let rules = Shared::new(alloc, Rules::empty(alloc)?)?;
+        let namespaces = Shared::new(alloc, ObjectMap::new(alloc))?;
         Ok(PolicySet {
             events: 0,
-            rules: Shared::new(alloc, rules)?,
+            rules,
             params: Items::from_vec(Vec::new(alloc)),
-            namespaces: Shared::new(alloc, ObjectMap::new(alloc))?,
+            namespaces,
             round: 0,
         })
     }
@@ -121,10 +147,9 @@ impl PolicySet {
         ensures choice { IfOk result (λ set. IsChoiceFor (of_policies (policies_in objects.now.objects)) set.choice.refused) }
         ensures unverified { (name : List ℕ) → IsErrOf result (Fault (Unverified name)) → IsUnverifiedIn objects.now name }
     {
+        let parts = Parts::of(alloc, objects)?;
         let patterns = Shared::new(alloc, Patterns::new(alloc))?;
-        let choice = Choice {
-            refused: Shared::new(alloc, Items::from_vec(Vec::new(alloc)))?,
-        };
+        let choice = Choice::none(alloc)?;
         let fixed_types = Shared::new(alloc, FixedTypes::new(alloc)?)?;
         let changes = Changes::none(alloc);
         let kept = Kept {
@@ -135,11 +160,6 @@ impl PolicySet {
             fixed_types: &fixed_types,
             changes: &changes,
             round: 0,
-        };
-        let parts = Parts {
-            definitions: definitions_of(alloc, objects)?,
-            params: Items::from_vec(Vec::new(alloc)),
-            namespaces: Shared::new(alloc, objects.namespaces(alloc)?)?,
         };
         PolicySet::made(alloc, objects, &parts, &kept)
     }
@@ -337,7 +357,6 @@ impl PolicySet {
         ensures exact { result.now ≡ policies_of self.now }
         // The params of the kind of each are held, and at each kind what runs may be run where names have their types there.
         ensures ready { AreReady self.now }
-        ensures few { AreFew result.now }
         // None is nothing at a kind that it names.
         ensures whole { AreWhole self.now }
     {
@@ -349,7 +368,6 @@ impl PolicySet {
     pub fn policies_on(&self, group: &str, resource: &str) -> &[Shared<BoundPolicy>]
         ensures enough { AreEnough group.now resource.now (policies_of self.now) result.now }
         ensures ready { AreReadyIn self.now result.now }
-        ensures few { AreFew result.now }
     {
         pairs_are_ready();
         self.rules.get().policies.on(group, resource)

@@ -13,10 +13,18 @@ use vap_policies::{AuditAnnotation, NamedExpression, Policy, PolicySpec, Validat
 use vap_same::Same;
 
 /// A policy with its own texts. Contracts see it as the policy.
-#[derive(Drop)]
 pub struct PolicyTexts {
     policy: Policy,
     texts: Items<Text>,
+}
+
+impl Drop for PolicyTexts {
+    fn drop(self) {
+        let PolicyTexts {
+            policy: _policy,
+            texts: _texts,
+        } = self;
+    }
 }
 
 impl Model for PolicyTexts {

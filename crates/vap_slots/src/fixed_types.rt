@@ -12,10 +12,18 @@ use std::marker::Model;
 use vap_kinds::namespace_type;
 
 /// The types of the names that have the same type at each kind. They never change, so that contracts see nothing of them.
-#[derive(Drop)]
 pub struct FixedTypes {
     request: CelType,
     namespace: Shared<CelType>,
+}
+
+impl Drop for FixedTypes {
+    fn drop(self) {
+        let FixedTypes {
+            request: _request,
+            namespace: _namespace,
+        } = self;
+    }
 }
 
 impl Model for FixedTypes {

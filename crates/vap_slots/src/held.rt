@@ -22,13 +22,23 @@ use vap_read::Object;
 use vap_request::{Admission, Request};
 
 /// What all names but `params` hold at a request.
-#[derive(Drop)]
 pub struct Held {
     pub object: Value,
     pub old_object: Result<Value, CelError>,
     pub request: Value,
     /// The object of the request's namespace.
     pub namespace: Value,
+}
+
+impl Drop for Held {
+    fn drop(self) {
+        let Held {
+            object: _object,
+            old_object: _old_object,
+            request: _request,
+            namespace: _namespace,
+        } = self;
+    }
 }
 
 /// What a document is at a type, null where there is none.

@@ -8,6 +8,7 @@ use Rattle.logbook.specs.Pages.{Book, book_coded}
 use Rattle.board.specs.Begins.{StartsWith}
 use Rattle.board.specs.Shown.{Shown, shows}
 
+-- the board of those that have seen nothing
 abbrev nowhere : Book
 nowhere = record { number = 0; log_name = 0; cells_name = 0 }
 
@@ -26,6 +27,7 @@ pub record Follows {X : Type 0} (later earlier : Shown X) : Type 0 where
   pub board : later.board ≡ earlier.board
   pub more : StartsWith later.list earlier.list
 
+-- what is shown follows each of these
 abbrev pub FollowsAll : {X : Type 0} → Shown X → List (Shown X) → Type 0
 FollowsAll shown seen = All (λ earlier. Follows shown earlier) seen
 
@@ -43,6 +45,7 @@ pub record Known (X : Type 0) : Type 0 where
   pub seen : List X
   pub told : List X
 
+-- a reader of this board, of what it has seen and was told
 abbrev pub knows : {X : Type 0} → Book → List X → List X → Known X
 knows board seen told = record { board = board; seen = seen; told = told }
 

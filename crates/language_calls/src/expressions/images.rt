@@ -123,7 +123,7 @@ fn loop_word(kind: Option<Loop>) -> &'static str {
 
 /// What a run of an image comes to that a row writes, or the verifier's fault. The row has the type of the outcome as `result`, the
 /// types of the `slots`, the `constants`, of which a text is an unsigned number, the `targets`, each its place and its
-/// types, and the `code`; and what slots have `held`, as names are written.
+/// types, and the `code`; what is `declared`, if anything; and what slots have `held`, as names are written.
 pub fn run(alloc: Global, row: &str) -> Result<String, AllocError> {
     let row = json(alloc, row)?;
     match row.get("result") {
@@ -139,11 +139,23 @@ fn run_to(alloc: Global, ended: &Json, row: &Json) -> Result<String, AllocError>
         constants: Items::new(alloc),
         targets: Items::new(alloc),
         result: ended,
+        declared: None,
         code: Items::new(alloc),
     };
     match put_image(alloc, &mut image, row) {
-        Ok(()) => verified(alloc, Wanted::Runs(1), image, items_in(row, "held")),
+        Ok(()) => {
+            let image = declaring(image, row.get("declared"));
+            verified(alloc, Wanted::Runs(1), image, items_in(row, "held"))
+        }
         Err(error) => Err(error),
+    }
+}
+
+/// The image, with the number that a row declares, if it declares one.
+fn declaring(image: Image, most: Option<&Json>) -> Image {
+    match most {
+        Some(most) => image.declare(most.as_u64().unwrap_or(0)),
+        None => image,
     }
 }
 

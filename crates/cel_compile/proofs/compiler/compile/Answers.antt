@@ -24,7 +24,8 @@ returns c =
     compiled c.new-draft.result c.emit.new.self c.put.new.self _ _ c.args.typed.now.tree c.args.typed.now.slots c.get.ensures
     c.new-draft.ensures.code c.new-draft.ensures.targets c.new-draft.ensures.below c.in_ok-emit.ensures.stands c.in_ok-emit.ensures.writes
     c.in_ok-put.ensures.code c.in_ok-put.ensures.grows
-    (ap (λ cs. record { constants = cs; instrs = c.put.new.self.code }) c.into_items.ensures) refl (search rules) (search rules) in
+    (ap (λ cs. record { constants = cs; instrs = c.put.new.self.code }) c.into_items.ensures) refl (search rules) (search rules)
+    refl in
     record {
       compiled = is;
       only = λ other other_is. one_image other _ c.args.typed.now.tree c.args.typed.now.slots other_is is;

@@ -1,8 +1,8 @@
-use Rattle.std.proofs.Common.{◌≡◌, ◌-◌, ◌<◌, Some, None, refl, ap, rules, arith}
+use Rattle.std.proofs.Common.{◌≡◌, ◌-◌, Some, None, refl, sym, ap, ◌∙◌, rules}
 use Rattle.std.proofs.lemmas.Result.{err_from_is_err_and}
 use Rattle.cel_verify.specs.Sound.{EndsOnce}
 use Rattle.cel_verify.specs.declared.fault.VerifyRule.TheVariants.{BadTarget, OverBudget}
-use Rattle.cel_verify.specs.Accepted.{IsCounted, misplaced_entry, fault, budget}
+use Rattle.cel_verify.specs.Accepted.{IsCounted, misplaced_entry, fault}
 use Rattle.cel_verify.proofs.Exact.{accepted, exact, out_of_place, too_dear}
 use Rattle.cel_verify.proofs.Labels.{sound_by}
 use Rattle.cel_verify.proofs.Walking.{walk_refused}
@@ -25,17 +25,17 @@ returns-in-Some-first_misplaced-clause-accepted c =
     let placed : misplaced_entry image ≡ Some at = search rules in
     rw c.refuse-in-Some-first_misplaced.ensures (out_of_place image (fault BadTarget at) counted sound placed refl)
 
-pub returns-then-bounds-gt-BUDGET-clause-accepted : goal.returns-then-bounds-gt-BUDGET-clause-accepted
-returns-then-bounds-gt-BUDGET-clause-accepted c =
+pub returns-then-is_over-clause-accepted : goal.returns-then-is_over-clause-accepted
+returns-then-is_over-clause-accepted c =
     let image = c.args.image.now in
     let counted : IsCounted image = search rules in
     let ends : EndsOnce image.code = search rules in
     let sound = sound_by image ends c.in_ok-measures.ensures.rules in
     let placed : misplaced_entry image ≡ None = search rules in
-    let over : budget < c.in_ok-bounds.bounds.cost = omega arith in
     let is = ap (λ n. fault OverBudget (n - 1)) c.len.ensures in
-    rw c.refuse-then-bounds-gt-BUDGET.ensures
-    (too_dear image c.in_ok-bounds.bounds (fault OverBudget (c.len.result - 1)) counted sound placed c.in_ok-bounds.ensures over is)
+    rw c.refuse-then-is_over.ensures
+    (too_dear image c.in_ok-bounds.bounds (fault OverBudget (c.len.result - 1)) counted sound placed c.in_ok-bounds.ensures
+    (sym c.is_over.ensures ∙ c.if-is_over.true) is)
 
 pub bounded-requires-clause-sound : goal.bounded-requires-clause-sound
 bounded-requires-clause-sound c =
@@ -51,7 +51,7 @@ returns-clause-accepted c =
     let sound = sound_by image ends c.in_ok-measures.ensures.rules in
     let placed : misplaced_entry image ≡ None = search rules in
     let b = c.in_ok-bounds.bounds in
-    accepted image b counted sound placed c.in_ok-bounds.ensures (omega arith)
+    accepted image b counted sound placed c.in_ok-bounds.ensures (sym c.is_over.ensures ∙ c.if-is_over.false)
 
 pub returns-clause-bounds : goal.returns-clause-bounds
 returns-clause-bounds c =
@@ -61,4 +61,5 @@ returns-clause-bounds c =
     let sound = sound_by image ends c.in_ok-measures.ensures.rules in
     let placed : misplaced_entry image ≡ None = search rules in
     let b = c.in_ok-bounds.bounds in
-    exact image b (accepted image b counted sound placed c.in_ok-bounds.ensures (omega arith)) c.in_ok-bounds.ensures
+    exact image b (accepted image b counted sound placed c.in_ok-bounds.ensures (sym c.is_over.ensures ∙ c.if-is_over.false))
+    c.in_ok-bounds.ensures

@@ -1,42 +1,50 @@
-use Rattle.std.proofs.Common.{◌≡◌, ◌-◌, ◌<◌, IfOk, ap, sym, ◌∙◌, subst, string_bytes, arith}
+use Rattle.std.proofs.Common.{◌≡◌, ◌-◌, ◌<◌, IfOk, ap, sym, ◌∙◌, subst, refl, string_bytes, arith}
 use Rattle.serde_json.specs.View.{view, members_view}
 use Rattle.schema_path.specs.Answers.{IsPlaceBackwards}
-use Rattle.schema_path.specs.Inside.{inside_place}
-use Rattle.schema_path.specs.Places.{under, schema_place, members_place}
+use Rattle.vap_schema.specs.Forms.{form_in}
+use Rattle.schema_path.specs.Places.{under, form_place, nested_place, schema_place, members_place, entry_place}
 use Rattle.schema_path.proofs.Walks.{too_deep, one_level, members_stop, members_go}
 use Rattle.schema_path.proofs.place.+place_in.Goals as goal
 
 pub place_in-returns-then-levels-eq0 : goal.place_in-returns-then-levels-eq0
 place_in-returns-then-levels-eq0 t c =
     let none : c.args.levels ≡ 0 = omega arith in
-    rw (too_deep c.args.levels (view c.args.schema.now) none) c.own_place.ensures
+    rw (too_deep c.args.levels (view c.args.schema.now) none, c.here.ensures.fault, c.here.ensures.path) refl
 
 pub place_in-returns-in-Ok : goal.place_in-returns-in-Ok
 place_in-returns-in-Ok t c =
     let some : 0 < c.args.levels = omega arith in
-    let here = one_level c.args.levels (view c.args.schema.now) some ∙ c.in-Ok.ensures (schema_place (c.args.levels - 1)) in
-    subst (λ want. IfOk c.place_inside.result (IsPlaceBackwards want)) (sym here) c.place_inside.ensures
+    let within = schema_place (c.args.levels - 1) in
+    let here = one_level c.args.levels (view c.args.schema.now) some ∙ ap (nested_place within) c.in-Ok.ensures in
+    subst (λ want. IfOk c.place_in_form.result (IsPlaceBackwards want)) (sym here) c.place_in_form.ensures
 
 pub place_in-returns-in-Err : goal.place_in-returns-in-Err
 place_in-returns-in-Err t c =
     let some : 0 < c.args.levels = omega arith in
-    let here = one_level c.args.levels (view c.args.schema.now) some ∙ c.in-Err.ensures (schema_place (c.args.levels - 1)) in
-    subst (λ want. IfOk c.own_place-in-Err.result (IsPlaceBackwards want)) (sym here) c.own_place-in-Err.ensures
+    let within = schema_place (c.args.levels - 1) in
+    let here = one_level c.args.levels (view c.args.schema.now) some ∙ ap (nested_place within) c.in-Err.ensures in
+    subst (λ want. IfOk c.own_place.result (IsPlaceBackwards want)) (sym here) c.own_place.ensures
 
-pub place_inside-returns-in-Items : goal.place_inside-returns-in-Items
-place_inside-returns-in-Items t c =
-    subst (λ i. IfOk c.under.result (IsPlaceBackwards (inside_place (schema_place c.args.levels) i))) (sym c.in-Items.is)
-    (c.under.ensures _ c.place_in.ensures)
+pub place_in_form-returns-in-List : goal.place_in_form-returns-in-List
+place_in_form-returns-in-List t c =
+    let found = schema_place c.args.levels (view c.in-List.items.now) in
+    subst (λ f. IfOk c.under.result (IsPlaceBackwards (form_place (schema_place c.args.levels) (form_in f)))) (sym c.in-List.is)
+    (subst (λ k. IfOk c.under.result (IsPlaceBackwards (under k found))) c.name.ensures
+    (c.under.ensures _ c.place_in.ensures))
 
-pub place_inside-returns-in-Properties : goal.place_inside-returns-in-Properties
-place_inside-returns-in-Properties t c =
-    subst (λ i. IfOk c.under-in-Properties.result (IsPlaceBackwards (inside_place (schema_place c.args.levels) i))) (sym c.in-Properties.is)
-    (c.under-in-Properties.ensures _ c.place_among.ensures)
+pub place_in_form-returns-in-Map : goal.place_in_form-returns-in-Map
+place_in_form-returns-in-Map t c =
+    let found = entry_place (schema_place c.args.levels) (view c.in-Map.entry.now) in
+    subst (λ f. IfOk c.under-in-Map.result (IsPlaceBackwards (form_place (schema_place c.args.levels) (form_in f)))) (sym c.in-Map.is)
+    (subst (λ k. IfOk c.under-in-Map.result (IsPlaceBackwards (under k found))) c.name-in-Map.ensures
+    (c.under-in-Map.ensures _ c.place_in_entry.ensures))
 
-pub place_inside-returns-in-Entry : goal.place_inside-returns-in-Entry
-place_inside-returns-in-Entry t c =
-    subst (λ i. IfOk c.under-in-Entry.result (IsPlaceBackwards (inside_place (schema_place c.args.levels) i))) (sym c.in-Entry.is)
-    (c.under-in-Entry.ensures _ c.place_in_entry.ensures)
+pub place_in_form-returns-in-Record : goal.place_in_form-returns-in-Record
+place_in_form-returns-in-Record t c =
+    let found = members_place (schema_place c.args.levels) (members_view c.in-Record.properties.now.entries) in
+    subst (λ f. IfOk c.under-in-Record.result (IsPlaceBackwards (form_place (schema_place c.args.levels) (form_in f)))) (sym c.in-Record.is)
+    (subst (λ k. IfOk c.under-in-Record.result (IsPlaceBackwards (under k found))) c.name-in-Record.ensures
+    (c.under-in-Record.ensures _ c.place_among.ensures))
 
 pub place_among-returns-then-is_some : goal.place_among-returns-then-is_some
 place_among-returns-then-is_some t c =

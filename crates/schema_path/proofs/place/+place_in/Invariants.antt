@@ -16,8 +16,8 @@ invariant-place_among-loop-name l = record {
 abbrev pub decreases-place_in : goal.decreases-place_in
 decreases-place_in l = 4 * l.levels
 
-abbrev pub decreases-place_inside : goal.decreases-place_inside
-decreases-place_inside l = 4 * l.levels + 2
+abbrev pub decreases-place_in_form : goal.decreases-place_in_form
+decreases-place_in_form l = 4 * l.levels + 2
 
 abbrev pub decreases-place_in_entry : goal.decreases-place_in_entry
 decreases-place_in_entry l = 4 * l.levels + 1

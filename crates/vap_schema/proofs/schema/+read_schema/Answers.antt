@@ -2,7 +2,8 @@ use Rattle.std.proofs.Common.{◌≡◌, ℕ, List, ◌-◌, ◌<◌, Ok, Err, a
 use Rattle.std.proofs.lemmas.Result.{err_from_is_err_and}
 use Rattle.failing.specs.Failures.{Answers}
 use Rattle.serde_json.specs.View.{view, items_view, members_view}
-use Rattle.vap_schema.specs.Schemas.{schema_type, form_type, fields_of, is_named, is_among}
+use Rattle.vap_schema.specs.Forms.{form_in}
+use Rattle.vap_schema.specs.Schemas.{schema_type, form_type, nested_type, fields_of, is_named, is_among}
 use Rattle.vap_fit.proofs.Rest.{behind, behind-none, behind-all}
 use Rattle.vap_fit.proofs.Ordered.{names_in_order}
 use Rattle.vap_schema.proofs.Levels.{too_deep, one_level, fields_stop, fields_go, field_named, same_fields, fields_in_order}
@@ -72,22 +73,23 @@ read_schema-returns-in_err-nullable t c =
     let some : 0 < c.args.levels = omega arith in
     let p = err_from_is_err_and c.from_residual.result c.from_residual.ensures.1 in
     rw (p.1, p.2)
-    (one_level c.args.levels (view c.args.schema.now) some ∙ c.in_err-nullable.ensures (schema_type (c.args.levels - 1)))
+    (one_level c.args.levels (view c.args.schema.now) some ∙ ap (nested_type (schema_type (c.args.levels - 1))) c.in_err-nullable.ensures)
 
 pub read_schema-returns : goal.read_schema-returns
 read_schema-returns t c =
     let some : 0 < c.args.levels = omega arith in
-    let here = one_level c.args.levels (view c.args.schema.now) some ∙ c.in_ok-nullable.ensures (schema_type (c.args.levels - 1)) in
+    let inner = schema_type (c.args.levels - 1) in
+    let here = one_level c.args.levels (view c.args.schema.now) some ∙ ap (nested_type inner) c.in_ok-nullable.ensures in
     subst (λ want. Answers want c.nullable_type.result) (sym here) (c.nullable_type.ensures _ c.read_form.ensures)
 
 pub read_form-returns-in-List : goal.read_form-returns-in-List
 read_form-returns-in-List t c =
-    subst (λ f. Answers (form_type (schema_type c.args.levels) f) c.list_of.result) (sym c.in-List.is)
+    subst (λ f. Answers (form_type (schema_type c.args.levels) (form_in f)) c.list_of.result) (sym c.in-List.is)
     (c.list_of.ensures _ c.read_schema.ensures)
 
 pub read_form-returns-in-Map : goal.read_form-returns-in-Map
 read_form-returns-in-Map t c =
-    subst (λ f. Answers (form_type (schema_type c.args.levels) f) c.map_of.result) (sym c.in-Map.is)
+    subst (λ f. Answers (form_type (schema_type c.args.levels) (form_in f)) c.map_of.result) (sym c.in-Map.is)
     (c.map_of.ensures _ c.read_entry.ensures)
 
 pub read_record-returns : goal.read_record-returns

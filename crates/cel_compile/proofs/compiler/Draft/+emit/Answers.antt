@@ -156,7 +156,7 @@ emit_within-returns-in-Local-clause-stands t c =
 pub emit_within-returns-in_ok-emit-in-Unary-clause-stands : goal.emit_within-returns-in_ok-emit-in-Unary-clause-stands
 emit_within-returns-in_ok-emit-in-Unary-clause-stands t c =
     on_ok_weaker c.put-in-Unary.result
-    (λ e. emits_unary _ _ _ _ _ _ _ _ c.in-Unary.is c.get.ensures c.in_ok-emit-in-Unary.ensures.stands c.code.ensures e)
+    (λ e. emits_unary _ _ _ _ _ _ _ _ c.in-Unary.is c.get.ensures c.in_ok-emit-in-Unary.ensures.stands c.code.ensures.number e)
     c.put-in-Unary.ensures.code
 
 pub emit_within-returns-in_ok-emit_over-in-Binary-clause-stands : goal.emit_within-returns-in_ok-emit_over-in-Binary-clause-stands
@@ -164,7 +164,7 @@ emit_within-returns-in_ok-emit_over-in-Binary-clause-stands t c =
     on_ok_weaker c.put-in-Binary.result
     (λ e.
     emits_binary _ _ _ _ _ _ _ _ _ _ _ c.in-Binary.is c.get-in-Binary.ensures c.get-in-Binary-2.ensures
-    c.in_ok-emit-in-Binary.ensures.stands c.in_ok-emit_over-in-Binary.ensures.stands c.code-in-Binary.ensures e)
+    c.in_ok-emit-in-Binary.ensures.stands c.in_ok-emit_over-in-Binary.ensures.stands c.code-in-Binary.ensures.number e)
     c.put-in-Binary.ensures.code
 
 pub emit_within-returns-in_ok-emit_over-in-Binary-clause-writes : goal.emit_within-returns-in_ok-emit_over-in-Binary-clause-writes

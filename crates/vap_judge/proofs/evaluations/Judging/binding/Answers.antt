@@ -15,5 +15,5 @@ params-requires c =
       subst (λ (q : Option Fitted). CanRun case q (types_of case q) c.in-Some-Runs.programs) (sym same)
           (can_run case c.args.policy.now c.in-Some-Runs.programs (sym c.in-Some-Runs.ensures ∙ ap Some c.in-Some-Runs.field-0-is)
           c.requires.case.held c.requires.ready),
-      c.requires.room,
+      c.requires.budget,
     )

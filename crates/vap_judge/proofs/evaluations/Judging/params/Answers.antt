@@ -1,4 +1,3 @@
-use Rattle.std.proofs.Common.{arith}
 use Rattle.std.specs.Option.{option_copied}
 use Rattle.vap_judge.specs.Shown.{case_of}
 use Rattle.vap_judge.proofs.Fitting.{null_runs}
@@ -12,8 +11,7 @@ run-requires g c =
         ready.within,
         (
           null_runs (case_of c.args.self.now.case.now) (option_copied c.args.params) g.types c.args.programs.now ready,
-          omega
-              (arith, c.requires.1),
+          c.requires.1,
         ),
       ),
     )

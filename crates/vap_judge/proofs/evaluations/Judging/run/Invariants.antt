@@ -1,4 +1,4 @@
 use Rattle.vap_judge.proofs.evaluations.Judging.run.Given as goal
 
-abbrev pub ghost-judge : goal.ghost-judge
-ghost-judge g a = g.types
+abbrev pub ghost-run_programs : goal.ghost-run_programs
+ghost-run_programs g a = g.types

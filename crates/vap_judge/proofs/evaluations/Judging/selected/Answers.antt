@@ -1,11 +1,10 @@
-use Rattle.std.proofs.Common.{arith, refl, sym, ap, ◌∙◌}
+use Rattle.std.proofs.Common.{refl, sym, ap, ◌∙◌}
+use Rattle.vap_judge.specs.Adds.{progress_of}
 use Rattle.vap_judge.specs.Judging.{at_none}
 use Rattle.vap_judge.specs.Params.{is_param}
-use Rattle.vap_judge.specs.Shown.{case_of, findings_of, lent_place, rule_of}
-use Rattle.vap_judge.proofs.Joined.{joined_none}
+use Rattle.vap_judge.specs.Shown.{case_of, lent_place, rule_of}
+use Rattle.vap_judge.proofs.Budget.{behind_none}
 use Rattle.vap_judge.proofs.KeptParams.{there_are, there_are_none}
-use Rattle.vap_judge.proofs.Steps.{said_adds}
-use Rattle.vap_judge.specs.Ready.{params_of_binding}
 use Rattle.vap_judge.proofs.evaluations.Judging.selected.Goals as goal
 
 pub returns-then-takes_one-clause-adds : goal.returns-then-takes_one-clause-adds
@@ -27,8 +26,8 @@ returns-in-Allow-clause-adds g c =
     ∙ ap (at_none (rule_of c.args.rule.now)) c.in-Allow.is
     ) (record {
       case = refl;
-      found = sym (joined_none (findings_of c.args.self.now.findings));
-      grows = omega arith;
+      progress = sym (behind_none (progress_of c.args.self.now));
+      within = c.requires.1;
     })
 
 pub returns-in-Deny-clause-adds : goal.returns-in-Deny-clause-adds
@@ -39,7 +38,7 @@ returns-in-Deny-clause-adds g c =
     (is_param (lent_place c.args.selection.now.place) c.args.selection.now.reference.now) c.args.selection.now.params.now.objects
     (sym c.takes_one.ensures ∙ c.if-takes_one.false)
     ∙ ap (at_none (rule_of c.args.rule.now)) c.in-Deny.is
-    ) (said_adds c.fail.result c.args.self.now c.fail.new.self _ params_of_binding c.fail.ensures.adds)
+    ) c.fail.ensures.adds
 
 pub returns-then-takes_one-clause-pattern : goal.returns-then-takes_one-clause-pattern
 returns-then-takes_one-clause-pattern g c =

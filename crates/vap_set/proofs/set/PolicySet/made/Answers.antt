@@ -1,12 +1,10 @@
-use Rattle.std.proofs.Common.{List, sym, ap, ◌∙◌, subst}
+use Rattle.std.proofs.Common.{List, ap, ◌∙◌}
 use Rattle.plain.specs.declared.text.Keyed.{Keyed}
 use Rattle.vap_kinds.specs.declared.kind.Kind.{Kind}
 use Rattle.vap_objects.specs.Listed.{kinds_in}
 use Rattle.vap_policies.specs.declared.policy.Policy.{Policy}
 use Rattle.vap_params.specs.Fitted.{all_params}
-use Rattle.vap_set.specs.Ready.{AreFew}
 use Rattle.vap_set.specs.declared.definitions.Definitions.{Definitions}
-use Rattle.vap_set.specs.declared.rules.Rules.{Rules}
 use Rattle.vap_set.proofs.MadeSets.{rules_chosen, rules_made}
 use Rattle.vap_set.proofs.set.PolicySet.made.Goals as goal
 
@@ -24,7 +22,6 @@ invariant_of-result c =
         is = rules_made objects c.in_ok-rules-2.rules c.in_ok-rules.rules c.in_ok-rules-2.ensures rules.kinds rules.policies
             c.events-events.ensures.exact params (c.in_ok-share.ensures ∙ c.requires.namespaces);
       },
-      subst (λ (r : Rules). AreFew r.policies) (sym c.in_ok-rules-2.ensures) rules.few,
       rules_chosen objects c.in_ok-rules-2.rules c.in_ok-rules.rules c.in_ok-rules-2.ensures rules.policies rules.choice,
     )
 

@@ -1,10 +1,10 @@
-use Rattle.std.proofs.Common.{List, ap, sym, subst, ◌∙◌}
+use Rattle.std.proofs.Common.{List, ap, subst, ◌∙◌}
 use Rattle.vap_set.specs.Index.{AreEnough}
-use Rattle.vap_set.specs.Ready.{AreFew, IsReadyAt}
+use Rattle.vap_set.specs.Ready.{IsReadyAt}
 use Rattle.vap_set.specs.Sets.{Holdings, IsOfObjects, policies_of}
 use Rattle.vap_set.specs.declared.bound.BoundPolicy.{BoundPolicy}
 use Rattle.vap_set.specs.declared.rules.Rules.{Rules}
-use Rattle.vap_set.proofs.Chosen.{chosen_all, few_chosen}
+use Rattle.vap_set.proofs.Chosen.{chosen_all}
 use Rattle.vap_set.proofs.Standing.{set_ready}
 use Rattle.vap_set.proofs.set.PolicySet.policies_on.Goals as goal
 
@@ -23,8 +23,3 @@ returns-clause-ready c = λ k first.
     set_ready c.pairs_are_ready.ensures.ready c.pairs_are_ready.ensures.within h
     (subst IsOfObjects c.self.view_is c.self.invariant.0) k first
     )
-
-pub returns-clause-few : goal.returns-clause-few
-returns-clause-few c =
-    few_chosen c.args.group.now c.args.resource.now c.get.result.now.policies c.on.result.now c.on.ensures
-    (subst (λ (r : Rules). AreFew r.policies) (sym c.get.ensures) c.self.invariant.1)

@@ -3,7 +3,6 @@ use Rattle.std.specs.List.{All}
 use Rattle.vap_objects.specs.Listed.{policies_in}
 use Rattle.vap_params.specs.Fitted.{Fitted, refitted}
 use Rattle.vap_set.specs.Patterns.{IsChoiceFor, of_policies}
-use Rattle.vap_set.specs.Ready.{AreFew}
 use Rattle.vap_params.specs.Reuse.{AreStill}
 use Rattle.vap_set.specs.Sets.{Holdings, IsChosen, held_by, holdings_of, of_bound}
 use Rattle.vap_set.specs.declared.choice.Choice.{Choice}
@@ -42,8 +41,7 @@ held c =
 pub invariant_of-result : goal.invariant_of-result
 invariant_of-result c = (
   record { objects = c.args.objects.now; is = held c },
-  subst (λ (r : Rules). AreFew r.policies) (sym c.in_ok-share.ensures) c.self.invariant.1,
-  subst (λ (r : Rules). IsChoiceFor (of_bound r.policies) r.choice.refused) (sym c.in_ok-share.ensures) c.self.invariant.2,
+  subst (λ (r : Rules). IsChoiceFor (of_bound r.policies) r.choice.refused) (sym c.in_ok-share.ensures) c.self.invariant.1,
 )
 
 pub returns-clause-is : goal.returns-clause-is
@@ -56,5 +54,5 @@ returns-clause-choice c =
     (sym (ap (λ (r : Rules). r.choice) c.in_ok-share.ensures ∙ ap (λ (x : Holdings). x.choice) c.self.view_is))
     (
     others_chosen h c.args.events.now c.args.objects.now c.requires.before c.requires.missed
-    (subst IsChosen c.self.view_is c.self.invariant.2)
+    (subst IsChosen c.self.view_is c.self.invariant.1)
     )
