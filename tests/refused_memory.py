@@ -2,8 +2,8 @@
 """Runs what `rt ci` built with its first allocation refused, then with its second, and so on to the last that it makes.
 
 The program is run on the first expression, on one with loops and on vectors of each answer, and then must give its right answer, or end
-with status 4 and nothing on standard output; and so are `eval` of times, `check` and `replay` on their examples, `replay` on the lines
-of replay-policies.jsonl that have `"refused"`, and `image encode` and `image decode` on the expressions and images of
+with status 4 and nothing on standard output; and so are `eval` of times, `check`, `replay`, `report` and `kinds` on their examples,
+`replay` on the lines of replay-policies.jsonl that have `"refused"`, and `image encode` and `image decode` on the expressions and images of
 language_calls-bytes.jsonl, all of which may have written whole lines of their answer before. The programs that make calls are run on
 each of their lines, tests/vectors/*_calls-*.jsonl, that has `"refused"`, and must give its right answer, or end with another status
 than 0 and write nothing else.
@@ -33,6 +33,9 @@ COMMANDS = [
     ["eval", "--", TIMES],
     ["check", TOP / "examples/rule.json"],
     ["replay", "--audit", TOP / "examples/stream.jsonl"],
+    ["report", TOP / "examples/stream.jsonl"],
+    ["report", "--output", "json", TOP / "examples/stream.jsonl"],
+    ["kinds", TOP / "examples/openapi.json"],
 ]
 VECTORS = 50
 MOST = 100_000

@@ -26,6 +26,7 @@ drafts board old next = record { board = board; old = old; next = next }
 abbrev pub shown_code : {X : Type 0} → Coded X → Coded (Shown X)
 shown_code c = code_by (Book × _) (coded× book_coded (coded_list c)) (λ s. (s.board, s.list)) (λ p. shows p.0 p.1) (λ _. refl)
 
+-- the code of a list that is shown while its next one is made
 abbrev pub drafted_code : {X : Type 0} → Coded X → Coded (Drafted X)
 drafted_code c = code_by (Book × (_ × _)) (coded× book_coded (coded× (coded_list c) (coded_list c))) (λ d. (d.board, (d.old, d.next)))
     (λ p. drafts p.0 p.1.0 p.1.1) (λ _. refl)

@@ -7,10 +7,12 @@
 
 mod asked;
 mod question;
+mod reviews;
 mod showing;
 mod types;
 
 pub use asked::{Asked, unknown};
 pub use question::{json, quoted, unreadable};
+pub use reviews::request_in;
 pub use showing::{put, put_type, shown, shown_type};
-pub use types::{parts_of, put_types, type_of, typed, types_of, value_at};
+pub use types::{part_at, parts_of, put_types, type_of, typed, types_of, value_at};

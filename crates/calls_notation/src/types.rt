@@ -3,6 +3,7 @@
 
 use crate::question::json;
 use cel_value::{CelType, Field, Value};
+use json_documents::Part;
 use plain::{Items, Shared, Text, TextMap};
 use serde_json::{Map, Value as Json};
 use std::alloc::{AllocError, Global};
@@ -44,6 +45,15 @@ pub fn put_types(
 
 /// The value of a document at a type. A document that is none is as null.
 pub fn value_at(alloc: Global, cel_type: &Json, document: &Json) -> Result<Value, AllocError> {
+    part_at(alloc, cel_type, &Part::of_tree(document))
+}
+
+/// The value of a part at a type. A part that is none is as null.
+pub fn part_at(
+    alloc: Global,
+    cel_type: &Json,
+    document: &Part<'_, '_>,
+) -> Result<Value, AllocError> {
     let cel_type = type_of(alloc, cel_type)?;
     match fit(alloc, document, &cel_type, "") {
         Ok(value) => Ok(value),

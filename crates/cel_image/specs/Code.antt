@@ -81,9 +81,11 @@ magic = 86 ∷ 65 ∷ 80 ∷ 73 ∷ []
 abbrev pub front_of : Image → Front
 front_of i = record { slots = i.slots; constants = i.constants; targets = i.targets; result = i.result }
 
+-- the bytes of what an image has in front of its code
 abbrev pub front : Front → List ℕ
 front f = types f.slots ++ (listed constant f.constants ++ (listed target f.targets ++ type_spelling f.result))
 
+-- whether what an image has in front of its code has bytes
 abbrev pub is_front : Front → Bool
 is_front f =
     are_types f.slots && (is_list (λ _ v. is_constant v) f.constants
@@ -99,6 +101,7 @@ abbrev pub declaration : Option ℕ → List ℕ
 declaration None = []
 declaration (Some n) = be64 n
 
+-- whether the number that an image declares has bytes
 abbrev pub is_declaration : Option ℕ → Bool
 is_declaration None = true
 is_declaration (Some n) = nat_lt n (2 ^ 64)

@@ -97,6 +97,7 @@ code_at = list_at (λ _. instr_at)
 abbrev pub image_from : Front × List Instr → Image
 image_from p = image_with p.0 None p.1
 
+-- what is behind version 1
 abbrev pub parts_at : Reader (Front × List Instr)
 parts_at = both front_at code_at
 
@@ -104,6 +105,7 @@ parts_at = both front_at code_at
 abbrev pub declared_from : Front × (ℕ × List Instr) → Image
 declared_from p = image_with p.0 (Some p.1.0) p.1.1
 
+-- what is behind version 2
 abbrev pub declared_at : Reader (Front × (ℕ × List Instr))
 declared_at = both front_at (both (number_at w64) code_at)
 

@@ -1,4 +1,4 @@
-ghost use Rattle.std.specs.Prelude.{◌≡◌, ◌<◌, ◌≤◌, true, Some, IfOk, IsErrOf, length};
+ghost use Rattle.std.specs.Prelude.{ℕ, ◌≡◌, ◌<◌, ◌≤◌, true, Some, IfOk, IsErrOf, length};
 ghost use Rattle.failing.specs.declared.failed.Failed.TheVariants.{Fault};
 ghost use Rattle.cel_machine.specs.declared.fault.RunFault.TheVariants.{Pattern};
 ghost use Rattle.cel_operators.specs.Outcomes.{slots_fit};
@@ -23,7 +23,7 @@ use cel_verify::Program;
 use std::alloc::{AllocError, Global};
 
 /// Runs a program where its slots hold these. The run is the definition's; it ends within as many steps as the longest
-/// route has, for no more than the dearest route and no more than the budget, with an outcome of the image's type.
+/// route has, for no more than the dearest route, the budget and what the image declares, with an outcome of its type.
 /// Constants and what the slots hold are lent to it: memory is taken for the stack and the open loops, once, before the
 /// first step, for the lists and maps that literals and loops make, for the texts, lists and copied items that operators
 /// answer with, for items of lists that the run made and for keys of maps where a loop's body names them, for patterns
@@ -45,6 +45,7 @@ pub fn run<'a>(
     ensures steps { IfOk result (λ r. IsWithin (IsRouteLength program.now) r.steps) }
     ensures charged { IfOk result (λ r. IsWithin (IsRouteCharge program.now) r.charged) }
     ensures within_budget { IfOk result (λ r. r.charged ≤ budget) }
+    ensures declared { IfOk result (λ r. (most : ℕ) → program.now.declared ≡ Some most → (r.charged ≤ most) × (most ≤ budget)) }
     ensures pattern { IsErrOf result (Fault Pattern) → HasMatches program.now }
 {
     let image = program.image();

@@ -1,13 +1,15 @@
 //! What the names of a policy's expressions hold at a request.
 
 use crate::matching::take_line;
-use calls_notation::{Asked, json, put, shown, shown_type, type_of, unknown};
+use calls_notation::{Asked, json, put, request_in, shown, shown_type, type_of, unknown};
 use cel_value::{CelError, CelType, Value};
+use json::Scratch;
+use json_documents::Part;
 use serde_json::Value as Json;
 use std::alloc::{AllocError, Global};
 use vap_objects::Objects;
 use vap_read::Object;
-use vap_request::{Request, ReviewError};
+use vap_request::{OpenRequest, Request, ReviewError};
 use vap_slots::{FixedTypes, Held, held_at, request_type, request_value};
 
 /// The answer to a call of what is held.
@@ -81,7 +83,7 @@ fn shown_member_of(alloc: Global, request: &Request, name: &str) -> Result<Strin
 /// What `request` holds under a name, where the review's request has these members, each behind a comma.
 fn member(alloc: Global, name: &str, members: &str) -> Result<String, AllocError> {
     let review = review_with(alloc, name, members)?;
-    match Request::from_json(alloc, json(alloc, review.as_str())?) {
+    match request_in(alloc, review.as_str()) {
         Ok(request) => shown_member_of(alloc, &request, name),
         Err(ReviewError::Fault(fault)) => String::from_str(alloc, fault.name()),
         Err(ReviewError::OutOfMemory) => Err(AllocError),
@@ -151,7 +153,10 @@ fn held(
 ) -> Result<String, AllocError> {
     let namespace = namespace_of(alloc, objects, request)?;
     let types = FixedTypes::new(alloc)?;
-    match held_at(alloc, &types, namespace, cel_type, request)? {
+    let mut scratch = Scratch::new(alloc);
+    let tape = request.admission().review.tape(alloc, &mut scratch)?;
+    let open = OpenRequest::new(request, Part::new(tape.root()));
+    match held_at(alloc, &types, namespace, cel_type, &open)? {
         Ok(held) => shown_slot(alloc, &held, slot),
         Err(fault) => format!(in alloc; "{}: {}", fault.path.as_str(), fault.kind.name()),
     }
@@ -162,10 +167,10 @@ fn held_of(
     alloc: Global,
     objects: &Objects,
     cel_type: &CelType,
-    review: Json,
+    review: &str,
     slot: Slot<'_>,
 ) -> Result<String, AllocError> {
-    match Request::from_json(alloc, review) {
+    match request_in(alloc, review) {
         Ok(request) => held(alloc, objects, cel_type, &request, slot),
         Err(ReviewError::Fault(fault)) => String::from_str(alloc, fault.name()),
         Err(ReviewError::OutOfMemory) => Err(AllocError),
@@ -181,8 +186,7 @@ fn held_with(
     slot: Slot<'_>,
 ) -> Result<String, AllocError> {
     let review = review_with(alloc, "operation", members)?;
-    let review = json(alloc, review.as_str())?;
-    held_of(alloc, objects, cel_type, review, slot)
+    held_of(alloc, objects, cel_type, review.as_str(), slot)
 }
 
 /// The type of the rows of objects: an integer that there is, and a text that may be absent.
@@ -200,8 +204,13 @@ fn namespace(alloc: Global, list: &str, members: &str) -> Result<String, AllocEr
     let mut objects = Objects::new(alloc);
     take_line(alloc, &mut objects, json(alloc, list)?)?;
     let review = review_with(alloc, "resource", members)?;
-    let review = json(alloc, review.as_str())?;
-    held_of(alloc, &objects, &CelType::Opaque, review, Slot::Namespace)
+    held_of(
+        alloc,
+        &objects,
+        &CelType::Opaque,
+        review.as_str(),
+        Slot::Namespace,
+    )
 }
 
 /// What `request` holds under a name at a request whose members are these, each behind a comma.

@@ -1,10 +1,11 @@
-//! Labels, selectors, rules, reviews, policies, bindings, lines as events, and what events leave.
+//! Documents, labels, selectors, rules, reviews, policies, bindings, lines as events, and what events leave.
 
 use calls_notation::{Asked, unknown};
 use std::alloc::{AllocError, Global};
 
 mod bindings;
 mod covered;
+mod documents;
 mod events;
 mod faults;
 mod forms;
@@ -25,6 +26,7 @@ pub fn answer(alloc: Global, asked: &Asked) -> Result<String, AllocError> {
     match asked.part {
         "bindings" => bindings::answer(alloc, asked),
         "covered" => covered::answer(alloc, asked),
+        "documents" => documents::answer(alloc, asked),
         "events" => events::answer(alloc, asked),
         "faults" => faults::answer(alloc, asked),
         "forms" => forms::answer(alloc, asked),

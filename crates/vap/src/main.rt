@@ -1,5 +1,5 @@
 //! The program `vap`: what the words of its command line ask for, done by the commands of vap_cli,
-//! vap_check, vap_image and vap_replay.
+//! vap_check, vap_image, vap_replay, vap_report and vap_openapi.
 //!
 //! [`problem::Problem::status`] tells how the program ends where it prints no answer.
 #![tactic(auto)]
@@ -23,7 +23,9 @@ use vap_check::check_to;
 use vap_cli::{Counted, EvalError, Status, eval_to, note_of};
 use vap_command_line::{Task, asked};
 use vap_image::{decode_to, encode_to};
+use vap_openapi::kinds_to;
 use vap_replay::replay_with;
+use vap_report::{Output, report_to};
 
 fn main(rt: HostRuntime) -> ExitCode {
     let is_watched = rt.stderr().is_terminal();
@@ -55,7 +57,14 @@ fn obey<R: Env + Files + Input + Clock + Print + Eprint + AllocGlobal + Threads 
             file,
             workers,
             audit,
-        } => replay_file(rt, file, workers, audit, is_watched),
+            summary,
+        } => {
+            let meter = Meter::new(rt, is_watched, summary);
+            replay_file(rt, file, workers, audit, meter)
+        }
+        Task::Report { file, json: true } => report_file(rt, file, Output::Json),
+        Task::Report { file, json: false } => report_file(rt, file, Output::Text),
+        Task::Kinds { file } => kinds_file(rt, file),
     }
 }
 
@@ -127,38 +136,93 @@ fn decode<R: Print + AllocGlobal, F: Read + Drop>(rt: &R, file: F) -> Result<Sta
     Ok(decode_to(rt.alloc(), &mut file, &mut out)?)
 }
 
+/// Prints which policies of a file are accepted, or of standard input where the file is `-`.
+fn report_file<R: Files + Input + Print + Eprint + AllocGlobal>(
+    rt: &R,
+    file: &str,
+    output: Output,
+) -> Result<Status, Problem> {
+    if file == "-" {
+        return report(rt, rt.reader(), output);
+    }
+    match fs::open(rt, file) {
+        Ok(opened) => report(rt, opened, output),
+        Err(error) => Err(Problem::not_opened(&error)),
+    }
+}
+
+/// Prints which policies of a reader's bytes are accepted, and what is wrong with the bytes where they are refused.
+fn report<R: Print + Eprint + AllocGlobal, F: Read + Drop>(
+    rt: &R,
+    file: F,
+    output: Output,
+) -> Result<Status, Problem> {
+    let mut file = Counted::new(file);
+    let mut out = Counted::new(io::writer(rt));
+    let ended = report_to(rt.alloc(), output, &mut file, &mut out)?;
+    let status = ended.status;
+    explain(rt, Ok(ended.note));
+    Ok(status)
+}
+
+/// Prints the definitions of the kinds in a file's document, or in that of standard input where the file is `-`.
+fn kinds_file<R: Files + Input + Print + Eprint + AllocGlobal>(
+    rt: &R,
+    file: &str,
+) -> Result<Status, Problem> {
+    if file == "-" {
+        return kinds(rt, rt.reader());
+    }
+    match fs::open(rt, file) {
+        Ok(opened) => kinds(rt, opened),
+        Err(error) => Err(Problem::not_opened(&error)),
+    }
+}
+
+/// Prints the definitions of the kinds in the document of a reader's bytes, and what is wrong with it where it is refused.
+fn kinds<R: Print + Eprint + AllocGlobal, F: Read + Drop>(
+    rt: &R,
+    file: F,
+) -> Result<Status, Problem> {
+    let mut file = Counted::new(file);
+    let mut out = Counted::new(io::writer(rt));
+    let ended = kinds_to(rt.alloc(), &mut file, &mut out)?;
+    let status = ended.status;
+    explain(rt, Ok(ended.note));
+    Ok(status)
+}
+
 /// Prints the answers to the reviews of a file, or of standard input where the file is `-`.
 fn replay_file<R: Files + Input + Clock + Print + Eprint + AllocGlobal + Threads + Wait + Sync>(
     rt: &R,
     file: &str,
     workers: u8,
     audit: bool,
-    is_watched: bool,
+    meter: Meter<'_, R>,
 ) -> Result<Status, Problem>
     requires { (1 ≤ workers) × (workers ≤ 16) }
 {
     if file == "-" {
-        return replay_from(rt, rt.reader(), workers, audit, is_watched);
+        return replay_from(rt, rt.reader(), workers, audit, meter);
     }
     match fs::open(rt, file) {
-        Ok(opened) => replay_from(rt, opened, workers, audit, is_watched),
+        Ok(opened) => replay_from(rt, opened, workers, audit, meter),
         Err(error) => Err(Problem::not_opened(&error)),
     }
 }
 
-/// Prints the answers to the reviews of a stream, and, where somebody watches, how far it is.
+/// Prints the answers to the reviews of a stream; the meter tells how far it is.
 fn replay_from<R: Clock + Print + Eprint + AllocGlobal + Threads + Wait + Sync, I: Read + Drop>(
     rt: &R,
     input: I,
     workers: u8,
     audit: bool,
-    is_watched: bool,
+    mut meter: Meter<'_, R>,
 ) -> Result<Status, Problem>
     requires { (1 ≤ workers) × (workers ≤ 16) }
 {
     let mut input = Counted::new(input);
     let mut output = Counted::new(io::writer(rt));
-    let mut meter = Meter::new(rt, is_watched);
     let replayed = replay_with(
         rt,
         rt.alloc(),
@@ -168,7 +232,6 @@ fn replay_from<R: Clock + Print + Eprint + AllocGlobal + Threads + Wait + Sync, 
         audit,
         &mut meter,
     );
-    meter.end();
     match replayed {
         Ok(()) => Ok(Status::Done),
         Err(error) => Err(Problem::Unreplayed(error)),

@@ -1,57 +1,90 @@
-//! One line on a terminal that tells how far a replay is.
+//! One line on a terminal that tells how far a replay is, and what it came to.
 
 use std::time::{Clock, Duration, Instant};
+use vap_audit::History;
 use vap_replay::Progress;
+use vap_summary::summary_of;
 
-/// The least time between two tellings, in milliseconds.
-const PAUSE: u64 = 100;
+/// The least time between two tellings, in seconds.
+const PAUSE: u64 = 1;
 
-/// Tells on standard error how far a replay is, at most ten times a second, where somebody watches.
+/// Tells on standard error how far a replay is, once a second, where somebody watches, and at the end what it came to, where that is
+/// asked for.
 #[derive(Drop)]
 pub struct Meter<'a, R> {
     rt: &'a R,
     is_watched: bool,
+    has_summary: bool,
+    begun: Option<Instant>,
     last: Option<Instant>,
 }
 
-impl<'a, R: Clock + Eprint> Meter<'a, R> {
-    pub fn new(rt: &'a R, is_watched: bool) -> Meter<'a, R> {
+impl<'a, R: Clock + Eprint + AllocGlobal> Meter<'a, R> {
+    pub fn new(rt: &'a R, is_watched: bool, has_summary: bool) -> Meter<'a, R> {
         Meter {
             rt,
             is_watched,
+            has_summary,
+            begun: None,
             last: None,
         }
     }
 
-    /// Whether it is time to tell again. Where there is no clock, it never is.
-    fn is_due(&mut self) -> bool {
-        let Ok(now) = Instant::now(self.rt) else {
-            return false;
-        };
-        let is_due = match self.last {
-            Some(last) => now.duration_since(last) >= Duration::from_millis(PAUSE),
-            None => true,
-        };
-        if is_due {
-            self.last = Some(now);
+    /// The time since the first telling, where it is time to tell again. Where there is no clock, it never is.
+    fn due(&mut self) -> Option<Duration> {
+        let now = Instant::now(self.rt).ok()?;
+        if let Some(last) = self.last {
+            if now.saturating_duration_since(last) < Duration::from_secs(PAUSE) {
+                return None;
+            }
         }
-        is_due
+        self.last = Some(now);
+        let begun = self.begun.unwrap_or(now);
+        self.begun = Some(begun);
+        Some(now.saturating_duration_since(begun))
     }
 
     /// Ends the line, where one was begun. What cannot be told is left out.
-    pub fn end(&self) {
-        if self.last.is_some() {
+    fn end(&mut self) {
+        if self.last.take().is_some() {
             let _ = eprintln!(self.rt; "");
+        }
+    }
+
+    fn tell(&self, history: &History) {
+        match summary_of(self.rt, self.rt.alloc(), history) {
+            Ok(summary) => {
+                let _ = eprint!(self.rt; "{}", summary.as_str());
+            }
+            Err(_) => {
+                let _ = eprintln!(self.rt; "vap: there is no memory for the summary");
+            }
         }
     }
 }
 
-impl<'a, R: Clock + Eprint> Progress for Meter<'a, R> {
+/// How many of these a second came, in so much time.
+fn rate_of(count: usize, time: Duration) -> u64 {
+    (count as u64).checked_div(time.as_secs()).unwrap_or(0)
+}
+
+impl<'a, R: Clock + Eprint + AllocGlobal> Progress for Meter<'a, R> {
     fn reached(&mut self, lines: u64, reviews: usize, revision: usize) {
-        if self.is_watched && self.is_due() {
+        if !self.is_watched {
+            return;
+        }
+        if let Some(time) = self.due() {
+            let rate = rate_of(reviews, time);
             let _ = eprint!(self.rt;
-                "\r{lines} lines, {reviews} reviews answered, revision {revision}"
+                "\r{lines} lines, {rate} reviews a second, revision {revision}\x1b[K"
             );
+        }
+    }
+
+    fn replayed(&mut self, history: &History) {
+        self.end();
+        if self.has_summary {
+            self.tell(history);
         }
     }
 }

@@ -1,9 +1,7 @@
 -- Histories may go to another thread, type by type: each search ends at what was shown before it.
 use denote.Param.Send.{IsSend, IsSync, sendable}
 use Rattle.std.proofs.Crossing.{crosses}
-use Rattle.std.proofs.MapsCrossing.{crosses as map_crosses}
-use Rattle.serde_json.proofs.value.Value.TheLaws.TheKnot.{crosses as json_crosses}
-use Rattle.serde_json.specs.contracts.value.Value as json
+use Rattle.json_documents.proofs.Crossing.{document_send, document_sync}
 use Rattle.vap_answer.proofs.Crossing.{verdict_send, verdict_sync}
 use Rattle.vap_watch.proofs.Crossing.{log_send, log_sync}
 use Rattle.vap_request.specs.contracts.request.Admission as admission
@@ -11,17 +9,11 @@ use Rattle.vap_request.specs.contracts.request.Request as request
 use Rattle.vap_audit.specs.contracts.entry.Entry as entry
 use Rattle.vap_audit.specs.contracts.history.History as history
 
-json_send : IsSend json.the_field.row
-json_send = search (json_crosses, map_crosses, sendable, crosses) depth 60 fits 200000
-
-json_sync : IsSync json.the_field.row
-json_sync = search (json_crosses, map_crosses, sendable, crosses) depth 60 fits 200000
-
 admission_send : IsSend admission.the_field.row
-admission_send = search (json_send, json_sync, sendable, crosses) depth 60 fits 200000
+admission_send = search (document_send, document_sync, sendable, crosses) depth 60 fits 200000
 
 admission_sync : IsSync admission.the_field.row
-admission_sync = search (json_send, json_sync, sendable, crosses) depth 60 fits 200000
+admission_sync = search (document_send, document_sync, sendable, crosses) depth 60 fits 200000
 
 pub request_send : IsSend request.the_field.row
 request_send = search (admission_send, admission_sync, sendable, crosses) depth 60 fits 200000

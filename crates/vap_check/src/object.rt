@@ -12,6 +12,7 @@ use cel_expression::Compiled;
 use cel_machine::{Matchers, RunError, RunFault, Slots};
 use cel_run::run;
 use cel_value::{CelError, Value};
+use json_documents::Part;
 use serde_json::Value as Json;
 use std::alloc::{AllocError, Global};
 use vap_schema::{FitError, fit};
@@ -21,7 +22,12 @@ pub fn judged(alloc: Global, made: &Made, document: &Json) -> Result<Judgement, 
     requires { made.now.compiled.names ≡ names_over made.now.schema }
     ensures { IfOk result (IsJudged made.now (view document.now)) }
 {
-    match fit(alloc, document, made.schema.object_type(), "object") {
+    match fit(
+        alloc,
+        &Part::of_tree(document),
+        made.schema.object_type(),
+        "object",
+    ) {
         Ok(value) => run_at(alloc, &made.compiled, &value),
         Err(FitError::Fault(fault)) => Ok(Judgement::Misfit(fault)),
         Err(FitError::OutOfMemory) => Err(AllocError),

@@ -4,6 +4,7 @@
 #![tactic(auto)]
 
 mod mistake;
+mod notes;
 mod words;
 
 pub use mistake::Mistake;

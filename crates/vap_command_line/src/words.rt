@@ -4,101 +4,12 @@ ghost use Rattle.std.specs.Prelude.{IfOk, IfSome};
 ghost use Rattle.vap_command_line.specs.Task.{HasWorkersInRange};
 
 use crate::mistake::Mistake;
+use crate::notes::{
+    CHECK_NOTES, DECODE_NOTES, ENCODE_NOTES, EVAL_NOTES, KINDS_NOTES, REPLAY_NOTES, REPORT_NOTES,
+};
 use clap::error::ErrorKind;
 use clap::{Arg, ArgAction, ArgMatches, Command, value_parser};
 use std::alloc::{AllocError, Global};
-
-const EVAL_NOTES: &str = "\
-Prints one line, and ends with the status behind it:
-  VALUE                  the value, as compact JSON                  0
-  error: NAME            the evaluation ends with this error         1
-  refused: NAME at BYTE  the text is no expression, or has no type:
-                         what is wrong, and where it stands          1
-  refused: OverBudget N  it may charge N, which is more than
-                         10000000                                    1
-
-BYTE counts from 0. What a refusal or an error means stands on standard error. Other
-statuses, with the reason on standard error, are 2 for a bad command line, 3 where a write
-failed and 4 for want of memory. The language, and each NAME, is described in
-docs/LANGUAGE.md, beside the program's sources.
-
-An expression that begins with a minus goes after `--`, or in parentheses.
-
-Examples:
-  vap eval '1 + 2 * 3 == 7 && !(4 < 3)'
-  vap eval -- '-7 / 2'";
-
-const CHECK_NOTES: &str =
-    r#"FILE, or standard input where it is `-`, has at most 1048576 bytes. It is a JSON object:
-
-  {
-    "schema": {
-      "type": "object",
-      "properties": {"spec": {"type": "object", "properties": {
-        "items": {"type": "array", "maxItems": 100, "items": {"type": "string", "maxLength": 50}}
-      }}}
-    },
-    "expression": "object.spec.items.all(x, size(x) < 10)",
-    "object": {"spec": {"items": ["ab", "abc"]}}
-  }
-
-The schema is that of a CustomResourceDefinition, the one name in scope is `object`, and an
-object need not be given. For this file the answer is:
-
-  estimate 904           the most that the expression charges, for any object
-  value true             the value, as compact JSON, or `error: NAME`
-  charged 14             what it charged
-
-The status is 0 where the value is true or there is no object, else 1. A file, a schema, an
-expression or an object that is refused gives a line `refused: NAME`, with `at BYTE` behind
-it where the expression is at fault, and status 1. What it means, and where it stands, is on
-standard error. Other statuses are 2 for a bad command line, 3 where FILE does not open, a
-read or a write failed, and 4 for want of memory.
-
-Examples:
-  vap check examples/rule.json
-  vap check - < examples/rule.json"#;
-
-const ENCODE_NOTES: &str = "\
-Writes the bytes to standard output, and ends with the status 0. An expression that is
-refused gives a line `refused: NAME at BYTE`, as of `vap eval`, and one whose image has a type
-too deep for the format `refused: NoSpelling`; the status is then 1. Other statuses are 2 for a
-bad command line, 3 where a write failed, and 4 for want of memory. The format is described
-in docs/LANGUAGE.md, beside the program's sources.
-
-Example:
-  vap image encode '[1, 2].all(x, x > 0)' > image.bin";
-
-const DECODE_NOTES: &str = "\
-FILE has at most 1048576 bytes. Prints a line for each slot, constant and target, for the type
-of the outcome and for each instruction; then the most steps that a run takes, the most that
-it charges and the most operands that it has at a time; and, where there are no slots, what
-the run comes to, `value V` or `error: NAME`, and `charged N`.
-
-Bytes that are no image give `refused: NAME`, and an image that is not accepted ends with
-`refused: NAME at N`, where N is the number of an instruction. The status is 0 where the image
-is accepted and comes to no error, else 1. Other statuses are 2 for a bad command line, 3 where
-FILE does not open, a read or a write failed, and 4 for want of memory. The instructions, and
-each NAME, are described in docs/LANGUAGE.md, beside the program's sources.
-
-Example:
-  vap image encode '1 + 2' | vap image decode -";
-
-const REPLAY_NOTES: &str = "\
-Each line is a watch event, a List or an AdmissionReview, as JSON; a line that is empty, or a
-carriage return alone, is skipped. An event changes the objects for the lines behind it. Each
-review is answered by the policies that then stand, one line of compact JSON each, in order;
-with --audit, at the end a line follows for each review.
-
-The first line that is refused ends the run, with `line N: NAME` on standard error and the
-status 1; what was answered before it stands. Other statuses are 2 for a bad command line, 3
-where FILE is not opened, or a read or a write failed, and 4 for want of memory. What lines
-may hold, and each NAME, is described in docs/EVENTS.md and docs/REPLAY.md, beside the
-program's sources.
-
-Examples:
-  vap replay examples/stream.jsonl
-  vap replay --audit --workers 4 - < examples/stream.jsonl";
 
 /// What the words ask for.
 #[derive(Debug, Drop)]
@@ -124,8 +35,21 @@ pub enum Task<'a> {
         file: &'a str,
         workers: u8,
         audit: bool,
+        summary: bool,
+    },
+    /// Which policies of a file are accepted, as JSON or for people; `-` is standard input.
+    Report {
+        file: &'a str,
+        json: bool,
+    },
+    /// The definitions of the kinds in the OpenAPI document of a file; `-` is standard input.
+    Kinds {
+        file: &'a str,
     },
 }
+
+/// What a report may be written as.
+static OUTPUTS: [&str; 2] = ["text", "json"];
 
 fn command<'a>(alloc: Global) -> Result<Command<'a>, AllocError> {
     let program = Command::new(alloc, "vap")
@@ -138,7 +62,9 @@ fn command<'a>(alloc: Global) -> Result<Command<'a>, AllocError> {
         .subcommand(eval(alloc)?)?
         .subcommand(check(alloc)?)?
         .subcommand(image(alloc)?)?
-        .subcommand(replay(alloc)?)
+        .subcommand(replay(alloc)?)?
+        .subcommand(report(alloc)?)?
+        .subcommand(kinds(alloc)?)
 }
 
 fn eval<'a>(alloc: Global) -> Result<Command<'a>, AllocError> {
@@ -203,12 +129,44 @@ fn replay<'a>(alloc: Global) -> Result<Command<'a>, AllocError> {
         .long("audit")
         .action(ArgAction::SetTrue)
         .help("Prints a line for each review at the end");
+    let summary = Arg::new(alloc, "summary")
+        .long("summary")
+        .action(ArgAction::SetTrue)
+        .help("Prints a table to standard error at the end: what each policy found");
     Command::new(alloc, "replay")
         .about("Replays a stream of events and reviews and prints the answers")
         .after_help(REPLAY_NOTES)
         .arg(file)?
         .arg(workers)?
-        .arg(audit)
+        .arg(audit)?
+        .arg(summary)
+}
+
+fn report<'a>(alloc: Global) -> Result<Command<'a>, AllocError> {
+    let file = Arg::new(alloc, "FILE")
+        .required(true)
+        .help("A stream or a JSON document, or `-` for standard input");
+    let output = Arg::new(alloc, "output")
+        .long("output")
+        .value_name("FORM")
+        .value_parser(OUTPUTS.as_slice())
+        .default_value("text")
+        .help("For people, or one JSON document for machines");
+    Command::new(alloc, "report")
+        .about("Tells which policies are accepted, at which kinds, and what they may charge")
+        .after_help(REPORT_NOTES)
+        .arg(file)?
+        .arg(output)
+}
+
+fn kinds<'a>(alloc: Global) -> Result<Command<'a>, AllocError> {
+    let file = Arg::new(alloc, "FILE")
+        .required(true)
+        .help("An OpenAPI v3 document, or `-` for standard input");
+    Command::new(alloc, "kinds")
+        .about("Writes the definitions of the kinds in an OpenAPI document")
+        .after_help(KINDS_NOTES)
+        .arg(file)
 }
 
 /// What the words ask for.
@@ -225,27 +183,40 @@ fn task_in<'a>(matches: &ArgMatches<'a>) -> Option<Task<'a>>
     ensures { IfSome result HasWorkersInRange }
 {
     let (name, below) = matches.subcommand()?;
-    if name == "image" {
-        return image_task_in(below);
-    }
-    if name == "eval" {
-        return Some(Task::Eval {
+    match name {
+        "image" => image_task_in(below),
+        "eval" => Some(Task::Eval {
             text: below.get_str("EXPR")?,
-        });
+        }),
+        "check" => Some(Task::Check {
+            file: below.get_str("FILE")?,
+        }),
+        "report" => Some(Task::Report {
+            file: below.get_str("FILE")?,
+            json: below.get_str("output")? == "json",
+        }),
+        "kinds" => Some(Task::Kinds {
+            file: below.get_str("FILE")?,
+        }),
+        _ => replay_task_in(below),
     }
-    let file = below.get_str("FILE")?;
-    if name == "check" {
-        return Some(Task::Check { file });
-    }
-    let workers = below.get_one::<u8>("workers")?;
+}
+
+fn replay_task_in<'a>(matches: &ArgMatches<'a>) -> Option<Task<'a>>
+    ensures { IfSome result HasWorkersInRange }
+{
+    let file = matches.get_str("FILE")?;
+    let workers = matches.get_one::<u8>("workers")?;
     if workers < 1 || workers > 16 {
         return None;
     }
-    let audit = below.get_flag("audit");
+    let audit = matches.get_flag("audit");
+    let summary = matches.get_flag("summary");
     Some(Task::Replay {
         file,
         workers,
         audit,
+        summary,
     })
 }
 

@@ -54,10 +54,14 @@ seen_int path (json.unsigned n) = if nat_lt n (2 ^ 63) then Ok (pos n) else Err 
 seen_int path (json.negative z) = Ok z
 seen_int path (json.float x) = Err (fault WrongKind path)
 
--- the instant of a timestamp's text, or of a date's, whose day begins in UTC
-abbrev pub or_date : Option ℤ → List ℕ → Option ℤ
+-- the instant, or else that of a date's text, whose day begins in UTC
+abbrev or_date : Option ℤ → List ℕ → Option ℤ
 or_date None s = date_of s
 or_date (Some n) s = Some n
+
+-- the instant of a timestamp's text, or of a date's
+unfoldable pub instant_of : List ℕ → Option ℤ
+instant_of s = or_date (timestamp_of s) s
 
 -- what a text spells, which is of the wrong kind if it spells nothing
 abbrev pub seen_time : Option ℤ → List ℕ → Result ℤ FitFault
@@ -168,7 +172,7 @@ seen_at (CelType-F.Text max) path (json.string s) = do
   text ← seen_text max path s
   Ok (value.Text text)
 seen_at CelType-F.Timestamp path (json.string s) = do
-  n ← seen_time (or_date (timestamp_of s) s) path
+  n ← seen_time (instant_of s) path
   Ok (value.Timestamp n)
 seen_at CelType-F.Duration path (json.string s) = do
   n ← seen_time (duration_of s) path

@@ -1,11 +1,12 @@
 //! The value that a document is at a type, or its first fault.
 
-ghost use Rattle.std.specs.Prelude.{◌≡◌, ◌≤◌, ◌&&◌, All, IsTrue, IfOk, IfSome, Ok, nat_le, length, drop};
+ghost use Rattle.std.specs.Prelude.{◌≡◌, ◌≤◌, ◌&&◌, ◌++◌, All, IsTrue, IfOk, IfSome, OnOk, Ok, nat_le, length, drop, option_to_list};
 ghost use Rattle.std.specs.List.{list_all};
-ghost use Rattle.serde_json.specs.View.{view, number_view, items_view, members_view};
 ghost use Rattle.failing.specs.Failures.{Answers, IfFault};
+ghost use Rattle.json_documents.specs.Gathered.{items_of, members_of, AreInOrder};
+ghost use Rattle.json_documents.specs.Numbers.{num_of};
 ghost use Rattle.plain.specs.Keys.{IsInKeyOrder};
-ghost use Rattle.cel_time.specs.Reading.{timestamp_of, duration_of};
+ghost use Rattle.cel_time.specs.Reading.{duration_of};
 ghost use Rattle.cel_value.specs.Fits.{fits, HasItsField};
 ghost use Rattle.cel_value.specs.declared.value.Value as V;
 ghost use Rattle.cel_value.specs.declared.cel_type.CelType.{Object as ObjectType};
@@ -16,7 +17,7 @@ ghost use Rattle.vap_fit.specs.Paths.{path_text};
 ghost use Rattle.vap_fit.specs.Seen.{Carries, made, if_all_there};
 ghost use Rattle.vap_fit.specs.Seen.{seen, seen_int, seen_text, seen_list, seen_items, seen_map};
 ghost use Rattle.vap_fit.specs.Seen.{seen_entries, seen_entry, seen_object, seen_members, seen_member, seen_field};
-ghost use Rattle.vap_fit.specs.Seen.{seen_time, or_date};
+ghost use Rattle.vap_fit.specs.Seen.{seen_time, instant_of};
 ghost use Rattle.vap_fit.specs.Seen.{all_there, misfit, fault, within, reader_of, readers_of, is_absent};
 ghost use Rattle.vap_fit.specs.Entries.{entry_fits};
 
@@ -25,18 +26,18 @@ use crate::in_step::{is_at, place_from};
 use crate::path::{Path, written};
 use cel_time::{Timestamp, read_date, read_duration, read_timestamp};
 use cel_value::{CelType, Field, Value, code_points};
+use json_documents::{Number, Part};
 use plain::{Items, Keyed, Text, TextMap};
-use serde_json::{Map, Number, Value as Json};
-use std::alloc::Global;
+use std::alloc::{AllocError, Global};
 
 /// The value that a document is at a type, or the first fault in document order, with its path from the name given.
 pub fn fit(
     alloc: Global,
-    document: &Json,
+    document: &Part<'_, '_>,
     cel_type: &CelType,
     root: &str,
 ) -> Result<Value, FitError>
-    ensures exact { Answers (seen root.now cel_type.now (view document.now)) result }
+    ensures exact { Answers (seen root.now cel_type.now document.now) result }
     ensures fits { IfOk result (λ value. IsTrue (fits value cel_type.now)) }
     ensures bounded { IfOk result (λ value. weight_of value ≤ greatest_of cel_type.now) }
 {
@@ -47,18 +48,21 @@ pub fn fit(
 fn fit_at(
     alloc: Global,
     cel_type: &CelType,
-    document: &Json,
+    document: &Part<'_, '_>,
     path: &Path<'_>,
 ) -> Result<Value, FitError>
-    ensures exact { Answers (seen (path_text path.now) cel_type.now (view document.now)) result }
+    ensures exact { Answers (seen (path_text path.now) cel_type.now document.now) result }
     ensures fits { IfOk result (λ value. IsTrue (fits value cel_type.now)) }
 {
     match cel_type {
         CelType::Opaque => Ok(Value::Opaque),
-        CelType::Null => match document {
-            Json::Null => Ok(Value::Null),
-            _ => Err(misfit(alloc, document, path)),
-        },
+        CelType::Null => {
+            if document.is_null() {
+                Ok(Value::Null)
+            } else {
+                Err(misfit(alloc, document, path))
+            }
+        }
         CelType::Nullable(item) => {
             if document.is_null() {
                 Ok(Value::Null)
@@ -66,43 +70,49 @@ fn fit_at(
                 fit_at(alloc, item.get(), document, path)
             }
         }
-        CelType::Bool => match document {
-            Json::Bool(truth) => Ok(Value::Bool(*truth)),
-            _ => Err(misfit(alloc, document, path)),
+        CelType::Bool => match document.as_bool() {
+            Some(truth) => Ok(Value::Bool(truth)),
+            None => Err(misfit(alloc, document, path)),
         },
-        CelType::Int => match document {
-            Json::Number(number) => int_value(fit_int(alloc, number, path)),
-            _ => Err(misfit(alloc, document, path)),
+        CelType::Int => match document.as_number() {
+            Some(number) => int_value(fit_int(alloc, number, path)),
+            None => Err(misfit(alloc, document, path)),
         },
-        CelType::Text { max } => match document {
-            Json::String(text) => text_value(fit_text(alloc, *max, text.as_str(), path)),
-            _ => Err(misfit(alloc, document, path)),
+        CelType::Text { max } => match document.as_str() {
+            Some(text) => text_value(fit_text(alloc, *max, text, path)),
+            None => Err(misfit(alloc, document, path)),
         },
-        CelType::Timestamp => match document {
-            Json::String(text) => timestamp_value(fit_timestamp(alloc, text.as_str(), path)),
-            _ => Err(misfit(alloc, document, path)),
+        CelType::Timestamp => match document.as_str() {
+            Some(text) => timestamp_value(fit_timestamp(alloc, text, path)),
+            None => Err(misfit(alloc, document, path)),
         },
-        CelType::Duration => match document {
-            Json::String(text) => duration_value(fit_duration(alloc, text.as_str(), path)),
-            _ => Err(misfit(alloc, document, path)),
+        CelType::Duration => match document.as_str() {
+            Some(text) => duration_value(fit_duration(alloc, text, path)),
+            None => Err(misfit(alloc, document, path)),
         },
-        CelType::List { max, item, .. } => match document {
-            Json::Array(items) => {
-                list_value(fit_list(alloc, item.get(), *max, items.as_slice(), path))
-            }
-            _ => Err(misfit(alloc, document, path)),
+        CelType::List { max, item, .. } => match document.items(alloc)? {
+            Some(items) => list_value(fit_list(alloc, item.get(), *max, items.as_slice(), path)),
+            None => Err(misfit(alloc, document, path)),
         },
-        CelType::Map { max, key_max, item } => match document {
-            Json::Object(members) => {
-                map_value(fit_map(alloc, item.get(), *max, *key_max, members, path))
-            }
-            _ => Err(misfit(alloc, document, path)),
+        CelType::Map { max, key_max, item } => match document.members(alloc)? {
+            Some(members) => map_value(fit_map(
+                alloc,
+                item.get(),
+                *max,
+                *key_max,
+                members.as_slice(),
+                path,
+            )),
+            None => Err(misfit(alloc, document, path)),
         },
-        CelType::Object { fields } => match document {
-            Json::Object(members) => {
-                object_value(fit_object(alloc, fields.get(), members, path))
-            }
-            _ => Err(misfit(alloc, document, path)),
+        CelType::Object { fields } => match document.members(alloc)? {
+            Some(members) => object_value(fit_object(
+                alloc,
+                fields.get(),
+                members.as_slice(),
+                path,
+            )),
+            None => Err(misfit(alloc, document, path)),
         },
         CelType::Never | CelType::Uint => Err(misfit(alloc, document, path)),
     }
@@ -113,10 +123,10 @@ fn fit_list(
     alloc: Global,
     item_type: &CelType,
     max: u32,
-    items: &[Json],
+    items: &[Part<'_, '_>],
     path: &Path<'_>,
 ) -> Result<Items<Value>, FitError>
-    ensures exact { Answers (seen_list (reader_of item_type.now).1 max (path_text path.now) (items_view items.now)) result }
+    ensures exact { Answers (seen_list (reader_of item_type.now).1 max (path_text path.now) (items_of items.now)) result }
     ensures fits { IfOk result (λ values. IsTrue (nat_le (length values) max && list_all (λ v. fits v item_type.now) values)) }
 {
     let items = items_within(alloc, max, items, path)?;
@@ -127,10 +137,10 @@ fn fit_list(
 fn fit_items(
     alloc: Global,
     item_type: &CelType,
-    items: &[Json],
+    items: &[Part<'_, '_>],
     path: &Path<'_>,
 ) -> Result<Items<Value>, FitError>
-    ensures exact { Answers (seen_items (reader_of item_type.now).1 (path_text path.now) 0 (items_view items.now)) result }
+    ensures exact { Answers (seen_items (reader_of item_type.now).1 (path_text path.now) 0 (items_of items.now)) result }
     ensures fits { IfOk result (λ values. IsTrue (list_all (λ v. fits v item_type.now) values)) }
 {
     let mut values = Vec::with_capacity(alloc, items.len())?;
@@ -146,11 +156,12 @@ fn fit_map(
     item_type: &CelType,
     max: u32,
     key_max: u32,
-    members: &Map<String, Json>,
+    members: &[(&str, Part<'_, '_>)],
     path: &Path<'_>,
 ) -> Result<TextMap<Value>, FitError>
+    requires { AreInOrder members.now }
     ensures exact { Answers
-        (seen_map (reader_of item_type.now).1 max key_max (path_text path.now) (members_view members.now.entries)) result }
+        (seen_map (reader_of item_type.now).1 max key_max (path_text path.now) (members_of members.now)) result }
     ensures fits { IfOk result (λ entries. IsTrue (nat_le (length entries) max && list_all (entry_fits key_max item_type.now) entries)) }
 {
     check_limit(alloc, max, members.len(), path)?;
@@ -162,16 +173,17 @@ fn fit_entries(
     alloc: Global,
     item_type: &CelType,
     key_max: u32,
-    members: &Map<String, Json>,
+    members: &[(&str, Part<'_, '_>)],
     path: &Path<'_>,
 ) -> Result<TextMap<Value>, FitError>
+    requires { AreInOrder members.now }
     ensures exact { Answers
-        (seen_entries (reader_of item_type.now).1 key_max (path_text path.now) (members_view members.now.entries)) result }
+        (seen_entries (reader_of item_type.now).1 key_max (path_text path.now) (members_of members.now)) result }
     ensures fits { IfOk result (λ entries. IsTrue (list_all (entry_fits key_max item_type.now) entries)) }
 {
     let mut entries = Vec::with_capacity(alloc, members.len())?;
-    for (name, member) in members.iter() {
-        entries.push(fit_entry(alloc, item_type, key_max, name.as_str(), member, path)?)?;
+    for member in members {
+        entries.push(fit_entry(alloc, item_type, key_max, member.0, &member.1, path)?)?;
     }
     Ok(TextMap::from_vec(entries))
 }
@@ -182,10 +194,10 @@ fn fit_entry(
     item_type: &CelType,
     key_max: u32,
     name: &str,
-    member: &Json,
+    member: &Part<'_, '_>,
     path: &Path<'_>,
 ) -> Result<Keyed<Value>, FitError>
-    ensures exact { Answers (seen_entry (reader_of item_type.now).1 key_max (path_text path.now) name.now (view member.now)) result }
+    ensures exact { Answers (seen_entry (reader_of item_type.now).1 key_max (path_text path.now) name.now member.now) result }
     ensures fits { IfOk result (λ e. IsTrue (entry_fits key_max item_type.now e)) }
 {
     let place = Path::Field(&*path, &*name);
@@ -197,10 +209,11 @@ fn fit_entry(
 fn fit_object(
     alloc: Global,
     fields: &TextMap<Field<CelType>>,
-    members: &Map<String, Json>,
+    members: &[(&str, Part<'_, '_>)],
     path: &Path<'_>,
 ) -> Result<TextMap<Value>, FitError>
-    ensures exact { Answers (seen_object (readers_of fields.now) (path_text path.now) (members_view members.now.entries)) result }
+    requires { AreInOrder members.now }
+    ensures exact { Answers (seen_object (readers_of fields.now) (path_text path.now) (members_of members.now)) result }
     ensures fits { IfOk result (λ entries. IsTrue (fits (V.Object entries) (ObjectType fields.now))) }
 {
     complete(
@@ -215,24 +228,36 @@ fn fit_object(
 fn fit_members(
     alloc: Global,
     fields: &TextMap<Field<CelType>>,
-    members: &Map<String, Json>,
+    members: &[(&str, Part<'_, '_>)],
     path: &Path<'_>,
 ) -> Result<TextMap<Value>, FitError>
-    ensures exact { Answers (seen_members (readers_of fields.now) (path_text path.now) (members_view members.now.entries)) result }
+    requires { AreInOrder members.now }
+    ensures exact { Answers (seen_members (readers_of fields.now) (path_text path.now) (members_of members.now)) result }
     ensures fits { IfOk result (All (HasItsField fields.now)) }
     ensures ordered { IfOk result IsInKeyOrder }
 {
     let all = fields.as_slice();
     let mut place = 0;
     let mut entries = Vec::new(alloc);
-    for (name, member) in members.iter() {
-        let name = name.as_str();
-        place = place_from(all, place, name);
-        if let Some(entry) = fit_member(alloc, fields, place, name, member, path)? {
-            entries.push(entry)?;
-        }
+    for member in members {
+        place = place_from(all, place, member.0);
+        let entry = fit_member(alloc, fields, place, member.0, &member.1, path)?;
+        push_entry(&mut entries, entry)?;
     }
     Ok(TextMap::from_vec(entries))
+}
+
+/// Pushes an entry, if there is one.
+fn push_entry(
+    entries: &mut Vec<Keyed<Value>>,
+    entry: Option<Keyed<Value>>,
+) -> Result<(), AllocError>
+    ensures { OnOk result (entries.new.items ≡ entries.old.items ++ option_to_list entry) }
+{
+    match entry {
+        Some(entry) => Ok(entries.push(entry)?),
+        None => Ok(()),
+    }
 }
 
 /// The entry of one member, if the field at a place has its name and it does not count as absent.
@@ -242,11 +267,11 @@ fn fit_member(
     fields: &TextMap<Field<CelType>>,
     place: usize,
     name: &str,
-    member: &Json,
+    member: &Part<'_, '_>,
     path: &Path<'_>,
 ) -> Result<Option<Keyed<Value>>, FitError>
     ensures exact { Answers
-        (seen_member (first_under name.now (readers_of (drop place fields.now))) (path_text path.now) name.now (view member.now))
+        (seen_member (first_under name.now (readers_of (drop place fields.now))) (path_text path.now) name.now member.now)
         result }
     ensures fits { IfOk result (λ entry. IfSome entry (HasItsField fields.now)) }
 {
@@ -265,10 +290,10 @@ fn fit_field(
     cel_type: &CelType,
     required: bool,
     name: &str,
-    member: &Json,
+    member: &Part<'_, '_>,
     path: &Path<'_>,
 ) -> Result<Option<Keyed<Value>>, FitError>
-    ensures exact { Answers (seen_field required (reader_of cel_type.now) (path_text path.now) name.now (view member.now)) result }
+    ensures exact { Answers (seen_field required (reader_of cel_type.now) (path_text path.now) name.now member.now) result }
     ensures fits { IfOk result (λ entry. IfSome entry (λ e. (e.key ≡ name.now) × IsTrue (fits e.value cel_type.now))) }
 {
     if is_absent(cel_type, required, member) {
@@ -278,8 +303,6 @@ fn fit_field(
     Ok(Some(under(alloc, name, value)?))
 }
 
-// These functions are cut for the prover: each takes the result of a call and hands a fault on, so that the cycle of `fit_at` has no
-// `?`, at which the proof would go through every form that is dropped there.
 fn int_value(int: Result<i64, FitError>) -> Result<Value, FitError>
     ensures { result ≡ made V.Int int }
 {
@@ -338,12 +361,12 @@ fn under(
 }
 
 /// The items of an array, if they are not too many.
-fn items_within<'a>(
+fn items_within<'a, 't, 'b>(
     alloc: Global,
     max: u32,
-    items: &'a [Json],
+    items: &'a [Part<'t, 'b>],
     path: &Path<'_>,
-) -> Result<&'a [Json], FitError>
+) -> Result<&'a [Part<'t, 'b>], FitError>
     ensures same { IfOk result (λ kept. kept.now ≡ items.now) }
     ensures limit { Answers (within max (length items.now) (path_text path.now)) (made (λ _. tt) result) }
 {
@@ -368,8 +391,8 @@ fn complete(
 }
 
 /// Whether null stands for the absence of an optional field.
-fn is_absent(cel_type: &CelType, required: bool, member: &Json) -> bool
-    ensures { result ≡ is_absent required (reader_of cel_type.now) (view member.now) }
+fn is_absent(cel_type: &CelType, required: bool, member: &Part<'_, '_>) -> bool
+    ensures { result ≡ is_absent required (reader_of cel_type.now) member.now }
 {
     member.is_null() && !required && !has_null(cel_type)
 }
@@ -401,18 +424,20 @@ fn check_all_there(
     Ok(())
 }
 
-fn fit_int(alloc: Global, number: &Number, path: &Path<'_>) -> Result<i64, FitError>
-    ensures { Answers (seen_int (path_text path.now) (number_view number.now)) result }
+fn fit_int(alloc: Global, number: Number, path: &Path<'_>) -> Result<i64, FitError>
+    ensures { Answers (seen_int (path_text path.now) (num_of number)) result }
 {
-    if let Some(int) = number.as_i64() {
-        return Ok(int);
+    match number {
+        Number::Unsigned(n) => {
+            if n <= i64::MAX as u64 {
+                Ok(n as i64)
+            } else {
+                Err(refusal(alloc, FitFaultKind::IntRange, path))
+            }
+        }
+        Number::Negative(z) => Ok(z),
+        Number::Float(_) => Err(refusal(alloc, FitFaultKind::WrongKind, path)),
     }
-    let kind = if number.is_u64() {
-        FitFaultKind::IntRange
-    } else {
-        FitFaultKind::WrongKind
-    };
-    Err(refusal(alloc, kind, path))
 }
 
 fn fit_text(alloc: Global, max: u32, text: &str, path: &Path<'_>) -> Result<Text, FitError>
@@ -423,7 +448,7 @@ fn fit_text(alloc: Global, max: u32, text: &str, path: &Path<'_>) -> Result<Text
 }
 
 fn fit_timestamp(alloc: Global, text: &str, path: &Path<'_>) -> Result<Timestamp, FitError>
-    ensures { Answers (seen_time (or_date (timestamp_of text.now) text.now) (path_text path.now)) result }
+    ensures { Answers (seen_time (instant_of text.now) (path_text path.now)) result }
 {
     match timestamp_or_date(text) {
         Some(timestamp) => Ok(timestamp),
@@ -432,8 +457,9 @@ fn fit_timestamp(alloc: Global, text: &str, path: &Path<'_>) -> Result<Timestamp
 }
 
 /// A timestamp, or the midnight in UTC with which a date begins.
+#[tactic(auto, unfolding(crate::specs::Seen::instant_of))]
 fn timestamp_or_date(text: &str) -> Option<Timestamp>
-    ensures { result ≡ or_date (timestamp_of text.now) text.now }
+    ensures { result ≡ instant_of text.now }
 {
     match read_timestamp(text) {
         Some(timestamp) => Some(timestamp),
@@ -467,8 +493,8 @@ fn check_limit(alloc: Global, max: u32, length: usize, path: &Path<'_>) -> Resul
 
 /// Why a document of a kind that the type has not is refused.
 #[cold]
-fn misfit(alloc: Global, document: &Json, path: &Path<'_>) -> FitError
-    ensures { IfFault (λ f. misfit (path_text path.now) (view document.now) ≡ f) result }
+fn misfit(alloc: Global, document: &Part<'_, '_>, path: &Path<'_>) -> FitError
+    ensures { IfFault (λ f. misfit (path_text path.now) document.now ≡ f) result }
 {
     let kind = if document.is_null() {
         FitFaultKind::NullHere

@@ -29,4 +29,4 @@ lent_place_of p = option_map lent_place p
 
 -- a case, whose parts are lent
 abbrev pub case_of : LentCase → Case
-case_of l = record { set = l.set.now; request = l.request.now.admission; kind = option_copied l.kind; held = l.held.now }
+case_of l = record { set = l.set.now; request = l.request.now.request.now.admission; kind = option_copied l.kind; held = l.held.now }

@@ -14,7 +14,7 @@ use vap_kinds::Kind;
 use vap_match::{Rules, matches};
 use vap_objects::labels_in;
 use vap_read::Object;
-use vap_request::Request;
+use vap_request::OpenRequest;
 use vap_select::Labels;
 use vap_set::PolicySet;
 use vap_slots::Held;
@@ -23,25 +23,25 @@ use vap_slots::Held;
 #[derive(Drop)]
 pub struct Case<'a> {
     pub set: &'a PolicySet,
-    pub request: &'a Request,
+    pub request: &'a OpenRequest<'a, 'a, 'a>,
     pub kind: Option<&'a Kind>,
     pub held: &'a Held,
-    pub labels: Labels<'a>,
+    pub labels: Labels<'a, 'a>,
 }
 
 impl<'a> Case<'a> {
     /// A request at a set, with the Namespace that is held under the name of its own.
     pub fn new(
         set: &'a PolicySet,
-        request: &'a Request,
+        request: &'a OpenRequest<'a, 'a, 'a>,
         kind: Option<&'a Kind>,
         namespace: Option<&'a Object>,
         held: &'a Held,
     ) -> Case<'a>
-        requires kind { option_copied kind ≡ kind_at (kinds_of set.now) request.now.admission }
-        requires namespace { option_copied namespace ≡ namespace_in request.now.admission.namespace set.now }
+        requires kind { option_copied kind ≡ kind_at (kinds_of set.now) request.now.request.now.admission }
+        requires namespace { option_copied namespace ≡ namespace_in request.now.request.now.admission.namespace set.now }
         requires held { IsHeldAt (type_at (option_copied kind)) held.now }
-        ensures is { case_of result ≡ case_with set.now request.now.admission (option_copied kind.entry) held.now }
+        ensures is { case_of result ≡ case_with set.now request.now.request.now.admission (option_copied kind.entry) held.now }
         ensures ready { IsCase result }
     {
         Case {

@@ -277,7 +277,7 @@ impl Judging<'_> {
             (place_of params.now.namespaced reference.now.namespace (case_in self.old).request.namespace)) }
     {
         let case = self.case;
-        let requested = case.request.admission().namespace.as_str();
+        let requested = case.request.request.admission().namespace.as_str();
         let given = reference.namespace.as_str();
         match place_of(params.is_namespaced(), given, requested) {
             Some(place) => {
@@ -391,7 +391,7 @@ impl Judging<'_> {
         ensures adds { OnOk result (Adds self.old self.new (asked_of (case_in self.old))) }
         ensures pattern { IsErrOf result (Fault Pattern) → Looks self.old (asked_of (case_in self.old)) }
     {
-        let resource = &self.case.request.admission().resource;
+        let resource = &self.case.request.request.admission().resource;
         let group = resource.group.as_str();
         let name = resource.resource.as_str();
         let policies = self.case.set.policies_on(group, name);

@@ -7,6 +7,7 @@ ghost use Rattle.vap_set.specs.Sets.{params_in};
 ghost use Rattle.vap_judge.specs.Params.{is_chosen, is_in, is_param, place_of};
 ghost use Rattle.vap_judge.specs.Shown.{lent_place, lent_place_of};
 
+use json_documents::Part;
 use plain::Shared;
 use vap_bindings::ParamRef;
 use vap_params::{KindParams, Param};
@@ -51,7 +52,7 @@ fn is_chosen(reference: &ParamRef, object: &Object) -> bool
     match &reference.name {
         Some(name) => object.key.name.as_str() == name.as_str(),
         None => match &reference.selector {
-            Some(selector) => selects(selector, &labels_of(object.document.json())),
+            Some(selector) => selects(selector, &labels_of(&Part::of_tree(object.document.json()))),
             None => false,
         },
     }

@@ -25,11 +25,13 @@ use crate::judge_error::JudgeError;
 use crate::places::{is_exempt, kind_at};
 use cel_machine::Matchers;
 use cel_value::CelType;
+use json::Scratch;
+use json_documents::Part;
 use std::alloc::{AllocError, Global};
 use vap_answer::{Verdict, unfit_verdict};
 use vap_fit::FitFault;
 use vap_kinds::Kind;
-use vap_request::Request;
+use vap_request::{OpenRequest, Request};
 use vap_set::PolicySet;
 use vap_slots::held_at;
 
@@ -90,17 +92,17 @@ fn unfit(alloc: Global, set: &PolicySet, fault: FitFault) -> Result<Verdict, All
 fn judge_at(
     alloc: Global,
     set: &PolicySet,
-    request: &Request,
+    request: &OpenRequest<'_, '_, '_>,
     kind: Option<&Kind>,
     matchers: &mut Matchers,
 ) -> Result<Verdict, JudgeError>
-    requires { option_copied kind ≡ kind_at (kinds_of set.now) request.now.admission }
-    ensures verdict { IfOk result (λ verdict. verdict ≡ verdict_at set.now request.now.admission (option_copied kind.entry)) }
+    requires { option_copied kind ≡ kind_at (kinds_of set.now) request.now.request.now.admission }
+    ensures verdict { IfOk result (λ verdict. verdict ≡ verdict_at set.now request.now.request.now.admission (option_copied kind.entry)) }
     ensures spent { IfOk result (λ verdict. verdict.charged ≤ budget) }
-    ensures pattern { IsErrOf result (Fault Pattern) → KindMayMatch set.now request.now.admission (option_copied kind.entry) }
+    ensures pattern { IsErrOf result (Fault Pattern) → KindMayMatch set.now request.now.request.now.admission (option_copied kind.entry) }
 {
     let opaque = CelType::Opaque;
-    let name = request.admission().namespace.as_str();
+    let name = request.request.admission().namespace.as_str();
     let namespace = set.namespace(alloc, name)?;
     match held_at(
         alloc,
@@ -116,6 +118,25 @@ fn judge_at(
         Ok(Err(fault)) => Ok(unfit(alloc, set, fault)?),
         Err(error) => Err(JudgeError::from(error)),
     }
+}
+
+/// The same of a request, whose review is opened for it.
+fn judge_opened(
+    alloc: Global,
+    set: &PolicySet,
+    request: &Request,
+    kind: Option<&Kind>,
+    matchers: &mut Matchers,
+) -> Result<Verdict, JudgeError>
+    requires { option_copied kind ≡ kind_at (kinds_of set.now) request.now.admission }
+    ensures verdict { IfOk result (λ verdict. verdict ≡ verdict_at set.now request.now.admission (option_copied kind.entry)) }
+    ensures spent { IfOk result (λ verdict. verdict.charged ≤ budget) }
+    ensures pattern { IsErrOf result (Fault Pattern) → KindMayMatch set.now request.now.admission (option_copied kind.entry) }
+{
+    let mut scratch = Scratch::new(alloc);
+    let tape = request.admission().review.tape(alloc, &mut scratch)?;
+    let open = OpenRequest::new(request, Part::new(tape.root()));
+    judge_at(alloc, set, &open, kind, matchers)
 }
 
 /// The verdict of a set on a request, at the revision that is the number of the set's events. It is given up if memory runs out,
@@ -141,5 +162,5 @@ pub fn judge(
         return Ok(exempt_verdict(alloc, set)?);
     }
     let kind = kind_at(kinds, admission);
-    judge_at(alloc, set, request, kind, matchers)
+    judge_opened(alloc, set, request, kind, matchers)
 }

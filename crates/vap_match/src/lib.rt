@@ -15,7 +15,9 @@ pub use coverage::{covers, is_cluster};
 pub use rule_form::{fault_under, rules_under};
 pub use rules::{Operation, Rule, Rules, Scope};
 pub use selection::{matches, selects_namespace, selects_object};
-pub use vap_request::{Admission, Kind, Request, Resource, ReviewError, ReviewFault, UserInfo};
+pub use vap_request::{
+    Admission, Kind, OpenRequest, Request, Resource, ReviewError, ReviewFault, UserInfo,
+};
 pub use vap_select::{
     Labels, MatchError, MatchFault, Operator, Requirement, Selector, labels_of, selects,
 };

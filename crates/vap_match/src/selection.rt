@@ -1,40 +1,43 @@
 //! Which requests rules choose by their selectors, and which they match.
 
 ghost use Rattle.std.specs.Prelude.{◌≡◌};
-ghost use Rattle.json_members.specs.Parts.{lent};
 ghost use Rattle.vap_select.specs.Select.{lent_labels};
 ghost use Rattle.vap_match.specs.Namespaces.{own_labels};
 ghost use Rattle.vap_match.specs.Choose.{passes, selects_namespace, selects_document, selects_either, selects_object, matches};
 
 use crate::coverage::{covers, is_cluster, is_namespace};
 use crate::rules::Rules;
-use serde_json::Value as Json;
-use vap_request::{Admission, Request};
+use json_documents::Part;
+use vap_request::OpenRequest;
 use vap_select::{Labels, Selector, labels_of, selects};
 
 /// Whether rules match a request: they cover it, and they select its namespace, of which these labels are held, and an
 /// object of it.
-pub fn matches(rules: &Rules, request: &Request, held: &Labels<'_>) -> bool
-    ensures { result ≡ matches rules.now request.now.admission (lent_labels held.now) }
+pub fn matches(rules: &Rules, request: &OpenRequest<'_, '_, '_>, held: &Labels<'_, '_>) -> bool
+    ensures { result ≡ matches rules.now request.now.request.now.admission (lent_labels held.now) }
 {
-    covers(rules, request)
+    covers(rules, request.request)
         && selects_namespace(rules, request, held)
         && selects_object(rules, request)
 }
 
 /// Whether rules select the namespace of a request, of which these labels are held, or the Namespace that the request is on.
-pub fn selects_namespace(rules: &Rules, request: &Request, held: &Labels<'_>) -> bool
-    ensures { result ≡ selects_namespace rules.now request.now.admission (lent_labels held.now) }
+pub fn selects_namespace(
+    rules: &Rules,
+    request: &OpenRequest<'_, '_, '_>,
+    held: &Labels<'_, '_>,
+) -> bool
+    ensures { result ≡ selects_namespace rules.now request.now.request.now.admission (lent_labels held.now) }
 {
-    let admission = request.admission();
+    let admission = request.request.admission();
     if is_namespace(admission) {
-        passes(&rules.namespace_selector, &own_labels(admission))
+        passes(&rules.namespace_selector, &own_labels(request))
     } else {
         is_cluster(admission) || passes(&rules.namespace_selector, held)
     }
 }
 
-fn passes(selector: &Option<Selector>, labels: &Labels<'_>) -> bool
+fn passes(selector: &Option<Selector>, labels: &Labels<'_, '_>) -> bool
     ensures { result ≡ passes selector.now (lent_labels labels.now) }
 {
     match selector {
@@ -44,41 +47,41 @@ fn passes(selector: &Option<Selector>, labels: &Labels<'_>) -> bool
 }
 
 /// Whether rules select an object of a request.
-pub fn selects_object(rules: &Rules, request: &Request) -> bool
-    ensures { result ≡ selects_object rules.now request.now.admission }
+pub fn selects_object(rules: &Rules, request: &OpenRequest<'_, '_, '_>) -> bool
+    ensures { result ≡ selects_object rules.now request.now.request.now.admission }
 {
     match &rules.object_selector {
-        Some(selector) => selects_either(selector, request.admission()),
+        Some(selector) => selects_either(selector, request),
         None => true,
     }
 }
 
-fn selects_either(selector: &Selector, request: &Admission) -> bool
-    ensures { result ≡ selects_either selector.now request.now }
+fn selects_either(selector: &Selector, request: &OpenRequest<'_, '_, '_>) -> bool
+    ensures { result ≡ selects_either selector.now request.now.request.now.admission }
 {
     selects_document(selector, request.object()) || selects_document(selector, request.old_object())
 }
 
-fn selects_document(selector: &Selector, document: Option<&Json>) -> bool
-    ensures { result ≡ selects_document selector.now (lent document.entry) }
+fn selects_document(selector: &Selector, document: Option<Part<'_, '_>>) -> bool
+    ensures { result ≡ selects_document selector.now document.entry }
 {
     match document {
-        Some(document) => selects(selector, &labels_of(document)),
+        Some(document) => selects(selector, &labels_of(&document)),
         None => false,
     }
 }
 
 /// The labels of the Namespace that a request is on.
-fn own_labels(request: &Admission) -> Labels<'_>
-    ensures { lent_labels result ≡ own_labels request.now }
+fn own_labels<'t, 'a>(request: &OpenRequest<'_, 't, 'a>) -> Labels<'t, 'a>
+    ensures { lent_labels result ≡ own_labels request.now.request.now.admission }
 {
-    let document = if request.operation.as_str() == "DELETE" {
+    let document = if request.request.admission().operation.as_str() == "DELETE" {
         request.old_object()
     } else {
         request.object()
     };
     match document {
-        Some(document) => labels_of(document),
+        Some(document) => labels_of(&document),
         None => Labels { found: None },
     }
 }

@@ -220,7 +220,11 @@ impl Objects {
     }
 
     /// The labels that are held of a Namespace.
-    pub fn namespace_labels(&self, alloc: Global, name: &str) -> Result<Labels<'_>, AllocError>
+    pub fn namespace_labels<'t>(
+        &self,
+        alloc: Global,
+        name: &str,
+    ) -> Result<Labels<'t, '_>, AllocError>
         ensures { IfOk result (λ labels. lent_labels labels ≡ namespace_labels name.now self.now.objects) }
     {
         namespace_labels(alloc, name, &self.objects)

@@ -17,6 +17,7 @@ use crate::kind_params::{Outcome, Param};
 use crate::naming::spelled;
 use crate::table::Table;
 use cel_value::CelType;
+use json_documents::Part;
 use plain::Shared;
 use std::alloc::{AllocError, Global};
 use vap_fit::{FitError, fit};
@@ -37,7 +38,12 @@ fn seen_at(alloc: Global, cel_type: &CelType, object: &Object) -> Result<Outcome
     ensures exact { IfOk result (λ s. s ≡ seen (codes "params") cel_type.now object.now.document) }
     ensures fits { IfOk result (λ s. IfOk s (λ v. fits v cel_type.now ≡ true)) }
 {
-    match fit(alloc, object.document.json(), cel_type, "params") {
+    match fit(
+        alloc,
+        &Part::of_tree(object.document.json()),
+        cel_type,
+        "params",
+    ) {
         Ok(value) => Ok(Ok(value)),
         Err(FitError::Fault(fault)) => Ok(Err(fault)),
         Err(FitError::OutOfMemory) => Err(AllocError),

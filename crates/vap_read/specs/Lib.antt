@@ -1,4 +1,3 @@
-pub mod DocumentCode
 pub mod Faults
 pub mod Keys
 pub mod Lines

@@ -12,6 +12,7 @@ use crate::event_fault::{EventError, EventFault};
 use crate::line::{LineKind, line_kind};
 use crate::watch_events::{listed, taken, watched};
 use cel_value::CelType;
+use json_documents::Part;
 use serde_json::Value as Json;
 use std::alloc::{AllocError, Global};
 use std::marker::Model;
@@ -50,7 +51,8 @@ impl EventReader {
         ensures exact { Answers (read_event (view line)) result }
         ensures told { IfErr result (IfFault (IsFaultOf (view line))) }
     {
-        match line_kind(&line) {
+        let kind = line_kind(&Part::of_tree(&line));
+        match kind {
             LineKind::WatchEvent => self.read_watch_event(line),
             LineKind::ObjectList => self.read_list(line),
             LineKind::Review | LineKind::Unknown => Err(EventError::Fault(EventFault::BadType)),

@@ -1,10 +1,12 @@
 //! Of which kind a line's document is.
 
 ghost use Rattle.std.specs.Prelude.{◌≡◌};
+ghost use Rattle.serde_json.specs.Find.{get};
 ghost use Rattle.serde_json.specs.View.{view};
+ghost use Rattle.json_members.specs.Parts.{text_in, text_of};
 ghost use Rattle.vap_read.specs.Lines.{is_of, line_kind, action_of, action_in};
 
-use json_members::text_in;
+use json_documents::Part;
 use serde_json::Value as Json;
 
 #[derive(Clone, Copy, Debug, PartialEq, Eq)]
@@ -27,8 +29,8 @@ pub enum Action {
 }
 
 /// The kind of a line's document.
-pub fn line_kind(line: &Json) -> LineKind
-    ensures { result ≡ line_kind (view line.now) }
+pub fn line_kind(line: &Part<'_, '_>) -> LineKind
+    ensures { result ≡ line_kind line.now }
 {
     if line.get("type").is_some() {
         LineKind::WatchEvent
@@ -42,10 +44,30 @@ pub fn line_kind(line: &Json) -> LineKind
 }
 
 /// Whether a document says that it is of this version and kind.
-pub fn is_of(json: &Json, api_version: &str, kind: &str) -> bool
-    ensures { result ≡ is_of api_version.now kind.now (view json.now) }
+pub fn is_of(document: &Part<'_, '_>, api_version: &str, kind: &str) -> bool
+    ensures { result ≡ is_of api_version.now kind.now document.now }
 {
-    text_in(json, "apiVersion") == api_version && text_in(json, "kind") == kind
+    text_in(document, "apiVersion") == api_version && text_in(document, "kind") == kind
+}
+
+/// The text, empty where there is none.
+fn text_of<'a>(document: &Part<'_, 'a>) -> &'a str
+    ensures { result.now ≡ text_of document.now }
+{
+    match document.as_str() {
+        Some(text) => text,
+        None => "",
+    }
+}
+
+/// The text of a member, empty where there is none.
+fn text_in<'a>(document: &Part<'_, 'a>, name: &str) -> &'a str
+    ensures { result.now ≡ text_in (get name.now document.now) }
+{
+    match document.get(name) {
+        Some(found) => text_of(&found),
+        None => "",
+    }
 }
 
 fn action_of(word: &str) -> Option<Action>
@@ -66,5 +88,5 @@ fn action_of(word: &str) -> Option<Action>
 pub fn action_in(line: &Json) -> Option<Action>
     ensures { result ≡ action_in (view line.now) }
 {
-    action_of(text_in(line, "type"))
+    action_of(json_members::text_in(line, "type"))
 }

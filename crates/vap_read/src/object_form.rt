@@ -12,6 +12,7 @@ ghost use Rattle.vap_read.specs.Objects.{is_metadata, is_object, key_of, text_un
 
 use crate::key::Key;
 use cel_value::{CelType, Value};
+use json_documents::Part;
 use json_members::{has_text, text_in};
 use plain::Text;
 use serde_json::Value as Json;
@@ -34,7 +35,7 @@ fn is_metadata(alloc: Global, json: &Json, fixed: &CelType) -> Result<bool, Allo
     ensures { IfOk result (λ truth. truth ≡ is_metadata (view json.now)) }
 {
     if has_text(json, "name") {
-        is_fitted(fit(alloc, json, fixed, "metadata"))
+        is_fitted(fit(alloc, &Part::of_tree(json), fixed, "metadata"))
     } else {
         Ok(false)
     }

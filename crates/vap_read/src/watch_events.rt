@@ -24,6 +24,7 @@ use crate::object::{Content, Object};
 use crate::object_form::{is_object, key_of};
 use crate::object_map::ObjectMap;
 use cel_value::CelType;
+use json_documents::Part;
 use plain::Shared;
 use serde_json::Value as Json;
 use std::alloc::Global;
@@ -117,9 +118,14 @@ fn read_key(alloc: Global, json: &Json, fixed: &CelType) -> Result<Key, EventErr
 fn content_of(alloc: Global, json: &Json) -> Result<Content, PolicyError>
     ensures { Answers (read_content (view json.now)) result }
 {
-    if is_of(json, POLICY_VERSION, "ValidatingAdmissionPolicy") {
+    let document = Part::of_tree(json);
+    if is_of(&document, POLICY_VERSION, "ValidatingAdmissionPolicy") {
         Ok(Content::Policy(Policy::from_json(alloc, json)?))
-    } else if is_of(json, POLICY_VERSION, "ValidatingAdmissionPolicyBinding") {
+    } else if is_of(
+        &document,
+        POLICY_VERSION,
+        "ValidatingAdmissionPolicyBinding",
+    ) {
         Ok(Content::Binding(Binding::from_json(alloc, json)?))
     } else {
         Ok(Content::Other)

@@ -2,8 +2,7 @@
 use Rattle.std.proofs.Common.{◌≡◌, ◌≤◌, ℕ, List, length, false, Some, Result, Ok, Err, refl}
 use Rattle.std.specs.Prelude.{IsUtf8, IfOk}
 use Rattle.serde_json.specs.Read.{read as read_text}
-use Rattle.serde_json.specs.View.{view}
-use Rattle.serde_json.specs.declared.value.Value.{Value as Json}
+use Rattle.serde_json.specs.Data.{Data}
 use Rattle.vap_lines.specs.Lines.{longest_line}
 use Rattle.vap_read.specs.Lines.{line_kind}
 use Rattle.vap_read.specs.Reading.{read_line}
@@ -28,23 +27,23 @@ of_review : (bytes : List ℕ) (r : Result Request ReviewFault) → is_blank byt
 of_review bytes (Ok request) some short spelled = (some, short, spelled)
 of_review bytes (Err f) some short spelled = (some, short, spelled)
 
-of_kind : (bytes : List ℕ) (k : LineKind) (json : Json) → is_blank bytes ≡ false → length bytes ≤ longest_line
-    → Spells bytes (line_by k json) → Reads bytes (line_by k json)
-of_kind bytes kind.WatchEvent json some short spelled =
-    of_event bytes (read_line kind.WatchEvent (view json)) some short spelled
-of_kind bytes kind.ObjectList json some short spelled =
-    of_event bytes (read_line kind.ObjectList (view json)) some short spelled
-of_kind bytes kind.Review json some short spelled = of_review bytes (read_review json) some short spelled
-of_kind bytes kind.Unknown json some short spelled = (some, short, spelled)
+of_kind : (bytes : List ℕ) (k : LineKind) (d : Data) → is_blank bytes ≡ false → length bytes ≤ longest_line
+    → Spells bytes (line_by k d) → Reads bytes (line_by k d)
+of_kind bytes kind.WatchEvent d some short spelled =
+    of_event bytes (read_line kind.WatchEvent d) some short spelled
+of_kind bytes kind.ObjectList d some short spelled =
+    of_event bytes (read_line kind.ObjectList d) some short spelled
+of_kind bytes kind.Review d some short spelled = of_review bytes (read_review d) some short spelled
+of_kind bytes kind.Unknown d some short spelled = (some, short, spelled)
 
-reads_line : (bytes : List ℕ) (line : Line) (json : Json) → is_blank bytes ≡ false → length bytes ≤ longest_line → IsUtf8 bytes
-    → read_text bytes ≡ Some (view json) → line ≡ line_of json → Reads bytes line
-reads_line bytes line json some short text spelled is =
-    rw is (of_kind bytes (line_kind (view json)) json some short
-    (record { json = json; text = text; spelled = spelled; is = refl }))
+reads_line : (bytes : List ℕ) (line : Line) (d : Data) → is_blank bytes ≡ false → length bytes ≤ longest_line → IsUtf8 bytes
+    → read_text bytes ≡ Some d → line ≡ line_of d → Reads bytes line
+reads_line bytes line d some short text spelled is =
+    rw is (of_kind bytes (line_kind d) d some short
+    (record { document = d; text = text; spelled = spelled; is = refl }))
 
 -- a text that is neither blank nor too long is read as what it spells
-pub reads_each : {E : Type 0} (r : Result Line E) (bytes : List ℕ) (json : Json) → is_blank bytes ≡ false → length bytes ≤ longest_line
-    → IsUtf8 bytes × (read_text bytes ≡ Some (view json)) → IfOk r (λ line. line ≡ line_of json) → IfOk r (Reads bytes)
-reads_each (Ok line) bytes json some short spelled is = reads_line bytes line json some short spelled.0 spelled.1 is
-reads_each (Err e) bytes json some short spelled is = tt
+pub reads_each : {E : Type 0} (r : Result Line E) (bytes : List ℕ) (d : Data) → is_blank bytes ≡ false → length bytes ≤ longest_line
+    → IsUtf8 bytes × (read_text bytes ≡ Some d) → IfOk r (λ line. line ≡ line_of d) → IfOk r (Reads bytes)
+reads_each (Ok line) bytes d some short spelled is = reads_line bytes line d some short spelled.0 spelled.1 is
+reads_each (Err e) bytes d some short spelled is = tt

@@ -13,8 +13,7 @@ use Rattle.vap_read.specs.declared.line.LineKind.TheVariants as kind
 use Rattle.vap_request.specs.Reading.{read_review}
 use Rattle.vap_request.specs.declared.request.Request.{Request}
 use Rattle.vap_request.specs.declared.review_fault.ReviewFault.{ReviewFault}
-use Rattle.serde_json.specs.View.{view}
-use Rattle.serde_json.specs.declared.value.Value.{Value as Json}
+use Rattle.serde_json.specs.Data.{Data}
 use Rattle.vap_lines.specs.Counted.{inner_of}
 use Rattle.vap_lines.specs.Lines.{IsFirst, lines_of}
 use Rattle.vap_lines.specs.declared.counted.Counted.{Counted}
@@ -198,11 +197,11 @@ plain_review : (r : Result Request ReviewFault) → IsPlain (review_line r)
 plain_review (Ok request) = tt
 plain_review (Err f) = refl
 
-plain_kind : (k : LineKind) (json : Json) → IsPlain (line_by k json)
-plain_kind kind.WatchEvent json = plain_event (read_line kind.WatchEvent (view json))
-plain_kind kind.ObjectList json = plain_event (read_line kind.ObjectList (view json))
-plain_kind kind.Review json = plain_review (read_review json)
-plain_kind kind.Unknown json = refl
+plain_kind : (k : LineKind) (document : Data) → IsPlain (line_by k document)
+plain_kind kind.WatchEvent document = plain_event (read_line kind.WatchEvent document)
+plain_kind kind.ObjectList document = plain_event (read_line kind.ObjectList document)
+plain_kind kind.Review document = plain_review (read_review document)
+plain_kind kind.Unknown document = refl
 
 -- a line that is read is refused of the lines alone
 pub plain_read : (bytes : List ℕ) (line : LineOf) → Reads bytes line → IsPlain line
@@ -218,20 +217,20 @@ plain_read bytes (Refused fault.LogFull) read = refl
 plain_read bytes (Refused fault.TooManyObjects) read = refl
 plain_read bytes (Refused fault.AuditFull) read = refl
 plain_read bytes (Refused fault.Unverified) read =
-    let json = read.2.json in
-    subst IsPlain (sym read.2.is) (plain_kind (line_kind (view json)) json)
+    let document = read.2.document in
+    subst IsPlain (sym read.2.is) (plain_kind (line_kind document) document)
 plain_read bytes (Refused fault.Pattern) read =
-    let json = read.2.json in
-    subst IsPlain (sym read.2.is) (plain_kind (line_kind (view json)) json)
+    let document = read.2.document in
+    subst IsPlain (sym read.2.is) (plain_kind (line_kind document) document)
 plain_read bytes (Refused fault.Stray) read =
-    let json = read.2.json in
-    subst IsPlain (sym read.2.is) (plain_kind (line_kind (view json)) json)
+    let document = read.2.document in
+    subst IsPlain (sym read.2.is) (plain_kind (line_kind document) document)
 plain_read bytes (Refused fault.NoPlace) read =
-    let json = read.2.json in
-    subst IsPlain (sym read.2.is) (plain_kind (line_kind (view json)) json)
+    let document = read.2.document in
+    subst IsPlain (sym read.2.is) (plain_kind (line_kind document) document)
 plain_read bytes (Refused (fault.OfWorkers f)) read =
-    let json = read.2.json in
-    subst IsPlain (sym read.2.is) (plain_kind (line_kind (view json)) json)
+    let document = read.2.document in
+    subst IsPlain (sym read.2.is) (plain_kind (line_kind document) document)
 
 -- the fault of such a line
 pub plain_fault : (line : LineOf) (f : LineFault) → IsPlain line → line ≡ Refused f → is_of_the_lines f ≡ true

@@ -3,8 +3,7 @@ use Rattle.std.specs.Prelude.{◌≡◌, ◌≤◌, ◌<◌, ⊤, ℕ, Bool, tru
 use Rattle.std.specs.Prelude.{Some, None, Result, Ok, Err, IsUtf8}
 use Rattle.std.specs.Str.{bytes_eq}
 use Rattle.serde_json.specs.Read.{read as read_text}
-use Rattle.serde_json.specs.View.{view}
-use Rattle.serde_json.specs.declared.value.Value.{Value as Json}
+use Rattle.serde_json.specs.Data.{Data}
 use Rattle.vap_read.specs.Lines.{line_kind}
 use Rattle.vap_read.specs.Reading.{read_line}
 use Rattle.vap_read.specs.declared.line.LineKind.{LineKind}
@@ -34,22 +33,22 @@ review_line (Ok request) = Asks request
 review_line (Err f) = Refused (fault.OfReview f)
 
 -- what a document of this kind is
-abbrev pub line_by : LineKind → Json → Line
-line_by kind.WatchEvent json = event_line (read_line kind.WatchEvent (view json))
-line_by kind.ObjectList json = event_line (read_line kind.ObjectList (view json))
-line_by kind.Review json = review_line (read_review json)
-line_by kind.Unknown json = Refused fault.UnknownLine
+abbrev pub line_by : LineKind → Data → Line
+line_by kind.WatchEvent d = event_line (read_line kind.WatchEvent d)
+line_by kind.ObjectList d = event_line (read_line kind.ObjectList d)
+line_by kind.Review d = review_line (read_review d)
+line_by kind.Unknown d = Refused fault.UnknownLine
 
 -- what a document is
-abbrev pub line_of : Json → Line
-line_of json = line_by (line_kind (view json)) json
+abbrev pub line_of : Data → Line
+line_of d = line_by (line_kind d) d
 
 -- the text spells a document, and the line is what this is
 pub record Spells (bytes : List ℕ) (line : Line) : Type 0 where
-  pub json : Json
+  pub document : Data
   pub text : IsUtf8 bytes
-  pub spelled : read_text bytes ≡ Some (view json)
-  pub is : line ≡ line_of json
+  pub spelled : read_text bytes ≡ Some document
+  pub is : line ≡ line_of document
 
 -- the text is no text, or spells no document
 abbrev pub SpellsNone : List ℕ → Type 0

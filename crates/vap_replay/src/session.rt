@@ -24,6 +24,7 @@ use crate::audit_line::audit_text;
 use crate::crew::Crew;
 use crate::fault::{LineFault, ReplayError, unpublished, unstaged};
 use crate::line::{Line, read_line};
+use json::Scratch;
 use std::alloc::{AllocError, Global};
 use std::io::Write;
 use std::mem;
@@ -89,7 +90,8 @@ impl Session {
         requires { length bytes.now ≤ longest_line }
         ensures { IfOk result (Reads bytes.now) }
     {
-        read_line(self.alloc, &self.events, bytes)
+        let mut scratch = Scratch::new(self.alloc);
+        read_line(self.alloc, &self.events, bytes, &mut scratch)
     }
 
     /// The refusal of the line that was read last.

@@ -70,7 +70,7 @@ pub fn replay<H: Threads + Wait + Sync, R: Read, W: Write>(
     replay_with(rt, alloc, input, output, workers, audit, &mut Silent)
 }
 
-/// [`replay`], which reports after each line how far it is.
+/// [`replay`], which reports after each line how far it is, and at the end what was decided.
 pub fn replay_with<H: Threads + Wait + Sync, R: Read, W: Write, P: Progress>(
     rt: &H,
     alloc: Global,
@@ -156,6 +156,7 @@ fn replay_as<L: Plan + Send + Sync, H: Threads + Wait + Sync, R: Read, W: Write,
         audit,
         progress,
     );
+    progress.replayed(&session.history);
     session.end(rt);
     replayed
 }

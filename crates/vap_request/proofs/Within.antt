@@ -10,8 +10,8 @@ use Rattle.serde_json.specs.Data as json
 use Rattle.serde_json.specs.Data.{Data, Items, Members}
 use Rattle.serde_json.specs.Events.{items_len, members_len}
 use Rattle.serde_json.specs.Find.{get}
-use Rattle.serde_json.specs.View.{view}
-use Rattle.serde_json.specs.declared.value.Value.{Value as Json}
+use Rattle.serde_json.specs.Read.{read}
+use Rattle.json_documents.proofs.Spelled.{AreNamed, AreSpelled, IsSpelled, read_spelled}
 use Rattle.json_members.specs.Forms.{absent_or, all_items, there_and}
 use Rattle.json_members.specs.Limits.{is_short, short_at}
 use Rattle.json_members.specs.Parts.{each_item, items_in, items_of, text_in, text_of}
@@ -24,8 +24,7 @@ use Rattle.vap_request.specs.Reviews.{is_request, is_review}
 use Rattle.vap_request.specs.Within.{AreTexts, IsEntry, IsText, IsUserInfo, IsWithin}
 use Rattle.vap_request.specs.declared.review_fault.ReviewFault.{ReviewFault}
 use Rattle.vap_request.specs.declared.review_fault.ReviewFault.TheVariants.{BadReview, OverLimit}
-use Rattle.vap_request.proofs.Spelled.{AreNamed, AreSpelled, IsSpelled, found_spelled, items_spelled_in, items_spelled_of}
-use Rattle.vap_request.proofs.Spelled.{spelled, text_spelled, text_spelled_in}
+use Rattle.vap_request.proofs.Spelled.{found_spelled, items_spelled_in, items_spelled_of, text_spelled, text_spelled_in}
 
 -- ---- texts
 
@@ -175,7 +174,7 @@ all_tests a b c d e f g h t =
       user_info = last.1;
     }
 
-request_within : (review : Json) (d : Data) → IsSpelled d → is_short_request d ≡ true → IsWithin (admission_from review d)
+request_within : (review : Data) (d : Data) → IsSpelled d → is_short_request d ≡ true → IsWithin (admission_from review d)
 request_within review d s h =
     let kind_at = get (codes "kind") d in
     let resource_at = get (codes "resource") d in
@@ -197,7 +196,7 @@ request_within review d s h =
       user_info = user user_at (found_spelled (codes "userInfo") d s) t.user_info;
     }
 
-asked_within : (review : Json) (d : Data) (o : Option Data) → IfSome o IsSpelled → there_and is_request o ≡ true
+asked_within : (review : Data) (d : Data) (o : Option Data) → IfSome o IsSpelled → there_and is_request o ≡ true
     → absent_or is_short_request o ≡ true → IsWithin (admission_from review (unwrap_or o d))
 asked_within review d None s form limits = absurd (true≢false (sym form))
 asked_within review d (Some q) s form limits = request_within review q s limits
@@ -208,8 +207,9 @@ passed x y true true h = (refl, refl)
 passed x y true false h = absurd (true≢false (ap is_some h))
 passed x y false b h = absurd (true≢false (ap is_some h))
 
-pub read_within : (review : Json) → least_fault (view review) ≡ None → IsWithin (admission_from review (asked (view review)))
-read_within review h =
-    let d = view review in
-    let p = passed BadReview OverLimit (is_review d) (is_short_review d) h in
-    asked_within review d (get (codes "request") d) (found_spelled (codes "request") d (spelled review)) p.0 p.1
+pub read_within : (text : List ℕ) (review : Data) → IsUtf8 text → read text ≡ Some review → least_fault review ≡ None
+    → IsWithin (admission_from review (asked review))
+read_within text review u is h =
+    let p = passed BadReview OverLimit (is_review review) (is_short_review review) h in
+    let named = found_spelled (codes "request") review (read_spelled text review u is) in
+    asked_within review review (get (codes "request") review) named p.0 p.1

@@ -1,12 +1,10 @@
 -- Which request a review has.
-use Rattle.std.specs.Prelude.{◌≡◌, ℕ, Bool, false, codes, List, [], ◌∷◌, Option, Some}
+use Rattle.std.specs.Prelude.{ℕ, Bool, false, codes, List, [], ◌∷◌, Option, Some}
 use Rattle.std.specs.Prelude.{unwrap_or, option_and_then, Result}
 use Rattle.plain.specs.declared.text.Keyed.{Keyed}
 use Rattle.serde_json.specs.Data as json
 use Rattle.serde_json.specs.Data.{Data, Members}
 use Rattle.serde_json.specs.Find.{get, as_bool}
-use Rattle.serde_json.specs.View.{view}
-use Rattle.serde_json.specs.declared.value.Value.{Value as Json}
 use Rattle.json_members.specs.Parts.{text_of, text_in, items_of, items_in, each_item}
 use Rattle.json_members.specs.Reading.{unless}
 use Rattle.vap_request.specs.Faults.{least_fault}
@@ -81,7 +79,7 @@ abbrev pub target_of : Data → Target
 target_of d = record { kind = kind_of d; resource = resource_of d; user_info = user_info_of d }
 
 -- what a document asks, of this review
-abbrev pub admission_from : Json → Data → Admission
+abbrev pub admission_from : Data → Data → Admission
 admission_from review d = record {
   uid = text_in (get (codes "uid") d);
   kind = kind_of d;
@@ -96,9 +94,9 @@ admission_from review d = record {
 }
 
 -- the request of a review
-abbrev pub request_of : Json → Request
-request_of review = record { admission = admission_from review (asked (view review)) }
+abbrev pub request_of : Data → Request
+request_of review = record { admission = admission_from review (asked review) }
 
 -- the request of a review, or the review's least fault
-abbrev pub read_review : Json → Result Request ReviewFault
-read_review review = unless (request_of review) (least_fault (view review))
+abbrev pub read_review : Data → Result Request ReviewFault
+read_review review = unless (request_of review) (least_fault review)

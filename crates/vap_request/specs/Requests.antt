@@ -4,7 +4,6 @@ use Rattle.std.specs.Str.{bytes_eq}
 use Rattle.serde_json.specs.Data as json
 use Rattle.serde_json.specs.Data.{Data}
 use Rattle.serde_json.specs.Find.{get}
-use Rattle.serde_json.specs.View.{view}
 use Rattle.vap_request.specs.declared.request.Admission.{Admission}
 
 -- a document, where it is not null
@@ -18,8 +17,8 @@ document_in name review = option_and_then unless_null (option_and_then (get name
 
 -- the object as it is to be; there is none on DELETE
 abbrev pub object_of : Admission → Option Data
-object_of r = if bytes_eq r.operation (codes "DELETE") then None else document_in (codes "object") (view r.review)
+object_of r = if bytes_eq r.operation (codes "DELETE") then None else document_in (codes "object") r.review
 
 -- the object as it was; there is none on CREATE
 abbrev pub old_object_of : Admission → Option Data
-old_object_of r = if bytes_eq r.operation (codes "CREATE") then None else document_in (codes "oldObject") (view r.review)
+old_object_of r = if bytes_eq r.operation (codes "CREATE") then None else document_in (codes "oldObject") r.review

@@ -1,34 +1,36 @@
 //! Which reviews are within the limits of texts and lists.
 
-ghost use Rattle.std.specs.Prelude.{◌≡◌, ◌&&◌, codes};
+ghost use Rattle.std.specs.Prelude.{◌≡◌, ◌&&◌, IfOk, codes};
 ghost use Rattle.serde_json.specs.Find.{get};
-ghost use Rattle.serde_json.specs.View.{view, items_view, members_view};
+ghost use Rattle.json_documents.specs.Gathered.{members_of, items_of as gathered};
 ghost use Rattle.json_members.specs.Forms.{absent_or, all_items};
 ghost use Rattle.json_members.specs.Limits.{is_short};
 ghost use Rattle.json_members.specs.Parts.{text_of, items_of};
 ghost use Rattle.vap_request.specs.Limits.{is_short_versioned, are_short, all_short, are_short_entries, is_short_map};
 ghost use Rattle.vap_request.specs.Limits.{is_short_user_info, is_short_request, is_short_review};
 
-use json_members::{is_short, items_in, items_of, short_at, text_of};
-use serde_json::{Map, Value as Json};
+use crate::texts::{items_in, items_of, short_at, text_of};
+use json_documents::Part;
+use json_members::is_short;
+use std::alloc::{AllocError, Global};
 
-fn is_short_versioned(json: &Json, last: &str) -> bool
-    ensures { result ≡ is_short_versioned last.now (view json.now) }
+fn is_short_versioned(part: &Part<'_, '_>, last: &str) -> bool
+    ensures { result ≡ is_short_versioned last.now part.now }
 {
-    short_at(json, "group", 253) && short_at(json, "version", 253) && short_at(json, last, 253)
+    short_at(part, "group", 253) && short_at(part, "version", 253) && short_at(part, last, 253)
 }
 
-fn may_be_short_versioned(json: &Json, name: &str) -> bool
-    ensures { result ≡ absent_or (is_short_versioned name.now) (get name.now (view json.now)) }
+fn may_be_short_versioned(part: &Part<'_, '_>, name: &str) -> bool
+    ensures { result ≡ absent_or (is_short_versioned name.now) (get name.now part.now) }
 {
-    match json.get(name) {
-        Some(found) => is_short_versioned(found, name),
+    match part.get(name) {
+        Some(found) => is_short_versioned(&found, name),
         None => true,
     }
 }
 
-fn each_is_short(items: &[Json]) -> bool
-    ensures { result ≡ all_items (λ d. is_short 1024 (text_of d)) (items_view items.now) }
+fn each_is_short(items: &[Part<'_, '_>]) -> bool
+    ensures { result ≡ all_items (λ d. is_short 1024 (text_of d)) (gathered items.now) }
 {
     for item in items {
         if !is_short(text_of(item), 1024) {
@@ -38,90 +40,99 @@ fn each_is_short(items: &[Json]) -> bool
     true
 }
 
-fn are_short(items: &[Json]) -> bool
-    ensures { result ≡ are_short (items_view items.now) }
+fn are_short(items: &[Part<'_, '_>]) -> bool
+    ensures { result ≡ are_short (gathered items.now) }
 {
     items.len() <= 1024 && each_is_short(items)
 }
 
-fn all_short(members: &Map<String, Json>) -> bool
-    ensures { result ≡ all_short (members_view members.now.entries) }
+fn is_short_entry(alloc: Global, name: &str, member: &Part<'_, '_>) -> Result<bool, AllocError>
+    ensures { IfOk result (λ is. is ≡ (is_short 1024 name.now && are_short (items_of member.now))) }
 {
-    for (name, member) in members.iter() {
-        if !is_short_entry(name.as_str(), member) {
-            return false;
+    let items = items_of(alloc, member)?;
+    Ok(is_short(name, 1024) && are_short(items.as_slice()))
+}
+
+fn all_short(alloc: Global, members: &[(&str, Part<'_, '_>)]) -> Result<bool, AllocError>
+    ensures { IfOk result (λ all. all ≡ all_short (members_of members.now)) }
+{
+    for member in members {
+        if !is_short_entry(alloc, member.0, &member.1)? {
+            return Ok(false);
         }
     }
-    true
+    Ok(true)
 }
 
-fn is_short_entry(name: &str, member: &Json) -> bool
-    ensures { result ≡ (is_short 1024 name.now && are_short (items_of (view member.now))) }
+fn are_short_entries(alloc: Global, members: &[(&str, Part<'_, '_>)]) -> Result<bool, AllocError>
+    ensures { IfOk result (λ are. are ≡ are_short_entries (members_of members.now)) }
 {
-    is_short(name, 1024) && are_short(items_of(member))
+    let all = all_short(alloc, members)?;
+    Ok(members.len() <= 1024 && all)
 }
 
-fn are_short_entries(members: &Map<String, Json>) -> bool
-    ensures { result ≡ are_short_entries (members_view members.now.entries) }
+fn is_short_map(alloc: Global, part: &Part<'_, '_>) -> Result<bool, AllocError>
+    ensures { IfOk result (λ is. is ≡ is_short_map part.now) }
 {
-    members.len() <= 1024 && all_short(members)
-}
-
-fn is_short_map(json: &Json) -> bool
-    ensures { result ≡ is_short_map (view json.now) }
-{
-    match json {
-        Json::Object(members) => are_short_entries(members),
-        _ => true,
+    match part.members(alloc)? {
+        Some(members) => are_short_entries(alloc, members.as_slice()),
+        None => Ok(true),
     }
 }
 
-fn may_have_short_map(json: &Json, name: &str) -> bool
-    ensures { result ≡ absent_or is_short_map (get name.now (view json.now)) }
+fn may_have_short_map(alloc: Global, part: &Part<'_, '_>, name: &str) -> Result<bool, AllocError>
+    ensures { IfOk result (λ may. may ≡ absent_or is_short_map (get name.now part.now)) }
 {
-    match json.get(name) {
-        Some(found) => is_short_map(found),
-        None => true,
+    match part.get(name) {
+        Some(found) => is_short_map(alloc, &found),
+        None => Ok(true),
     }
 }
 
-fn is_short_user_info(json: &Json) -> bool
-    ensures { result ≡ is_short_user_info (view json.now) }
+fn is_short_user_info(alloc: Global, part: &Part<'_, '_>) -> Result<bool, AllocError>
+    ensures { IfOk result (λ is. is ≡ is_short_user_info part.now) }
 {
-    short_at(json, "username", 1024)
-        && short_at(json, "uid", 1024)
-        && are_short(items_in(json, "groups"))
-        && may_have_short_map(json, "extra")
+    let groups = items_in(alloc, part, "groups")?;
+    let extra = may_have_short_map(alloc, part, "extra")?;
+    Ok(
+        short_at(part, "username", 1024)
+            && short_at(part, "uid", 1024)
+            && are_short(groups.as_slice())
+            && extra,
+    )
 }
 
-fn may_have_short_user_info(json: &Json) -> bool
-    ensures { result ≡ absent_or is_short_user_info (get (codes "userInfo") (view json.now)) }
+fn may_have_short_user_info(alloc: Global, part: &Part<'_, '_>) -> Result<bool, AllocError>
+    ensures { IfOk result (λ may. may ≡ absent_or is_short_user_info (get (codes "userInfo") part.now)) }
 {
-    match json.get("userInfo") {
-        Some(found) => is_short_user_info(found),
-        None => true,
+    match part.get("userInfo") {
+        Some(found) => is_short_user_info(alloc, &found),
+        None => Ok(true),
     }
 }
 
-fn is_short_request(json: &Json) -> bool
-    ensures { result ≡ is_short_request (view json.now) }
+fn is_short_request(alloc: Global, part: &Part<'_, '_>) -> Result<bool, AllocError>
+    ensures { IfOk result (λ is. is ≡ is_short_request part.now) }
 {
-    short_at(json, "uid", 253)
-        && may_be_short_versioned(json, "kind")
-        && may_be_short_versioned(json, "resource")
-        && short_at(json, "operation", 7)
-        && short_at(json, "name", 253)
-        && short_at(json, "namespace", 253)
-        && short_at(json, "subResource", 253)
-        && may_have_short_user_info(json)
+    let user_info = may_have_short_user_info(alloc, part)?;
+    Ok(
+        short_at(part, "uid", 253)
+            && may_be_short_versioned(part, "kind")
+            && may_be_short_versioned(part, "resource")
+            && short_at(part, "operation", 7)
+            && short_at(part, "name", 253)
+            && short_at(part, "namespace", 253)
+            && short_at(part, "subResource", 253)
+            && user_info,
+    )
 }
 
 /// Whether the request of a review is within the limits, if it has one.
-pub fn is_short_review(json: &Json) -> bool
-    ensures { result ≡ is_short_review (view json.now) }
+pub fn is_short_review(alloc: Global, part: &Part<'_, '_>) -> Result<bool, AllocError>
+    ensures { IfOk result (λ is. is ≡ is_short_review part.now) }
 {
-    match json.get("request") {
-        Some(found) => is_short_request(found),
-        None => true,
+    match part.get("request") {
+        Some(found) => is_short_request(alloc, &found),
+        None => Ok(true),
     }
 }

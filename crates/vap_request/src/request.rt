@@ -1,13 +1,11 @@
 //! Requests.
 
-ghost use Rattle.std.specs.Prelude.{◌≡◌, IfOk};
-ghost use Rattle.serde_json.specs.View.{view};
-ghost use Rattle.json_members.specs.Parts.{lent};
-ghost use Rattle.vap_request.specs.Requests.{document_in, object_of, old_object_of};
+ghost use Rattle.std.specs.Prelude.{◌≡◌, IfOk, option_and_then};
+ghost use Rattle.vap_request.specs.Requests.{document_in, unless_null, object_of, old_object_of};
 ghost use Rattle.vap_request.specs.Within.{IsWithin};
 
-use plain::{Boxed, Items, Shared, Text, TextMap};
-use serde_json::Value as Json;
+use json_documents::{Document, Part};
+use plain::{Items, Shared, Text, TextMap};
 use std::alloc::AllocError;
 use std::marker::Model;
 
@@ -47,7 +45,7 @@ pub struct Admission {
     pub operation: Text,
     pub user_info: UserInfo,
     pub dry_run: bool,
-    pub review: Boxed<Json>,
+    pub review: Document,
 }
 
 impl Drop for Admission {
@@ -114,39 +112,52 @@ impl Request {
 }
 
 impl Admission {
-    /// The object as it is to be; there is none on DELETE.
-    pub fn object(&self) -> Option<&Json>
-        ensures { lent result ≡ object_of self.now }
+    /// The object as it is to be, of the review that is open; there is none on DELETE.
+    pub fn object<'t, 'a>(&self, review: &Part<'t, 'a>) -> Option<Part<'t, 'a>>
+        requires { review.now ≡ self.now.review }
+        ensures { result ≡ object_of self.now }
     {
         if self.operation.as_str() == "DELETE" {
             None
         } else {
-            document_in(self.review.get(), "object")
+            document_in(review, "object")
         }
     }
 
-    /// The object as it was; there is none on CREATE.
-    pub fn old_object(&self) -> Option<&Json>
-        ensures { lent result ≡ old_object_of self.now }
+    /// The object as it was, of the review that is open; there is none on CREATE.
+    pub fn old_object<'t, 'a>(&self, review: &Part<'t, 'a>) -> Option<Part<'t, 'a>>
+        requires { review.now ≡ self.now.review }
+        ensures { result ≡ old_object_of self.now }
     {
         if self.operation.as_str() == "CREATE" {
             None
         } else {
-            document_in(self.review.get(), "oldObject")
+            document_in(review, "oldObject")
         }
     }
 }
 
 /// A document that came with a request, unless it is null.
-fn document_in<'a>(review: &'a Json, name: &str) -> Option<&'a Json>
-    ensures { lent result ≡ document_in name.now (view review.now) }
+fn document_in<'t, 'a>(review: &Part<'t, 'a>, name: &str) -> Option<Part<'t, 'a>>
+    ensures { result ≡ document_in name.now review.now }
 {
     match review.get("request") {
-        Some(request) => match request.get(name) {
-            Some(Json::Null) => None,
-            Some(document) => Some(document),
-            None => None,
-        },
+        Some(request) => unless_null(request.get(name)),
+        None => None,
+    }
+}
+
+fn unless_null<'t, 'a>(found: Option<Part<'t, 'a>>) -> Option<Part<'t, 'a>>
+    ensures { result ≡ option_and_then unless_null found.entry }
+{
+    match found {
+        Some(document) => {
+            if document.is_null() {
+                None
+            } else {
+                Some(document)
+            }
+        }
         None => None,
     }
 }

@@ -1,9 +1,10 @@
 //! From a review to its request.
 
-ghost use Rattle.std.specs.Prelude.{◌≡◌, IfOk, IfErr, IfSome, None, codes, option_and_then};
+ghost use Rattle.std.specs.Prelude.{◌≡◌, IfOk, IfErr, IfSome, Some, None, codes, option_and_then};
 ghost use Rattle.serde_json.specs.Find.{get};
-ghost use Rattle.serde_json.specs.View.{view, members_view};
+ghost use Rattle.serde_json.specs.Read.{read};
 ghost use Rattle.failing.specs.Failures.{Answers, IfFault};
+ghost use Rattle.json_documents.specs.Gathered.{members_of, items_of as gathered, AreInOrder};
 ghost use Rattle.json_members.specs.Parts.{text_of, text_in, items_of, items_in, each_item};
 ghost use Rattle.vap_request.specs.Reading.{asked, text_at, kind_of, resource_of, lists_under, lists_in};
 ghost use Rattle.vap_request.specs.Reading.{user_info_of, dry_run_of, names_of, target_of, admission_from, request_of, read_review};
@@ -13,148 +14,207 @@ use crate::form::is_review;
 use crate::limits::is_short_review;
 use crate::request::{Admission, Kind, Request, Resource, UserInfo};
 use crate::review_fault::{ReviewError, ReviewFault};
-use json_members::{items_in, items_of, text_in, texts_of};
-use plain::{Boxed, Items, Keyed, Shared, Text, TextMap};
-use serde_json::{Map, Value as Json};
+use crate::texts::{items_in, items_of, text_in, texts_of};
+use json_documents::{Document, Part};
+use plain::{Items, Keyed, Shared, Text, TextMap};
 use std::alloc::{AllocError, Global};
 
 impl Request {
-    /// The request of a review, or the least of the review's faults.
-    pub fn from_json(alloc: Global, review: Json) -> Result<Request, ReviewError>
-        ensures exact { Answers (read_review review) result }
-        ensures least { IfErr result (IfFault (IsLeast (view review))) }
+    /// The request of a review, of which the text is given and the document is open, or the least of the review's faults.
+    pub fn from_text(
+        alloc: Global,
+        text: &str,
+        review: &Part<'_, '_>,
+    ) -> Result<Request, ReviewError>
+        requires { read text.now ≡ Some review.now }
+        ensures exact { Answers (read_review review.now) result }
+        ensures least { IfErr result (IfFault (IsLeast review.now)) }
     {
-        match fault_of(&review) {
+        match fault_of(alloc, review)? {
             Some(fault) => Err(ReviewError::Fault(fault)),
-            None => Ok(request_of(alloc, review)?),
+            None => Ok(request_of(alloc, text, review)?),
         }
     }
 }
 
-fn fault_of(review: &Json) -> Option<ReviewFault>
-    ensures exact { result ≡ least_fault (view review.now) }
-    ensures least { IfSome result (λ fault. IsLeast (view review.now) fault) }
+fn fault_of(alloc: Global, review: &Part<'_, '_>) -> Result<Option<ReviewFault>, AllocError>
+    ensures exact { IfOk result (λ fault. fault ≡ least_fault review.now) }
+    ensures least { IfOk result (λ fault. IfSome fault (IsLeast review.now)) }
 {
-    if !is_review(review) {
-        Some(ReviewFault::BadReview)
-    } else if !is_short_review(review) {
-        Some(ReviewFault::OverLimit)
+    if !is_review(alloc, review)? {
+        Ok(Some(ReviewFault::BadReview))
+    } else if !is_short_review(alloc, review)? {
+        Ok(Some(ReviewFault::OverLimit))
     } else {
-        None
+        Ok(None)
     }
 }
 
-/// The request of a review, or the review itself where it has none.
-fn asked(review: &Json) -> &Json
-    ensures { view result.now ≡ asked (view review.now) }
+fn request_of(alloc: Global, text: &str, review: &Part<'_, '_>) -> Result<Request, AllocError>
+    requires read { read text.now ≡ Some review.now }
+    requires whole { least_fault review.now ≡ None }
+    ensures { IfOk result (λ request. request ≡ request_of review.now) }
+{
+    let document = Document::new(alloc, text)?;
+    let admission = admission_in(alloc, document, review)?;
+    Ok(Request {
+        admission: Shared::new(alloc, admission)?,
+    })
+}
+
+/// What the request of a review asks, or the review itself where it has none.
+fn admission_in(
+    alloc: Global,
+    document: Document,
+    review: &Part<'_, '_>,
+) -> Result<Admission, AllocError>
+    ensures { IfOk result (λ admission. admission ≡ admission_from document (asked review.now)) }
 {
     match review.get("request") {
-        Some(found) => found,
-        None => review,
+        Some(request) => admission_of(alloc, document, &request),
+        None => admission_of(alloc, document, review),
     }
+}
+
+fn admission_of(
+    alloc: Global,
+    document: Document,
+    part: &Part<'_, '_>,
+) -> Result<Admission, AllocError>
+    ensures { IfOk result (λ admission. admission ≡ admission_from document part.now) }
+{
+    let names = names_of(alloc, part)?;
+    let target = target_of(alloc, part)?;
+    let dry_run = dry_run_of(part);
+    Ok(Admission {
+        uid: names.uid,
+        kind: target.kind,
+        resource: target.resource,
+        sub_resource: names.sub_resource,
+        name: names.name,
+        namespace: names.namespace,
+        operation: names.operation,
+        user_info: target.user_info,
+        dry_run,
+        review: document,
+    })
 }
 
 /// A text of its own of a member, empty where there is none.
-fn copied(alloc: Global, json: &Json, name: &str) -> Result<Text, AllocError>
-    ensures { IfOk result (λ text. text ≡ text_in (get name.now (view json.now))) }
+fn copied(alloc: Global, part: &Part<'_, '_>, name: &str) -> Result<Text, AllocError>
+    ensures { IfOk result (λ text. text ≡ text_in (get name.now part.now)) }
 {
-    Text::from_str(alloc, text_in(json, name))
+    Text::from_str(alloc, text_in(part, name))
 }
 
 /// A text of its own of a member of a member, empty where there is none.
-fn text_at(alloc: Global, json: &Json, outer: &str, inner: &str) -> Result<Text, AllocError>
-    ensures { IfOk result (λ text. text ≡ text_at outer.now inner.now (view json.now)) }
+fn text_at(alloc: Global, part: &Part<'_, '_>, outer: &str, inner: &str) -> Result<Text, AllocError>
+    ensures { IfOk result (λ text. text ≡ text_at outer.now inner.now part.now) }
 {
-    match json.get(outer) {
-        Some(found) => Ok(copied(alloc, found, inner)?),
+    match part.get(outer) {
+        Some(found) => Ok(copied(alloc, &found, inner)?),
         None => Ok(Text::from_str(alloc, "")?),
     }
 }
 
-fn kind_of(alloc: Global, json: &Json) -> Result<Kind, AllocError>
-    ensures { IfOk result (λ kind. kind ≡ kind_of (view json.now)) }
+fn kind_of(alloc: Global, part: &Part<'_, '_>) -> Result<Kind, AllocError>
+    ensures { IfOk result (λ kind. kind ≡ kind_of part.now) }
 {
     Ok(Kind {
-        group: text_at(alloc, json, "kind", "group")?,
-        version: text_at(alloc, json, "kind", "version")?,
-        kind: text_at(alloc, json, "kind", "kind")?,
+        group: text_at(alloc, part, "kind", "group")?,
+        version: text_at(alloc, part, "kind", "version")?,
+        kind: text_at(alloc, part, "kind", "kind")?,
     })
 }
 
-fn resource_of(alloc: Global, json: &Json) -> Result<Resource, AllocError>
-    ensures { IfOk result (λ resource. resource ≡ resource_of (view json.now)) }
+fn resource_of(alloc: Global, part: &Part<'_, '_>) -> Result<Resource, AllocError>
+    ensures { IfOk result (λ resource. resource ≡ resource_of part.now) }
 {
     Ok(Resource {
-        group: text_at(alloc, json, "resource", "group")?,
-        version: text_at(alloc, json, "resource", "version")?,
-        resource: text_at(alloc, json, "resource", "resource")?,
+        group: text_at(alloc, part, "resource", "group")?,
+        version: text_at(alloc, part, "resource", "version")?,
+        resource: text_at(alloc, part, "resource", "resource")?,
     })
 }
 
-fn list_under(alloc: Global, name: &str, member: &Json) -> Result<Keyed<Items<Text>>, AllocError>
-    ensures { IfOk result (λ list. (list.key ≡ name.now) × (list.value ≡ each_item text_of (items_of (view member.now)))) }
+fn list_under(
+    alloc: Global,
+    name: &str,
+    member: &Part<'_, '_>,
+) -> Result<Keyed<Items<Text>>, AllocError>
+    ensures { IfOk result (λ list. (list.key ≡ name.now) × (list.value ≡ each_item text_of (items_of member.now))) }
 {
     Ok(Keyed {
         key: Text::from_str(alloc, name)?,
-        value: texts_of(alloc, items_of(member))?,
+        value: texts_of(alloc, items_of(alloc, member)?.as_slice())?,
     })
 }
 
 fn lists_under(
     alloc: Global,
-    members: &Map<String, Json>,
+    members: &[(&str, Part<'_, '_>)],
 ) -> Result<TextMap<Items<Text>>, AllocError>
-    ensures { IfOk result (λ lists. lists ≡ lists_under (members_view members.now.entries)) }
+    requires { AreInOrder members.now }
+    ensures { IfOk result (λ lists. lists ≡ lists_under (members_of members.now)) }
 {
     let mut lists = Vec::with_capacity(alloc, members.len())?;
-    for (name, member) in members.iter() {
-        lists.push(list_under(alloc, name.as_str(), member)?)?;
+    for member in members {
+        lists.push(list_under(alloc, member.0, &member.1)?)?;
     }
     Ok(TextMap::from_vec(lists))
 }
 
 /// The texts under each name of `extra`.
-fn extra_of(alloc: Global, json: &Json) -> Result<TextMap<Items<Text>>, AllocError>
+fn extra_of(alloc: Global, part: &Part<'_, '_>) -> Result<TextMap<Items<Text>>, AllocError>
     ensures { IfOk result
-        (λ lists. lists ≡ lists_in (option_and_then (get (codes "extra")) (get (codes "userInfo") (view json.now)))) }
+        (λ lists. lists ≡ lists_in (option_and_then (get (codes "extra")) (get (codes "userInfo") part.now))) }
 {
-    match json.get("userInfo") {
-        Some(found) => match found.get("extra") {
-            Some(Json::Object(members)) => Ok(lists_under(alloc, members)?),
-            _ => Ok(TextMap::new(alloc)),
+    match part.get("userInfo") {
+        Some(found) => lists_at(alloc, found.get("extra")),
+        None => Ok(TextMap::new(alloc)),
+    }
+}
+
+fn lists_at(alloc: Global, part: Option<Part<'_, '_>>) -> Result<TextMap<Items<Text>>, AllocError>
+    ensures { IfOk result (λ lists. lists ≡ lists_in part.entry) }
+{
+    match part {
+        Some(found) => match found.members(alloc)? {
+            Some(members) => lists_under(alloc, members.as_slice()),
+            None => Ok(TextMap::new(alloc)),
         },
         None => Ok(TextMap::new(alloc)),
     }
 }
 
 /// The texts of `groups`.
-fn groups_of(alloc: Global, json: &Json) -> Result<Items<Text>, AllocError>
+fn groups_of(alloc: Global, part: &Part<'_, '_>) -> Result<Items<Text>, AllocError>
     ensures { IfOk result (λ texts. texts
-        ≡ each_item text_of (items_in (option_and_then (get (codes "groups")) (get (codes "userInfo") (view json.now))))) }
+        ≡ each_item text_of (items_in (option_and_then (get (codes "groups")) (get (codes "userInfo") part.now)))) }
 {
-    match json.get("userInfo") {
-        Some(found) => Ok(texts_of(alloc, items_in(found, "groups"))?),
+    match part.get("userInfo") {
+        Some(found) => texts_of(alloc, items_in(alloc, &found, "groups")?.as_slice()),
         None => Ok(Items::new(alloc)),
     }
 }
 
-fn user_info_of(alloc: Global, json: &Json) -> Result<UserInfo, AllocError>
-    ensures { IfOk result (λ user. user ≡ user_info_of (view json.now)) }
+fn user_info_of(alloc: Global, part: &Part<'_, '_>) -> Result<UserInfo, AllocError>
+    ensures { IfOk result (λ user. user ≡ user_info_of part.now) }
 {
     Ok(UserInfo {
-        username: text_at(alloc, json, "userInfo", "username")?,
-        uid: text_at(alloc, json, "userInfo", "uid")?,
-        groups: groups_of(alloc, json)?,
-        extra: extra_of(alloc, json)?,
+        username: text_at(alloc, part, "userInfo", "username")?,
+        uid: text_at(alloc, part, "userInfo", "uid")?,
+        groups: groups_of(alloc, part)?,
+        extra: extra_of(alloc, part)?,
     })
 }
 
-fn dry_run_of(json: &Json) -> bool
-    ensures { result ≡ dry_run_of (view json.now) }
+fn dry_run_of(part: &Part<'_, '_>) -> bool
+    ensures { result ≡ dry_run_of part.now }
 {
-    match json.get("dryRun") {
-        Some(Json::Bool(truth)) => *truth,
-        _ => false,
+    match part.get("dryRun") {
+        Some(found) => found.as_bool().unwrap_or(false),
+        None => false,
     }
 }
 
@@ -168,15 +228,15 @@ struct Names {
     operation: Text,
 }
 
-fn names_of(alloc: Global, json: &Json) -> Result<Names, AllocError>
-    ensures { IfOk result (λ names. names ≡ names_of (view json.now)) }
+fn names_of(alloc: Global, part: &Part<'_, '_>) -> Result<Names, AllocError>
+    ensures { IfOk result (λ names. names ≡ names_of part.now) }
 {
     Ok(Names {
-        uid: copied(alloc, json, "uid")?,
-        sub_resource: copied(alloc, json, "subResource")?,
-        name: copied(alloc, json, "name")?,
-        namespace: copied(alloc, json, "namespace")?,
-        operation: copied(alloc, json, "operation")?,
+        uid: copied(alloc, part, "uid")?,
+        sub_resource: copied(alloc, part, "subResource")?,
+        name: copied(alloc, part, "name")?,
+        namespace: copied(alloc, part, "namespace")?,
+        operation: copied(alloc, part, "operation")?,
     })
 }
 
@@ -188,43 +248,12 @@ struct Target {
     user_info: UserInfo,
 }
 
-fn target_of(alloc: Global, json: &Json) -> Result<Target, AllocError>
-    ensures { IfOk result (λ target. target ≡ target_of (view json.now)) }
+fn target_of(alloc: Global, part: &Part<'_, '_>) -> Result<Target, AllocError>
+    ensures { IfOk result (λ target. target ≡ target_of part.now) }
 {
     Ok(Target {
-        kind: kind_of(alloc, json)?,
-        resource: resource_of(alloc, json)?,
-        user_info: user_info_of(alloc, json)?,
-    })
-}
-
-fn request_of(alloc: Global, review: Json) -> Result<Request, AllocError>
-    requires { least_fault (view review) ≡ None }
-    ensures { IfOk result (λ request. request ≡ request_of review) }
-{
-    let admission = admission_of(alloc, Boxed::new(alloc, review)?)?;
-    Ok(Request {
-        admission: Shared::new(alloc, admission)?,
-    })
-}
-
-fn admission_of(alloc: Global, review: Boxed<Json>) -> Result<Admission, AllocError>
-    ensures { IfOk result (λ admission. admission ≡ admission_from review (asked (view review))) }
-{
-    let json = asked(review.get());
-    let names = names_of(alloc, json)?;
-    let target = target_of(alloc, json)?;
-    let dry_run = dry_run_of(json);
-    Ok(Admission {
-        uid: names.uid,
-        kind: target.kind,
-        resource: target.resource,
-        sub_resource: names.sub_resource,
-        name: names.name,
-        namespace: names.namespace,
-        operation: names.operation,
-        user_info: target.user_info,
-        dry_run,
-        review,
+        kind: kind_of(alloc, part)?,
+        resource: resource_of(alloc, part)?,
+        user_info: user_info_of(alloc, part)?,
     })
 }

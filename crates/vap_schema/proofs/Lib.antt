@@ -1,3 +1,4 @@
+pub mod InOrder
 pub mod Levels
 pub mod Searched
 pub mod WorkedRows

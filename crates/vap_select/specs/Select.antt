@@ -7,7 +7,6 @@ use Rattle.std.specs.Str.{bytes_eq}
 use Rattle.plain.specs.declared.text.Keyed.{Keyed}
 use Rattle.serde_json.specs.Data.{Data}
 use Rattle.serde_json.specs.Find.{get, as_str}
-use Rattle.json_members.specs.Parts.{lent}
 use Rattle.vap_select.specs.declared.labels.Labels.{Labels as Lent}
 use Rattle.vap_select.specs.declared.selector.Operator.{Operator}
 use Rattle.vap_select.specs.declared.selector.Operator.TheVariants.{In, NotIn, Exists, DoesNotExist}
@@ -28,7 +27,7 @@ lent_text t = option_map (λ s. s.now) t
 
 -- labels that are lent
 abbrev pub lent_labels : Lent → Labels
-lent_labels l = lent l.found
+lent_labels l = l.found
 
 -- the value of a label, if it is there; what is no text does not count
 abbrev pub label : Labels → List ℕ → Option (List ℕ)

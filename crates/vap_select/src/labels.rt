@@ -1,20 +1,19 @@
 //! The labels of an object, which are read where its document has them.
 
 ghost use Rattle.std.specs.Prelude.{◌≡◌};
-ghost use Rattle.serde_json.specs.View.{view};
 ghost use Rattle.vap_select.specs.Select.{labels_of, lent_labels, lent_text, label};
 
-use serde_json::Value as Json;
+use json_documents::Part;
 
 /// The labels of an object, lent: what stands under `metadata.labels` of its document, if anything does.
-#[derive(Clone, Copy)]
-pub struct Labels<'a> {
-    pub found: Option<&'a Json>,
+#[derive(Drop)]
+pub struct Labels<'t, 'a> {
+    pub found: Option<Part<'t, 'a>>,
 }
 
 /// The labels of an object.
-pub fn labels_of(document: &Json) -> Labels<'_>
-    ensures { lent_labels result ≡ labels_of (view document.now) }
+pub fn labels_of<'t, 'a>(document: &Part<'t, 'a>) -> Labels<'t, 'a>
+    ensures { lent_labels result ≡ labels_of document.now }
 {
     let found = match document.get("metadata") {
         Some(metadata) => metadata.get("labels"),
@@ -24,10 +23,10 @@ pub fn labels_of(document: &Json) -> Labels<'_>
 }
 
 /// The value of a label, if it is there as a text.
-pub fn label<'a>(labels: &Labels<'a>, key: &str) -> Option<&'a str>
+pub fn label<'a>(labels: &Labels<'_, 'a>, key: &str) -> Option<&'a str>
     ensures { lent_text result ≡ label (lent_labels labels.now) key.now }
 {
-    match labels.found {
+    match &labels.found {
         Some(found) => match found.get(key) {
             Some(value) => value.as_str(),
             None => None,

@@ -10,14 +10,14 @@ use crate::selector::{Operator, Requirement, Selector};
 use plain::{Keyed, Text};
 
 /// Whether a selector selects these labels.
-pub fn selects(selector: &Selector, labels: &Labels<'_>) -> bool
+pub fn selects(selector: &Selector, labels: &Labels<'_, '_>) -> bool
     ensures { result ≡ selects selector.now (lent_labels labels.now) }
 {
     has_all(labels, selector.match_labels.as_slice())
         && meets_all(labels, selector.match_expressions.as_slice())
 }
 
-fn has_all(labels: &Labels<'_>, wanted: &[Keyed<Text>]) -> bool
+fn has_all(labels: &Labels<'_, '_>, wanted: &[Keyed<Text>]) -> bool
     ensures { result ≡ list_all (has_label (lent_labels labels.now)) wanted.now }
 {
     for one in wanted {
@@ -28,7 +28,7 @@ fn has_all(labels: &Labels<'_>, wanted: &[Keyed<Text>]) -> bool
     true
 }
 
-fn has_label(labels: &Labels<'_>, wanted: &Keyed<Text>) -> bool
+fn has_label(labels: &Labels<'_, '_>, wanted: &Keyed<Text>) -> bool
     ensures { result ≡ has_label (lent_labels labels.now) wanted.now }
 {
     match label(labels, wanted.key.as_str()) {
@@ -37,7 +37,7 @@ fn has_label(labels: &Labels<'_>, wanted: &Keyed<Text>) -> bool
     }
 }
 
-fn meets_all(labels: &Labels<'_>, requirements: &[Requirement]) -> bool
+fn meets_all(labels: &Labels<'_, '_>, requirements: &[Requirement]) -> bool
     ensures { result ≡ list_all (meets (lent_labels labels.now)) requirements.now }
 {
     for requirement in requirements {
@@ -48,7 +48,7 @@ fn meets_all(labels: &Labels<'_>, requirements: &[Requirement]) -> bool
     true
 }
 
-fn meets(labels: &Labels<'_>, requirement: &Requirement) -> bool
+fn meets(labels: &Labels<'_, '_>, requirement: &Requirement) -> bool
     ensures { result ≡ meets (lent_labels labels.now) requirement.now }
 {
     let value = label(labels, requirement.key.as_str());

@@ -5,7 +5,6 @@ ghost use Rattle.std.specs.Option.{option_copied};
 ghost use Rattle.cel_value.specs.CelType.{fits};
 ghost use Rattle.cel_value.specs.declared.cel_type.CelType as type;
 ghost use Rattle.cel_operators.specs.Outcomes.{outcome_fits};
-ghost use Rattle.json_members.specs.Parts.{lent};
 ghost use Rattle.vap_request.specs.Requests.{old_object_of};
 ghost use Rattle.vap_kinds.specs.FixedKinds.{namespace_type};
 ghost use Rattle.vap_slots.specs.Held.{IsHeldAt, held_at, held_namespace, namespace_value, old_outcome};
@@ -14,12 +13,12 @@ ghost use Rattle.vap_slots.specs.Held.{value_at};
 use crate::fixed_types::FixedTypes;
 use crate::values::request_value;
 use cel_value::{CelError, CelType, Value};
-use serde_json::Value as Json;
+use json_documents::Part;
 use std::alloc::{AllocError, Global};
 use vap_fit::{FitError, FitFault, fit};
 use vap_match::is_cluster;
 use vap_read::Object;
-use vap_request::{Admission, Request};
+use vap_request::{Admission, OpenRequest};
 
 /// What all names but `params` hold at a request.
 pub struct Held {
@@ -46,14 +45,14 @@ fn value_at(
     alloc: Global,
     root: &str,
     cel_type: &CelType,
-    document: Option<&Json>,
+    document: Option<Part<'_, '_>>,
 ) -> Result<Result<Value, FitFault>, AllocError>
-    ensures exact { IfOk result (λ seen. seen ≡ value_at root.now cel_type.now (lent document.entry)) }
+    ensures exact { IfOk result (λ seen. seen ≡ value_at root.now cel_type.now document.entry) }
     ensures fits { IfOk result (λ seen. IfOk seen (λ v. fits v (type.Nullable cel_type.now) ≡ true)) }
 {
     match document {
         None => Ok(Ok(Value::Null)),
-        Some(document) => match fit(alloc, document, cel_type, root) {
+        Some(document) => match fit(alloc, &document, cel_type, root) {
             Ok(value) => Ok(Ok(value)),
             Err(FitError::Fault(fault)) => Ok(Err(fault)),
             Err(FitError::OutOfMemory) => Err(AllocError),
@@ -65,9 +64,10 @@ fn value_at(
 fn old_outcome(
     alloc: Global,
     cel_type: &CelType,
-    request: &Admission,
+    request: &OpenRequest<'_, '_, '_>,
 ) -> Result<Result<Value, CelError>, AllocError>
-    ensures exact { IfOk result (λ outcome. outcome ≡ old_outcome (value_at (codes "oldObject") cel_type.now (old_object_of request.now))) }
+    ensures exact { IfOk result (λ outcome. outcome
+        ≡ old_outcome (value_at (codes "oldObject") cel_type.now (old_object_of request.now.request.now.admission))) }
     ensures fits { IfOk result (λ outcome. outcome_fits (type.Nullable cel_type.now) (Some outcome) ≡ true) }
 {
     match value_at(alloc, "oldObject", cel_type, request.old_object())? {
@@ -84,7 +84,7 @@ fn held_namespace(alloc: Global, types: &FixedTypes, object: &Object) -> Result<
         alloc,
         "namespaceObject",
         types.namespace().get(),
-        Some(object.document.json()),
+        Some(Part::of_tree(object.document.json())),
     )? {
         Ok(value) => Ok(value),
         Err(_) => Ok(Value::Null),
@@ -117,18 +117,18 @@ pub fn held_at(
     types: &FixedTypes,
     namespace: Option<&Object>,
     cel_type: &CelType,
-    request: &Request,
+    request: &OpenRequest<'_, '_, '_>,
 ) -> Result<Result<Held, FitFault>, AllocError>
-    ensures exact { IfOk result (λ held. held ≡ held_at (option_copied namespace.entry) cel_type.now request.now.admission) }
+    ensures exact { IfOk result
+        (λ held. held ≡ held_at (option_copied namespace.entry) cel_type.now request.now.request.now.admission) }
     ensures fits { IfOk result (λ held. IfOk held (IsHeldAt cel_type.now)) }
 {
-    let asked = request.admission();
-    match value_at(alloc, "object", cel_type, asked.object())? {
+    match value_at(alloc, "object", cel_type, request.object())? {
         Ok(object) => Ok(Ok(Held {
             object,
-            old_object: old_outcome(alloc, cel_type, asked)?,
-            request: request_value(alloc, request)?,
-            namespace: namespace_value(alloc, types, namespace, asked)?,
+            old_object: old_outcome(alloc, cel_type, request)?,
+            request: request_value(alloc, request.request)?,
+            namespace: namespace_value(alloc, types, namespace, request.request.admission())?,
         })),
         Err(fault) => Ok(Err(fault)),
     }

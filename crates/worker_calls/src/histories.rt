@@ -4,7 +4,7 @@
 //! `{"judge": WORKER}` decides a request where the first desk is and appends it under this worker, and `{"stray": WORKER}` does so
 //! where the second one is.
 
-use calls_notation::{Asked, json, unknown};
+use calls_notation::{Asked, json, request_in, unknown};
 use serde_json::Value as Json;
 use std::alloc::{AllocError, Global};
 use vap_audit::{Entry, History};
@@ -79,7 +79,7 @@ fn append(
     worker: u64,
     history: &mut History,
 ) -> Result<(), AllocError> {
-    match Request::from_json(alloc, json(alloc, REVIEW)?) {
+    match request_in(alloc, REVIEW) {
         Ok(request) => append_decided(alloc, snapshot, request, worker, history),
         Err(_) => Ok(()),
     }

@@ -4,7 +4,7 @@
 //! others by itself. After each such step every review of the stream is judged by both sets. A line that is neither an event nor
 //! a review, or for which there is no room, is left out.
 
-use calls_notation::{Asked, json, unknown};
+use calls_notation::{Asked, json, request_in, unknown};
 use std::alloc::{AllocError, Global};
 use vap_answer::answer_text;
 use vap_judge::{JudgeError, Matchers, PolicySet, RunFault, judge};
@@ -25,7 +25,7 @@ pub fn answer(alloc: Global, asked: &Asked) -> Result<String, AllocError> {
 // ---- lines
 
 fn push_request(alloc: Global, requests: &mut Vec<Request>, line: &str) -> Result<(), AllocError> {
-    match Request::from_json(alloc, json(alloc, line)?) {
+    match request_in(alloc, line) {
         Ok(request) => {
             requests.push(request)?;
             Ok(())

@@ -3,7 +3,7 @@
 //! A row is a list of steps: `{"stage": EVENT}`, `{"publish": 0}`, `{"enter": WORKER, "review": REVIEW}`, `{"judge": WORKER}`,
 //! `{"record": WORKER}` and `{"give_up": WORKER}`.
 
-use calls_notation::{Asked, json, unknown};
+use calls_notation::{Asked, json, request_in, unknown};
 use serde_json::Value as Json;
 use std::alloc::{AllocError, Global};
 use vap_audit::History;
@@ -39,7 +39,7 @@ fn step_of(alloc: Global, json: &Json) -> Result<Option<Step>, AllocError> {
         };
     }
     if let Some(review) = json.get("review") {
-        return match Request::from_json(alloc, review.clone()?) {
+        return match request_in(alloc, review.to_string(alloc)?.as_str()) {
             Ok(request) => Ok(Some(Step::Enter(worker(json.get("enter")), request))),
             Err(_) => Ok(None),
         };

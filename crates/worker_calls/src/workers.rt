@@ -12,7 +12,7 @@ ghost use Rattle.std.specs.Prelude.{◌≡◌, ◌<◌, ◌≤◌, ◌-◌, ◌^
 ghost use Rattle.std.specs.List.{All};
 
 use crate::steps::push_entries;
-use calls_notation::{Asked, json, unknown};
+use calls_notation::{Asked, json, request_in, unknown};
 use json_members::items_of;
 use serde_json::Value as Json;
 use std::alloc::{AllocError, Global};
@@ -221,7 +221,7 @@ fn elsewhere<R: Wait>(rt: &R, alloc: Global, steps: &Json) -> Result<Writer, All
 }
 
 fn read(alloc: Global, review: &Json) -> Result<Request, AllocError> {
-    match Request::from_json(alloc, review.clone()?) {
+    match request_in(alloc, review.to_string(alloc)?.as_str()) {
         Ok(request) => Ok(request),
         Err(_) => Err(AllocError),
     }

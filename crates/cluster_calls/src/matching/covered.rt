@@ -1,7 +1,7 @@
 //! Which requests rules cover.
 
 use crate::matching::read::{match_refusal, review, review_refusal, sign};
-use calls_notation::{Asked, json, unknown};
+use calls_notation::{Asked, json, request_in, unknown};
 use std::alloc::{AllocError, Global};
 use vap_match::{Request, Rules, covers};
 
@@ -31,7 +31,7 @@ fn cover_signs(alloc: Global, request: &Request) -> Result<String, AllocError> {
 
 /// Which rules cover a request of these members.
 fn covered(alloc: Global, row: &str) -> Result<String, AllocError> {
-    match Request::from_json(alloc, review(alloc, row)?) {
+    match request_in(alloc, review(alloc, row)?.as_str()) {
         Ok(request) => cover_signs(alloc, &request),
         Err(error) => review_refusal(alloc, error),
     }

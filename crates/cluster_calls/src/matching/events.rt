@@ -2,6 +2,7 @@
 
 use crate::matching::read::agreed;
 use calls_notation::{Asked, json, unknown};
+use json_documents::Part;
 use std::alloc::{AllocError, Global};
 use vap_read::{Content, Event, EventError, Key, LineKind, Object, ObjectMap, line_kind};
 
@@ -121,7 +122,7 @@ fn read(alloc: Global, row: &str) -> Result<String, AllocError> {
 /// The name of the kind of a line.
 fn kind(alloc: Global, row: &str) -> Result<String, AllocError> {
     let line = json(alloc, row)?;
-    let name = match line_kind(&line) {
+    let name = match line_kind(&Part::of_tree(&line)) {
         LineKind::WatchEvent => "watch event",
         LineKind::ObjectList => "list",
         LineKind::Review => "review",

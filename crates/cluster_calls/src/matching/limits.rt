@@ -1,13 +1,14 @@
 //! How long the texts and the lists of a review may be.
 
 use crate::matching::read::review;
+use calls_notation::request_in;
 use std::alloc::{AllocError, Global};
-use vap_match::{Request, ReviewError};
+use vap_match::ReviewError;
 
 /// Whether a review is read whose request has these members too.
 fn is_with(alloc: Global, members: &str) -> Result<bool, AllocError> {
     let text = format!(in alloc; "\"resource\":{{}},\"operation\":\"CREATE\",{members}")?;
-    match Request::from_json(alloc, review(alloc, text.as_str())?) {
+    match request_in(alloc, review(alloc, text.as_str())?.as_str()) {
         Ok(_) => Ok(true),
         Err(ReviewError::Fault(_)) => Ok(false),
         Err(ReviewError::OutOfMemory) => Err(AllocError),

@@ -1,11 +1,13 @@
 //! Which requests rules match: those that they cover, whose namespace and whose object they select.
 
 use crate::matching::read::{match_refusal, review, review_refusal, sign};
-use calls_notation::{Asked, json, unknown};
+use calls_notation::{Asked, json, request_in, unknown};
+use json::Scratch;
+use json_documents::Part;
 use json_members::text_of;
 use serde_json::Value as Json;
 use std::alloc::{AllocError, Global};
-use vap_match::{Labels, Request, Rules, labels_of, matches};
+use vap_match::{Labels, OpenRequest, Request, Rules, labels_of, matches};
 
 /// The answer to a call of rules that match requests.
 pub fn answer(alloc: Global, asked: &Asked) -> Result<String, AllocError> {
@@ -19,8 +21,8 @@ pub fn answer(alloc: Global, asked: &Asked) -> Result<String, AllocError> {
 fn match_sign(
     alloc: Global,
     rules: &str,
-    request: &Request,
-    held: &Labels<'_>,
+    request: &OpenRequest<'_, '_, '_>,
+    held: &Labels<'_, '_>,
 ) -> Result<&'static str, AllocError> {
     match Rules::from_json(alloc, &json(alloc, rules)?) {
         Ok(rules) => Ok(sign(matches(&rules, request, held))),
@@ -28,7 +30,11 @@ fn match_sign(
     }
 }
 
-fn match_signs(alloc: Global, request: &Request, held: &Labels<'_>) -> Result<String, AllocError> {
+fn match_signs(
+    alloc: Global,
+    request: &OpenRequest<'_, '_, '_>,
+    held: &Labels<'_, '_>,
+) -> Result<String, AllocError> {
     let mut out = String::new(alloc);
     for rules in &CHOOSING {
         out.push_str(match_sign(alloc, rules, request, held)?)?;
@@ -36,9 +42,23 @@ fn match_signs(alloc: Global, request: &Request, held: &Labels<'_>) -> Result<St
     Ok(out)
 }
 
+fn match_opened(
+    alloc: Global,
+    request: &Request,
+    held: &Labels<'_, '_>,
+) -> Result<String, AllocError> {
+    let mut scratch = Scratch::new(alloc);
+    let tape = request.admission().review.tape(alloc, &mut scratch)?;
+    match_signs(
+        alloc,
+        &OpenRequest::new(request, Part::new(tape.root())),
+        held,
+    )
+}
+
 fn matched_in(alloc: Global, namespace: &Json, row: &str) -> Result<String, AllocError> {
-    match Request::from_json(alloc, review(alloc, row)?) {
-        Ok(request) => match_signs(alloc, &request, &labels_of(namespace)),
+    match request_in(alloc, review(alloc, row)?.as_str()) {
+        Ok(request) => match_opened(alloc, &request, &labels_of(&Part::of_tree(namespace))),
         Err(error) => review_refusal(alloc, error),
     }
 }

@@ -4,6 +4,7 @@
 use crate::matching::events::push_key;
 use crate::matching::read::sign;
 use calls_notation::{Asked, json, unknown};
+use json_documents::Part;
 use plain::{Keyed, Shared, Text};
 use serde_json::Value as Json;
 use std::alloc::{AllocError, Global};
@@ -153,9 +154,19 @@ fn push_keys(out: &mut String, objects: &[Shared<Object>]) -> Result<(), AllocEr
     Ok(())
 }
 
-fn push_labels(out: &mut String, alloc: Global, labels: &Labels<'_>) -> Result<(), AllocError> {
-    match labels.found {
-        Some(found) => out.push_str(found.to_string(alloc)?.as_str()),
+fn push_named(out: &mut String, labels: &[(&str, Part<'_, '_>)]) -> Result<(), AllocError> {
+    for label in labels {
+        write!(out, "{}={},", label.0, label.1.as_str().unwrap_or("?"))?;
+    }
+    Ok(())
+}
+
+fn push_labels(out: &mut String, alloc: Global, labels: &Labels<'_, '_>) -> Result<(), AllocError> {
+    match &labels.found {
+        Some(found) => match found.members(alloc)? {
+            Some(labels) => push_named(out, labels.as_slice()),
+            None => out.push_str("no object"),
+        },
         None => out.push_str("none"),
     }
 }

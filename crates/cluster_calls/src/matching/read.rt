@@ -1,15 +1,12 @@
-//! From the text of a row to a document, and from a refusal to its name.
+//! From the text of a row to that of a review, and from a refusal to its name.
 
-use calls_notation::json;
-use serde_json::Value as Json;
 use std::alloc::{AllocError, Global};
 use vap_match::{MatchError, ReviewError};
 use vap_policies::PolicyError;
 
-/// The review whose request has these members, and those that it needs beside them.
-pub fn review(alloc: Global, members: &str) -> Result<Json, AllocError> {
-    let text = format!(in alloc; "{{\"request\":{{\"uid\":\"u\",\"kind\":{{}},{members}}}}}")?;
-    json(alloc, text.as_str())
+/// The text of the review whose request has these members, and those that it needs beside them.
+pub fn review(alloc: Global, members: &str) -> Result<String, AllocError> {
+    format!(in alloc; "{{\"request\":{{\"uid\":\"u\",\"kind\":{{}},{members}}}}}")
 }
 
 /// What a value and its copy say, where both say the same.

@@ -2,9 +2,11 @@
 
 use crate::matching::limits;
 use crate::matching::read::{agreed, review_refusal};
-use calls_notation::{Asked, json, unknown};
+use calls_notation::{Asked, request_in, unknown};
+use json::Scratch;
+use json_documents::Part;
 use std::alloc::{AllocError, Global};
-use vap_match::{Admission, Request};
+use vap_match::{Admission, OpenRequest, Request};
 
 /// The answer to a call of reviews.
 pub fn answer(alloc: Global, asked: &Asked) -> Result<String, AllocError> {
@@ -44,8 +46,8 @@ fn push_target(out: &mut String, asked: &Admission) -> Result<(), AllocError> {
 }
 
 /// Which objects there are: `o` as it is to be, `p` as it was.
-fn objects(asked: &Admission) -> &'static str {
-    match (asked.object(), asked.old_object()) {
+fn objects(open: &OpenRequest<'_, '_, '_>) -> &'static str {
+    match (open.object(), open.old_object()) {
         (Some(_), Some(_)) => "op",
         (Some(_), None) => "o",
         (None, Some(_)) => "p",
@@ -54,29 +56,32 @@ fn objects(asked: &Admission) -> &'static str {
 }
 
 /// What a review asks, of its objects which there are.
-pub fn shown(alloc: Global, asked: &Admission) -> Result<String, AllocError> {
+pub fn shown(alloc: Global, open: &OpenRequest<'_, '_, '_>) -> Result<String, AllocError> {
+    let asked = open.request.admission();
     let mut out = String::from_str(alloc, asked.uid.as_str())?;
     push_target(&mut out, asked)?;
     push_user(&mut out, asked)?;
     out.push_str(if asked.dry_run { ";dry;" } else { ";;" })?;
-    out.push_str(objects(asked))?;
+    out.push_str(objects(open))?;
     Ok(out)
 }
 
-fn shown_of(alloc: Global, request: Request) -> Result<String, AllocError> {
-    shown(alloc, request.admission())
+fn shown_of(alloc: Global, request: &Request) -> Result<String, AllocError> {
+    let mut scratch = Scratch::new(alloc);
+    let tape = request.admission().review.tape(alloc, &mut scratch)?;
+    shown(alloc, &OpenRequest::new(request, Part::new(tape.root())))
 }
 
 /// What a request and its copy ask, where both ask the same.
 fn shown_twice(alloc: Global, request: &Request) -> Result<String, AllocError> {
-    let copy = shown_of(alloc, request.copy()?)?;
-    let first = shown(alloc, request.admission())?;
+    let copy = shown_of(alloc, &request.copy()?)?;
+    let first = shown_of(alloc, request)?;
     agreed(alloc, first.as_str(), copy.as_str())
 }
 
 /// What a review asks, which a copy does too, or the review's fault.
 fn request(alloc: Global, row: &str) -> Result<String, AllocError> {
-    match Request::from_json(alloc, json(alloc, row)?) {
+    match request_in(alloc, row) {
         Ok(request) => shown_twice(alloc, &request),
         Err(error) => review_refusal(alloc, error),
     }

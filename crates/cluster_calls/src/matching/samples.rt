@@ -3,11 +3,13 @@
 use crate::matching::events::{push_key, refusal};
 use crate::matching::read::review_refusal;
 use crate::matching::{bindings, policies, reviews};
-use calls_notation::{Asked, json, unknown};
+use calls_notation::{Asked, json, part_at, request_in, shown as shown_value, unknown};
+use json::Scratch;
+use json_documents::Part;
 use plain::Text;
 use serde_json::Value as Json;
 use std::alloc::{AllocError, Global};
-use vap_match::{Admission, Operation, Request, Rule, Scope};
+use vap_match::{OpenRequest, Operation, Request, Rule, Scope};
 use vap_policies::PolicySpec;
 use vap_read::{Content, Event, Object};
 
@@ -15,7 +17,7 @@ use vap_read::{Content, Event, Object};
 pub fn answer(alloc: Global, asked: &Asked) -> Result<String, AllocError> {
     match asked.call {
         "put" => put(alloc, asked.input, asked.text(0)),
-        "request" => request(alloc, asked.input, asked.text(0), asked.text(1)),
+        "request" => request(alloc, asked.input, asked.text(0)),
         _ => unknown(alloc),
     }
 }
@@ -86,27 +88,19 @@ fn push_content(out: &mut String, alloc: Global, content: &Content) -> Result<()
     }
 }
 
-/// A document's text, that of null where there is none.
-fn text_of(alloc: Global, document: Option<&Json>) -> Result<String, AllocError> {
-    match document {
-        Some(document) => document.to_string(alloc),
-        None => Json::Null.to_string(alloc),
-    }
-}
-
 /// The text of the document that a text spells.
 fn text_anew(alloc: Global, text: &str) -> Result<String, AllocError> {
-    text_of(alloc, Some(&json(alloc, text)?))
+    json(alloc, text)?.to_string(alloc)
 }
 
 /// Writes whether a document is the wanted one, else the document.
 fn push_document(
     out: &mut String,
     alloc: Global,
-    document: Option<&Json>,
+    document: &Json,
     wanted: &str,
 ) -> Result<(), AllocError> {
-    let text = text_of(alloc, document)?;
+    let text = document.to_string(alloc)?;
     if text.as_str() == text_anew(alloc, wanted)?.as_str() {
         out.push_str("; as it stands")
     } else {
@@ -119,7 +113,7 @@ fn shown(alloc: Global, object: &Object, wanted: &str) -> Result<String, AllocEr
     push_key(&mut out, &object.key)?;
     out.push_str(": ")?;
     push_content(&mut out, alloc, &object.content)?;
-    push_document(&mut out, alloc, Some(object.document.json()), wanted)?;
+    push_document(&mut out, alloc, object.document.json(), wanted)?;
     Ok(out)
 }
 
@@ -138,27 +132,45 @@ fn put(alloc: Global, line: &str, wanted: &str) -> Result<String, AllocError> {
     }
 }
 
-fn shown_request(
+/// Writes the value of an object at a type that is written, if there is the object.
+fn push_object(
+    out: &mut String,
     alloc: Global,
-    asked: &Admission,
-    object: &str,
-    old_object: &str,
+    written: &Json,
+    object: Option<Part<'_, '_>>,
+) -> Result<(), AllocError> {
+    match object {
+        Some(object) => {
+            let value = part_at(alloc, written, &object)?;
+            write!(out, "; {}", shown_value(alloc, &value)?.as_str())
+        }
+        None => out.push_str("; none"),
+    }
+}
+
+fn shown_open(
+    alloc: Global,
+    open: &OpenRequest<'_, '_, '_>,
+    written: &Json,
 ) -> Result<String, AllocError> {
-    let mut out = reviews::shown(alloc, asked)?;
-    push_document(&mut out, alloc, asked.object(), object)?;
-    push_document(&mut out, alloc, asked.old_object(), old_object)?;
+    let mut out = reviews::shown(alloc, open)?;
+    push_object(&mut out, alloc, written, open.object())?;
+    push_object(&mut out, alloc, written, open.old_object())?;
     Ok(out)
 }
 
-/// What a review asks, whole, and whether its documents are the wanted ones.
-fn request(
-    alloc: Global,
-    line: &str,
-    object: &str,
-    old_object: &str,
-) -> Result<String, AllocError> {
-    match Request::from_json(alloc, json(alloc, line)?) {
-        Ok(request) => shown_request(alloc, request.admission(), object, old_object),
+fn shown_request(alloc: Global, request: &Request, written: &str) -> Result<String, AllocError> {
+    let written = json(alloc, written)?;
+    let mut scratch = Scratch::new(alloc);
+    let tape = request.admission().review.tape(alloc, &mut scratch)?;
+    let open = OpenRequest::new(request, Part::new(tape.root()));
+    shown_open(alloc, &open, &written)
+}
+
+/// What a review asks, whole, and its objects at the type that is written.
+fn request(alloc: Global, line: &str, written: &str) -> Result<String, AllocError> {
+    match request_in(alloc, line) {
+        Ok(request) => shown_request(alloc, &request, written),
         Err(error) => review_refusal(alloc, error),
     }
 }

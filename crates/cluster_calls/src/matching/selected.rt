@@ -2,6 +2,7 @@
 
 use crate::matching::read::{match_refusal, sign};
 use calls_notation::{Asked, json, unknown};
+use json_documents::Part;
 use std::alloc::{AllocError, Global};
 use vap_match::{Labels, Selector, labels_of, selects};
 
@@ -17,7 +18,7 @@ pub fn answer(alloc: Global, asked: &Asked) -> Result<String, AllocError> {
 fn select_sign(
     alloc: Global,
     selector: &str,
-    labels: &Labels<'_>,
+    labels: &Labels<'_, '_>,
 ) -> Result<&'static str, AllocError> {
     match Selector::from_json(alloc, &json(alloc, selector)?) {
         Ok(selector) => Ok(sign(selects(&selector, labels))),
@@ -25,7 +26,7 @@ fn select_sign(
     }
 }
 
-fn select_signs(alloc: Global, labels: &Labels<'_>) -> Result<String, AllocError> {
+fn select_signs(alloc: Global, labels: &Labels<'_, '_>) -> Result<String, AllocError> {
     let mut out = String::new(alloc);
     for selector in &SELECTORS {
         out.push_str(select_sign(alloc, selector, labels)?)?;
@@ -35,7 +36,7 @@ fn select_signs(alloc: Global, labels: &Labels<'_>) -> Result<String, AllocError
 
 /// Which selectors select the labels of an object.
 fn selected(alloc: Global, row: &str) -> Result<String, AllocError> {
-    select_signs(alloc, &labels_of(&json(alloc, row)?))
+    select_signs(alloc, &labels_of(&Part::of_tree(&json(alloc, row)?)))
 }
 
 /// Selectors, of which each object below has a sign.

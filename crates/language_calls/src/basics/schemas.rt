@@ -2,6 +2,7 @@
 
 use calls_notation::{Asked, json, shown, shown_type, unknown};
 use cel_value::{CelType, Value, fits, max_weight, weight};
+use json_documents::Part;
 use json_text::to_json;
 use serde_json::Value as Json;
 use std::alloc::{AllocError, Global};
@@ -52,7 +53,7 @@ fn fitted(
     document: &Json,
     root: &str,
 ) -> Result<String, AllocError> {
-    match fit(alloc, document, cel_type, root) {
+    match fit(alloc, &Part::of_tree(document), cel_type, root) {
         Ok(value) => within(alloc, &value, cel_type),
         Err(FitError::Fault(fault)) => format!(in alloc; "{fault}"),
         Err(FitError::OutOfMemory) => Err(AllocError),
@@ -111,7 +112,7 @@ fn at_type(
     path: &str,
 ) -> Result<String, AllocError> {
     let greatest = max_weight(cel_type);
-    match fit(alloc, document, cel_type, path) {
+    match fit(alloc, &Part::of_tree(document), cel_type, path) {
         Ok(value) => told(alloc, &value, greatest),
         Err(FitError::Fault(fault)) => format!(in alloc;
             "refused: {} at {}; greatest weight {greatest}",

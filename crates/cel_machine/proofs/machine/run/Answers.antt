@@ -1,5 +1,6 @@
 use Rattle.std.proofs.Common.{◌+◌, sym, ap, ◌∙◌, subst, arith}
 use Rattle.cel_verify.specs.Paths.{IsRouteCharge, IsRouteLength, IsWithin}
+use Rattle.cel_verify.specs.Accepted.{IsDeclared}
 use Rattle.cel_verify.specs.Depths.{greatest_depth, greatest_nesting}
 use Rattle.cel_verify.proofs.Walking.{no_end}
 use Rattle.cel_machine.proofs.Running.{begun, here, deep, nested, goes, next, outcome_fits, has_top, not_stuck}
@@ -124,6 +125,17 @@ returns-in-IsOver-clause-within_budget c =
     let run = here c.args.program.now i.result.now c.args.slots.now i.ensures.accepted i.ensures.image c.requires in
     let h = run l.position.at l.stack.items l.frames.items l.charged l.steps l.invariant.0 in
     omega (arith, h.cheap)
+
+pub returns-in-IsOver-clause-declared : goal.returns-in-IsOver-clause-declared
+returns-in-IsOver-clause-declared c most declares =
+    let l = c.loop-instr in
+    let i = c.image-image in
+    let run = here c.args.program.now i.result.now c.args.slots.now i.ensures.accepted i.ensures.image c.requires in
+    let h = run l.position.at l.stack.items l.frames.items l.charged l.steps l.invariant.0 in
+    let cost = subst (λ p. IsWithin (IsRouteCharge p) l.charged) i.ensures.image h.cost in
+    let says = subst (λ d. IsDeclared c.args.program.now d) declares i.ensures.accepted.declared in
+    let dearest = says.0 cost.most cost.is in
+    (omega (arith, cost.within, dearest), says.1)
 
 pub unreachable-requires : goal.unreachable-requires
 unreachable-requires c =

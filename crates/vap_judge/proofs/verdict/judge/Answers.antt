@@ -47,5 +47,5 @@ returns-clause-pattern c = λ is.
           subst (KindMayMatch b c.args.request.now.admission)
           (c.kind_at-kind.ensures ∙ (ap (λ (ks : List Kind). kind_at ks c.admission-admission.result.now) c.kinds-kinds.ensures.exact
           ∙ ap (λ (r : Admission). kind_at (kinds_of b) r) asked))
-          (c.judge_at.ensures.pattern is);
+          (c.judge_opened.ensures.pattern is);
     }

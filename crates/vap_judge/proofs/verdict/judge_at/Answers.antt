@@ -13,10 +13,10 @@ use Rattle.vap_judge.proofs.verdict.judge_at.Goals as goal
 
 -- what the names hold is what the definition says
 abbrev held_is : (c : goal.Joined-opaque-2)
-    → held_at (namespace_in c.args.request.now.admission.namespace c.args.set.now) (type_at (option_copied c.args.kind))
-    c.args.request.now.admission ≡ Ok c.in-Ok-Ok.held
+    → held_at (namespace_in c.args.request.now.request.now.admission.namespace c.args.set.now) (type_at (option_copied c.args.kind))
+    c.args.request.now.request.now.admission ≡ Ok c.in-Ok-Ok.held
 held_is c =
-    let r = c.args.request.now.admission in
+    let r = c.args.request.now.request.now.admission in
     let name = c.as_str-name.ensures ∙ ap (λ (a : Admission). a.namespace) c.admission.ensures.exact in
     let namespace = c.in_ok-namespace.ensures ∙ ap (λ n. namespace_in n c.args.set.now) name in
     ap (λ (n : Option Object). held_at n (type_at (option_copied c.args.kind)) r) (sym namespace)
@@ -34,7 +34,7 @@ returns-in-Ok-Ok-clause-pattern c = λ is. record {
 pub returns-in-Ok-Ok-clause-verdict : goal.returns-in-Ok-Ok-clause-verdict
 returns-in-Ok-Ok-clause-verdict c =
     let h = c.args.set.now in
-    let r = c.args.request.now.admission in
+    let r = c.args.request.now.request.now.admission in
     let kind = option_copied c.args.kind in
     subst (λ held. IfOk c.judge_case.result (λ verdict. verdict ≡ verdict_with h r kind held)) (sym (held_is c))
     (

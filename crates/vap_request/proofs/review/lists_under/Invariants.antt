@@ -1,11 +1,8 @@
-use Rattle.std.proofs.Common.{◌≡◌, ◌++◌}
-use Rattle.serde_json.specs.View.{members_view}
+use Rattle.std.proofs.Common.{◌≡◌, ◌++◌, drop}
+use Rattle.json_documents.specs.Gathered.{members_of}
 use Rattle.vap_request.specs.Reading.{lists_under}
 use Rattle.vap_request.proofs.review.lists_under.Given as goal
 
-abbrev pub invariant-loop-name : goal.invariant-loop-name
-invariant-loop-name l = record {
-  can_next : goal.iterator-loop-name.can_next l.name-iterator;
-  is_finite : goal.iterator-loop-name.is_finite l.name-iterator;
-  exact : l.lists.items ++ lists_under (members_view l.name-iterator) ≡ lists_under (members_view l.members.entries);
-}
+abbrev pub invariant-loop-member : goal.invariant-loop-member
+invariant-loop-member l =
+    l.lists.items ++ lists_under (members_of (drop l.member-index l.members)) ≡ lists_under (members_of l.members)

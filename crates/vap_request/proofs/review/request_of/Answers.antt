@@ -1,6 +1,6 @@
 use Rattle.std.proofs.Common.{ap, sym, subst, ◌∙◌}
-use Rattle.serde_json.specs.View.{view}
-use Rattle.serde_json.specs.declared.value.Value.{Value as Json}
+use Rattle.json.proofs.Found.{Some_inj}
+use Rattle.serde_json.specs.Data.{Data}
 use Rattle.vap_request.specs.Reading.{admission_from, asked}
 use Rattle.vap_request.specs.Within.{IsWithin}
 use Rattle.vap_request.proofs.Within.{read_within}
@@ -8,5 +8,7 @@ use Rattle.vap_request.proofs.review.request_of.Goals as goal
 
 pub invariant_of-result : goal.invariant_of-result
 invariant_of-result c =
-    let read = c.in_ok-admission.ensures ∙ ap (λ (j : Json). admission_from j (asked (view j))) c.in_ok-new.ensures in
-    subst IsWithin (sym (c.in_ok-new-2.ensures ∙ read)) (read_within c.args.review c.requires)
+    let review = c.args.review.now in
+    let same = Some_inj c.in_ok-document.document review (sym c.in_ok-document.ensures ∙ c.requires.read) in
+    let made = c.in_ok-admission.ensures ∙ ap (λ (d : Data). admission_from d (asked review)) same in
+    subst IsWithin (sym (c.in_ok-new.ensures ∙ made)) (read_within c.args.text.now review c.utf8.text c.requires.read c.requires.whole)

@@ -8,7 +8,7 @@ use Rattle.vap_judge.proofs.case.Case.new.Goals as goal
 pub returns-clause-ready : goal.returns-clause-ready
 returns-clause-ready c =
     let set = c.args.set.now in
-    let asked = c.args.request.now.admission in
+    let asked = c.args.request.now.request.now.admission in
     record {
       held = c.requires.held;
       kind = subst (IsOneOf (kinds_of set)) (sym c.requires.kind) (kind_first (kinds_of set) asked);

@@ -1,4 +1,4 @@
-use Rattle.std.proofs.Common.{◌≡◌, ◌∙◌, sym, subst}
+use Rattle.std.proofs.Common.{◌≡◌, ◌∙◌, ap, sym, subst}
 use Rattle.std.specs.Prelude.{IfErr}
 use Rattle.serde_json.specs.View.{view}
 use Rattle.failing.specs.Failures.{IfFault}
@@ -9,11 +9,13 @@ use Rattle.vap_read.proofs.event_reader.EventReader.read_json.Goals as goal
 
 pub returns-in-WatchEvent-clause-told : goal.returns-in-WatchEvent-clause-told
 returns-in-WatchEvent-clause-told c =
-    let kind : line_kind (view c.args.line) ≡ WatchEvent = sym c.line_kind.ensures ∙ c.in-WatchEvent.is in
+    let told = c.line_kind-kind.ensures ∙ ap line_kind c.of_tree.ensures in
+    let kind : line_kind (view c.args.line) ≡ WatchEvent = sym told ∙ c.in-WatchEvent.is in
     subst (λ k. IfErr c.read_watch_event.result (IfFault (λ fault. IsOfLine k (view c.args.line) fault))) (sym kind)
     c.read_watch_event.ensures.told
 
 pub returns-in-ObjectList-clause-told : goal.returns-in-ObjectList-clause-told
 returns-in-ObjectList-clause-told c =
-    let kind : line_kind (view c.args.line) ≡ ObjectList = sym c.line_kind.ensures ∙ c.in-ObjectList.is in
+    let told = c.line_kind-kind.ensures ∙ ap line_kind c.of_tree.ensures in
+    let kind : line_kind (view c.args.line) ≡ ObjectList = sym told ∙ c.in-ObjectList.is in
     subst (λ k. IfErr c.read_list.result (IfFault (λ fault. IsOfLine k (view c.args.line) fault))) (sym kind) c.read_list.ensures.told

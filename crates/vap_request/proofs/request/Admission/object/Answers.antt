@@ -1,8 +1,0 @@
-use Rattle.std.proofs.Common.{rules}
-use Rattle.vap_request.proofs.request.Admission.object.Goals as goal
-
-pub returns-then-eq : goal.returns-then-eq
-returns-then-eq c = search rules
-
-pub returns-else-eq : goal.returns-else-eq
-returns-else-eq c = search rules
