@@ -1,8 +1,8 @@
 #!/usr/bin/env python3
 """Measures `vap replay` of a stream of 20 policies with their bindings, 200 objects and 50,000 reviews, and where the time of
 a review goes. It makes the stream and runs on it the program that `./vap` built, with one, two and four workers, and, by turns with
-it, one that has serde_json parse the same lines; then one that measures the stages of reviews, and one that has workers judge all
-reviews when they are read. `bench/run replay` builds these three and gives their paths."""
+it, one that has serde_json parse the same lines; then one that measures the stages of reviews. `bench/run replay` builds these two and
+gives their paths."""
 import itertools
 import json
 import os
@@ -111,7 +111,7 @@ def measure_stages(folder, stages):
 
 
 def main():
-    parser, stages, workers = sys.argv[1:]
+    parser, stages = sys.argv[1:]
     with tempfile.TemporaryDirectory() as name:
         folder = Path(name)
         write(folder / "stream", itertools.chain(events(), map(review, range(REVIEWS))))
@@ -119,8 +119,6 @@ def main():
         measure_streams(folder, parser)
         print("load", *os.getloadavg(), flush=True)
         measure_stages(folder, stages)
-        write(folder / "reviews", map(review, range(REVIEWS)))
-        subprocess.run([workers, folder / "events", folder / "reviews"], check=True)
         print("load", *os.getloadavg())
 
 
