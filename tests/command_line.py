@@ -1,5 +1,5 @@
 #!/usr/bin/env python3
-"""Runs the program on good and bad command lines and compares statuses, and what stands on which stream.
+"""Runs the program on good and bad command lines and compares statuses, and what is on which stream.
 
 The last line is 'N passed, M failed'.
 """
@@ -11,6 +11,8 @@ import subprocess
 import sys
 from concurrent.futures import ThreadPoolExecutor
 from pathlib import Path
+
+from outcome import ended
 
 TOP = Path(__file__).resolve().parent.parent
 PROGRAM = TOP / "crates/vap/out/vap"
@@ -125,7 +127,7 @@ ROWS = [
 IN_ITEMS = b"schema.properties.spec.properties.items"
 SECOND_FAULT = b"""{"schema": {"type": "object", "properties": {"c": {}, "b": {}, "a": {"type": "integer"}}}, "expression": "1"}"""
 
-# What stands on standard input of `check -`, the status, the standard output, and what standard error holds.
+# What is on standard input of `check -`, the status, the standard output, and what standard error holds.
 FILES = [
     (RULE.read_bytes(), 0, RULE_LINES, b""),
     (RULE.read_bytes().replace(b"abc", b"abcdefghijkl"), 1, b"estimate 904\nvalue false\ncharged 15\n", b""),
@@ -200,7 +202,7 @@ NOT_KNOWN = b": no kind that it names is known, so that `object` is only compare
 PARAMS = b'"spec":{"paramKind":{"apiVersion":"ex.io/v1","kind":"Limits"},"matchConstraints"'
 FEW_EVENT = json.dumps(EVENTS[1]).encode()
 
-# What stands on standard input of `report`, further words, the status, the standard output, and what standard error holds.
+# What is on standard input of `report`, further words, the status, the standard output, and what standard error holds.
 REPORTED = [
     (b"\n\r\n\n", [], 0, NONE, b""),
     (document(OBJECTS), [], 0, ACCEPTED, b""),
@@ -297,7 +299,7 @@ def trees(old="", new="", **members):
     return text.replace(old, new).encode()
 
 
-# What stands on standard input of `kinds -`, the status, the standard output, and what standard error holds.
+# What is on standard input of `kinds -`, the status, the standard output, and what standard error holds.
 DESCRIBED = [
     (trees(), 0, TREE_LINE, b""),
     (trees("schemas/Node", "schemas/Leaf"), 1, b"", b'components.schemas.Tree: there is no schema "#/components/schemas/Leaf"'),
@@ -340,7 +342,7 @@ def unmet_from_input(words, given, status, out, said):
 
 
 def in_small_stack(words, given):
-    """What a run comes to whose stack has 4 MB."""
+    """What a run evaluates to whose stack has 4 MB."""
     limit = (SMALL_STACK, SMALL_STACK)
     shorten = lambda: resource.setrlimit(resource.RLIMIT_STACK, limit)
     return subprocess.run([PROGRAM, *words], input=given, capture_output=True, timeout=60, preexec_fn=shorten)
@@ -453,7 +455,7 @@ def main():
     whys = [unmet(*row) for row in ROWS] + [unmet_from_input(["check"], *row) for row in FILES]
     whys += [unmet_from_input(["report", *words], given, *row) for given, words, *row in REPORTED]
     whys += [unmet_from_input(["kinds"], *row) for row in DESCRIBED]
-    # What cannot be written is told by the status; a message that cannot be written leaves it.
+    # What cannot be written shows in the status; a message that cannot be written leaves it.
     whys += [
         unmet_when_full(["eval", "1"], "stdout", 3),
         unmet_when_full(["eval", "1 +"], "stdout", 3),
@@ -474,11 +476,7 @@ def main():
     whys += [unmet_when_closed(words) for words in (["report", STREAM], ["kinds", OPENAPI])]
     whys += [unmet_where_deep(*row) for row in DEEP] + [unmet_where_a_policy_is_deep(workers) for workers in (1, 16)]
     whys += unmet_where_broken()
-    for why in filter(None, whys):
-        print(why)
-    failed = sum(why is not None for why in whys)
-    print(f"{len(whys) - failed} passed, {failed} failed")
-    return 1 if failed else 0
+    return ended(whys)
 
 
 sys.exit(main())

@@ -7,8 +7,8 @@ a function that is in a cycle of calls, whose copy is in none. (A method of a tr
 the next check.) An edit is refused where the prover refuses a goal of the very function that it is made in: what a function has
 to prove speaks of its own body and of the contracts of what it calls, so the other edits, which change bodies alone, have no
 part in it. (Of a function whose own goals are proved, and that lacks a proof for what it calls alone, a check says 'no proof',
-and not 'not proved'.) An edit that changes no single function's body, and one whose function is not refused so, is tried alone
-over the whole crate, as `rt must-fail` does.
+and not 'not proved'.) An edit whose function is not refused so is tried by itself. One that is not refused then, and one that changes
+no single function's body, is tried over the whole crate, as `rt must-fail` does.
 """
 import os
 import re
@@ -53,7 +53,7 @@ CRATES = listed()
 
 
 def below(crate):
-    """The crates of this repository that a crate stands on."""
+    """The crates of this repository that a crate uses, directly or not."""
     found = []
     for name in CRATES[crate]:
         if name in CRATES:
@@ -83,14 +83,14 @@ def module_of(path):
 
 
 def type_of(head):
-    """What a check calls an impl: its type, and behind it the trait with its parameters, if it is of one."""
+    """What a check calls an impl: its type, and after it the trait with its parameters, if it is of one."""
     trait, separator, owner = head.rpartition(" for ")
     owner = re.findall(r"\w+", re.sub(r"<.*", "", owner))[-1:]
     return "".join(owner + re.findall(r"\w+", re.sub(r"\w+::", "", trait)) if separator else owner)
 
 
 class Function(NamedTuple):
-    """A function of a crate: its module, the impl that it stands in, its name, its cycle, and whether it is a method of a trait."""
+    """A function of a crate: its module, the impl that it is in, its name, its cycle, and whether it is a method of a trait."""
 
     module: str
     owner: str
@@ -143,7 +143,7 @@ class Edit:
         changed = {self.function_at(path, old) for path, old, _ in self.pairs}
         # The function that it changes, if it is one alone.
         self.unit = changed.pop() if len(changed) == 1 else None
-        # What is put behind the function's name where the edit is made in a copy of it.
+        # What is put after the function's name if the edit is made in a copy of it.
         self.suffix = ""
 
     def __str__(self):
@@ -234,7 +234,7 @@ def out_of_cycle(text, name):
 
 
 def made(text, changes):
-    """The text with all changes made, each where its old text stands before any of them is made."""
+    """The text with all changes made, each where its old text is before any of them is made."""
     for at, old, new in sorted(changes, reverse=True):
         text = text[:at] + new + text[at + len(old):]
     return text
@@ -328,8 +328,8 @@ class Checked:
         return False
 
     def refuses(self, edit, by_itself):
-        """Whether it refuses a goal of the function that an edit is made in, which has an answer or is searched for. What is told of a
-        cycle tells which of its functions is refused only where one alone is changed."""
+        """Whether it refuses a goal of the function that an edit is made in, which has an answer or is searched for. What a check
+        says of a cycle shows which of its functions is refused only if one alone is changed."""
         words = self.functions.get(edit.path, "")
         if edit.unit.cycle and not edit.suffix and not by_itself:
             return False
@@ -369,7 +369,7 @@ class Trial:
             while left:
                 batch = batch_of(left)
                 left = [edit for edit in left if edit not in batch]
-                alone += self.not_refused(batch, kept)
+                alone += self.never_refused(batch, kept)
             for edit in alone:
                 self.results[str(edit)] = self.alone(edit, kept)
         self.tell(f"{len(self.edits)} edits in {self.checks} checks")
@@ -400,11 +400,22 @@ class Trial:
         self.results |= {str(edit): None for edit in refused}
         return [edit for edit in batch if edit not in refused]
 
+    def never_refused(self, batch, kept):
+        """Those of a batch that are not refused together, and then not by themselves. Of a batch of which none is refused the prover may be
+        unable to read one text: its halves are tried."""
+        left = self.not_refused(batch, kept)
+        if len(batch) == 1:
+            return left
+        half = len(left) // 2
+        parts = [left[:half], left[half:]] if left == batch else [[edit] for edit in left]
+        for part in parts:
+            if len(part) == 1:
+                part[0].suffix = ""
+        return [edit for part in parts for edit in self.never_refused(part, kept)]
+
     def alone(self, edit, kept):
         """Why the crate with this edit alone is not refused, or None."""
         edit.suffix = ""
-        if edit.unit and edit not in self.not_refused([edit], kept):
-            return None
         checked = self.check([edit], [], kept)
         if checked.is_unread():
             return f"the prover cannot read the edited text: {told(checked)}"

@@ -10,6 +10,8 @@ import subprocess
 import sys
 from pathlib import Path
 
+from outcome import ended
+
 TOP = Path(__file__).resolve().parent.parent
 PROGRAM = TOP / "crates/vap/out/vap"
 EXAMPLES = TOP / "examples"
@@ -166,7 +168,7 @@ def unmet_example(folder, kinds):
 
 
 def unmet_on_the_page():
-    """Which expression or message is not on the page as it stands in the files, each, or None."""
+    """Which expression or message is not on the page as it is in the files, each, or None."""
     page = PAGE.read_text(encoding="utf-8")
     for folder in sorted((EXAMPLES / "policies").iterdir()):
         texts = [f"examples/policies/{folder.name}"]
@@ -196,12 +198,7 @@ def all_unmet():
 
 
 def main():
-    whys = list(all_unmet())
-    for why in filter(None, whys):
-        print(why)
-    failed = sum(why is not None for why in whys)
-    print(f"{len(whys) - failed} passed, {failed} failed")
-    return 1 if failed else 0
+    return ended(list(all_unmet()))
 
 
 if __name__ == "__main__":

@@ -9,6 +9,8 @@ import subprocess
 import sys
 from pathlib import Path
 
+from outcome import ended
+
 TOP = Path(__file__).resolve().parent.parent
 PROGRAM = TOP / "crates/vap/out/vap"
 SHARE = TOP / "share"
@@ -19,7 +21,7 @@ MADE = "made by tests/manual.py of the words of `vap --help`"
 
 
 class Command:
-    """A command by its help: its path, what it is about, its usage, its lists, and the notes behind them."""
+    """A command by its help: its path, what it is about, its usage, its lists, and the notes after them."""
 
     def __init__(self, path):
         self.path = path
@@ -230,11 +232,7 @@ def main(words):
     page = plain(made["man/man1/vap.1"])
     whys += [unmet_words(command, page) for command in program.all()]
     whys += unmet_bash()
-    for why in filter(None, whys):
-        print(why)
-    failed = sum(why is not None for why in whys)
-    print(f"{len(whys) - failed} passed, {failed} failed")
-    return 1 if failed else 0
+    return ended(whys)
 
 
 if __name__ == "__main__":

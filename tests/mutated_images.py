@@ -74,7 +74,7 @@ def swapped(chance, image, _others):
 
 
 def spliced(chance, image, others):
-    """The end of another image behind a front."""
+    """The end of another image after a front."""
     other = chance.choice(others)
     image[place_in(chance, image) :] = other[place_in(chance, other) :]
 
@@ -84,7 +84,7 @@ def cut(chance, image, _others):
 
 
 def continued(chance, image, others):
-    """Something behind the end."""
+    """Something after the end."""
     image += chance.choice([b"\0", bytes([chance.randrange(256)]), chance.choice(others)])
 
 

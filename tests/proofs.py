@@ -1,9 +1,9 @@
 #!/usr/bin/env python3
-"""Proves all crates with `rt ci`, and beside it tries the edits of must-fail/: those of a crate once the libraries that it stands on are
+"""Proves all crates with `rt ci`, and beside it tries the edits of must-fail/: those of a crate once the libraries that it uses are
 proved, where a processor is idle.
 
 The first word is the repository that this copy was made of, without its edits: they are read there, and its record of refused
-edits is read and written (record.py). With --anew behind it nothing that was kept and no line of the record is believed. The last line is
+edits is read and written (record.py). With --anew after it nothing that was kept and no line of the record is believed. The last line is
 'N passed, M failed'.
 """
 import os

@@ -79,7 +79,7 @@ class Tree:
         self.crates, self.edits, self.libraries, self.stands_on, self.shown = crates, edits, libraries, {}, {}
 
     def below(self, crate):
-        """The crates of this repository that a crate stands on."""
+        """The crates of this repository that a crate uses, directly or not."""
         if crate not in self.stands_on:
             found = []
             for name in self.libraries[crate]:

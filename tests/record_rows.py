@@ -13,19 +13,19 @@ import record
 from edits import CRATES, TOP
 
 ABOVE = "cel_lex"
-PARTS = ["plain/src", "plain/specs", "plain/proofs", "vap_lines/src", *(f"{ABOVE}/{part}" for part in record.PARTS)]
+PARTS = [*(f"base_containers/{part}" for part in ("src", "specs", "proofs")), "cel_code/src", *(f"{ABOVE}/{part}" for part in record.PARTS)]
 # What is changed: a file, a text that it has, what takes its place, and whether the line still matches.
 CHANGES = [
-    ("the body of a public function below", "plain/src/text.rt", "text: self.text.clone()?", "text: String::new(alloc)", True),
-    ("a comment below", "plain/src/text.rt", "/// A `String` that", "/// A text that", True),
-    ("a function below that is not public", "plain/src/text_map.rt", "fn place_of(", "fn place_under(", True),
-    ("answers of a function's own proof below", "plain/proofs/text/Text/copy/Answers.antt", "\n", "\n\n", True),
-    ("a crate that is not below", "vap_lines/src/lib.rt", "//! ", "use x;\n//! ", True),
-    ("a clause below", "plain/src/text.rt", "t ≡ self.now", "t ≡ []", False),
-    ("a signature below", "plain/src/text_map.rt", "pub fn len(&self) -> usize", "pub fn len(self) -> usize", False),
-    ("what contracts see of a type below", "plain/src/text.rt", "string_bytes t.text", "[]", False),
-    ("a definition below", "plain/specs/Keys.antt", "keys_in es = map", "keys_in es = rev", False),
-    ("a lemma below", "plain/proofs/Order.antt", "Below a b", "Above a b", False),
+    ("the body of a public function below", "base_containers/src/text.rt", "text: self.text.clone()?", "text: String::new(alloc)", True),
+    ("a comment below", "base_containers/src/text.rt", "/// A `String` that", "/// A text that", True),
+    ("a function below that is not public", "base_containers/src/text_map.rt", "fn place_of(", "fn place_under(", True),
+    ("answers of a function's own proof below", "base_containers/proofs/text/Text/copy/Answers.antt", "\n", "\n\n", True),
+    ("a crate that is not below", "cel_code/src/lib.rt", "//! ", "use x;\n//! ", True),
+    ("a clause below", "base_containers/src/text.rt", "t ≡ self.now", "t ≡ []", False),
+    ("a signature below", "base_containers/src/text_map.rt", "pub fn len(&self) -> usize", "pub fn len(self) -> usize", False),
+    ("what contracts see of a type below", "base_containers/src/text.rt", "string_bytes t.text", "[]", False),
+    ("a definition below", "base_containers/specs/Keys.antt", "keys_in es = map", "keys_in es = rev", False),
+    ("a lemma below", "base_containers/proofs/Order.antt", "Below a b", "Above a b", False),
     ("a body of its own", f"{ABOVE}/src/scan.rt", "{\n", "{\n\n", False),
     ("an answer of its own", f"{ABOVE}/proofs/Lib.antt", "mod ", "pub  mod ", False),
     ("an edit of its own", f"{ABOVE}/must-fail/tokens-tokens_only_fail.edit", "new:", "new: ", False),
@@ -54,7 +54,7 @@ def rows(crates):
     for what, path, old, new, is_valid in CHANGES:
         yield what, matches_with(crates, path, old, new), is_valid
     before = rests_on(crates)
-    yield "its libraries", rests_on(crates, {**CRATES, ABOVE: [*CRATES[ABOVE], "vap_lines"]}) == before, False
+    yield "its libraries", rests_on(crates, {**CRATES, ABOVE: [*CRATES[ABOVE], "cel_code"]}) == before, False
     toolchain, record.toolchain = record.toolchain, lambda: "another"
     yield "the toolchain", rests_on(crates) == before, False
     record.toolchain = toolchain

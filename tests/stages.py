@@ -1,9 +1,9 @@
 """In which order `rt ci` proves the crates, so that no processor is idle.
 
-What stands on NARROW is nearly a chain, each crate on the one before it. All that this chain needs beside itself comes first: as many
-crates side by side as there are processors, with one job each (RT_JOBS). Then a run for each end of the chain proves it, where `rt ci`
-chooses by itself and gives a crate that is alone more jobs, beside the run over all crates: what one has proved the others take, and each
-waits for what another is at.
+What uses NARROW is nearly a chain: each crate uses the one before it. All that this chain needs beside itself comes first: as many
+crates side by side as there are processors, with one job each (RT_JOBS). NARROW begins as soon as what it uses is proved, in a run of its
+own, where `rt ci` chooses by itself and gives a crate that is alone more jobs. Then a run for each end of the chain proves it likewise,
+beside the run over all crates: what one has proved the others take, and each waits for what another is at.
 """
 import os
 import re
@@ -13,7 +13,7 @@ import threading
 import time
 from pathlib import Path
 
-NARROW = "vap_set"
+NARROW = "vap_policy_set"
 # What a check holds at most, in KiB. (`rt ci` by itself counts with nearly twice as much, and proves fewer side by side than there is room for.)
 HELD = 5 * 2**20
 BUILT = re.compile(r"rt: (\w+) (?:proved|is kept)")
@@ -39,7 +39,7 @@ class Listed:
         self.below = {name: [it for it in line.partition(":")[2].split() if it in self.lines] for name, line in self.lines.items()}
 
     def needed(self, ends):
-        """Some crates and all that they stand on."""
+        """Some crates and all that they use, directly or not."""
         found = set(ends)
         for name in reversed(self.below):
             found.update(self.below[name] if name in found else ())
@@ -115,14 +115,14 @@ class Proofs:
             self.has_ended = True
 
     def begin_chains(self):
-        """Proves what comes first and begins the chain to each end. Answers whether they have begun."""
-        first = self.listed.before_the_chain(self.ends)
-        if not self.run(self.copy(first, "first"), self.jobs).wait():
+        """Proves what comes first, and NARROW beside the last of it; then begins the chain to each end. Answers whether they have begun."""
+        first, narrow = self.listed.before_the_chain(self.ends), self.listed.needed([NARROW])
+        self.run(self.copy(first, "first"), self.jobs).wait_for(set(narrow) - {NARROW})
+        if not self.run(self.copy(narrow, "narrow"), None).wait():
             return False
         for end in self.ends:
-            needed = self.listed.needed([end])
-            self.run(self.copy(needed, end), None).wait_for(set(needed).intersection(first))
-        # (until they are at the first crate of the chain)
+            self.run(self.copy(self.listed.needed([end]), end), None).wait_for(narrow)
+        # (until they are at the crate after NARROW)
         time.sleep(5)
         return True
 
@@ -141,5 +141,5 @@ class Proofs:
         return next((run for run in self.runs if run.folder == self.listed.top), None)
 
     def place_of(self, crate):
-        """The folder in which a library stands, if it is built."""
+        """The folder in which a library is, if it is built."""
         return next((run.folder for run in self.runs if crate in run.built), None)

@@ -1,7 +1,7 @@
 #!/usr/bin/env python3
 """Tries the edits of the crates' must-fail/: the prover must refuse each (edits.py says how one is tried).
 
-It stands on the libraries that are in out/. A crate whose line in the record refused.txt matches was tried before over the same
+It uses the libraries that are in out/. A crate whose line in the record refused.txt matches was tried before over the same
 files (record.py) and is passed by; with names of crates it tries these alone and passes none by. A crate whose edits are all
 refused gets its line. With --unedited in front it tries the copies of functions without their edits, and each must be proved.
 The last line is 'N passed, M failed'.

@@ -1,8 +1,8 @@
 //! What a line asks.
 
-use json_members::{items_in, text_in};
 use serde_json::Value as Json;
 use std::alloc::{AllocError, Global};
+use vap_match::{items_in, text_in};
 
 /// What a line asks: a part of the libraries, the name of a call of that part, what the call is given beside its input, and
 /// its input.
@@ -15,7 +15,7 @@ pub struct Asked<'a> {
 }
 
 impl<'a> Asked<'a> {
-    /// What a line asks. Of a member that is absent the text is empty.
+    /// What a line asks. The text of a member that is absent is empty.
     pub fn of(line: &'a Json) -> Self {
         let (part, call) = text_in(line, "call").split_once('.').unwrap_or(("", ""));
         Asked {
@@ -26,7 +26,7 @@ impl<'a> Asked<'a> {
         }
     }
 
-    /// A text that the call is given beside its input, empty where there is none at this place.
+    /// A text that the call is given beside its input, empty if there is none at this place.
     pub fn text(&self, place: usize) -> &'a str {
         match self.with.get(place) {
             Some(Json::String(text)) => text.as_str(),
@@ -34,7 +34,7 @@ impl<'a> Asked<'a> {
         }
     }
 
-    /// A number that the call is given beside its input, 0 where there is none at this place.
+    /// A number that the call is given beside its input, 0 if there is none at this place.
     pub fn number(&self, place: usize) -> u64 {
         match self.with.get(place) {
             Some(json) => json.as_u64().unwrap_or(0),
@@ -43,7 +43,7 @@ impl<'a> Asked<'a> {
     }
 }
 
-/// What is answered where there is no such call.
+/// What is answered if there is no such call.
 pub fn unknown(alloc: Global) -> Result<String, AllocError> {
     String::from_str(alloc, "no such call")
 }

@@ -1,8 +1,7 @@
 //! What the questions of rows and their answers have in common.
 
-use cel_value::Value;
-use json_text::to_json;
-use plain::Text;
+use base_containers::Text;
+use cel_value::{Value, to_json};
 use serde_json::Value as Json;
 use std::alloc::{AllocError, Global};
 

@@ -1,9 +1,9 @@
 //! From the text of a review to its request.
 
+use base_containers::{Part, opened};
 use json::Scratch;
-use json_documents::{Part, opened};
 use std::alloc::Global;
-use vap_request::{Request, ReviewError, ReviewFault};
+use vap_match::{Request, ReviewError, ReviewFault};
 
 /// The request of the text of a review. A text that is no JSON is no review.
 pub fn request_in(alloc: Global, text: &str) -> Result<Request, ReviewError> {

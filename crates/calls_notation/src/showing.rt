@@ -1,8 +1,7 @@
 //! Values and types as texts that no other value or type has.
 
-use cel_time::Timestamp;
-use cel_value::{CelType, Field, Value};
-use plain::TextMap;
+use base_containers::TextMap;
+use cel_value::{CelType, Field, Timestamp, Value};
 use std::alloc::{AllocError, Global};
 
 /// A value.
@@ -57,7 +56,7 @@ fn put_entries(out: &mut String, kind: &str, entries: &TextMap<Value>) -> Result
     out.push_str("}")
 }
 
-/// A type: a limit stands behind `<=`, a list that is not plain is a set, and a field that may be absent has a `?`.
+/// A type: a limit is written after `<=`, a list that is not plain is a set, and a field that may be absent has a `?`.
 pub fn shown_type(alloc: Global, cel_type: &CelType) -> Result<String, AllocError> {
     let mut out = String::new(alloc);
     put_type(&mut out, cel_type)?;
@@ -103,7 +102,7 @@ fn put_limits(out: &mut String, max: u32, key_max: u32) -> Result<(), AllocError
     put_limit(out, "text", key_max, " ")
 }
 
-/// Writes a type behind its front, where that was written.
+/// Writes a type after its front, if that was written.
 #[cycle(put_type)]
 fn put_behind(
     out: &mut String,

@@ -2,9 +2,8 @@
 //! `set`; `["map",2,9,"int"]`; `["nullable","int"]`; and `{"a":"int","b?":"bool"}`, an object with `b` optional.
 
 use crate::question::json;
+use base_containers::{Items, Part, Shared, Text, TextMap};
 use cel_value::{CelType, Field, Value};
-use json_documents::Part;
-use plain::{Items, Shared, Text, TextMap};
 use serde_json::{Map, Value as Json};
 use std::alloc::{AllocError, Global};
 use vap_schema::{FitError, fit};
@@ -12,14 +11,6 @@ use vap_schema::{FitError, fit};
 /// The type that a row writes.
 pub fn typed(alloc: Global, text: &str) -> Result<CelType, AllocError> {
     type_of(alloc, &json(alloc, text)?)
-}
-
-/// The parts of an array, and none of what is no array.
-pub fn parts_of(json: &Json) -> &[Json] {
-    match json {
-        Json::Array(parts) => parts.as_slice(),
-        _ => &[],
-    }
 }
 
 /// The types that are written.
@@ -31,7 +22,7 @@ pub fn types_of(alloc: Global, row: &[Json]) -> Result<Items<CelType>, AllocErro
     }
 }
 
-/// Puts the types that are written behind others.
+/// Puts the types that are written after others.
 pub fn put_types(
     alloc: Global,
     types: &mut Items<CelType>,

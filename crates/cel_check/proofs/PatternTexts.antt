@@ -1,14 +1,14 @@
 -- The literal texts that `matches` is given in an expression, by its form.
 use Rattle.std.proofs.Common.{◌≡◌, ℕ, List, [], ◌∷◌, ◌++◌, ap, sym, inl, inr, ◌⊎◌, ◌∙◌, append_assoc}
-use Rattle.cel_tree.specs.declared.expr.Entry.{Entry}
-use Rattle.cel_tree.specs.declared.expr.UnaryOperator.{UnaryOperator}
-use Rattle.cel_tree.specs.declared.expr.Expr.{Expr, out-Expr}
-use Rattle.cel_tree.specs.declared.expr.Expr.TheFolds.{map-Expr, fold_out-Expr}
-use Rattle.cel_tree.specs.declared.expr.Syntax.{Syntax}
-use Rattle.cel_tree.specs.declared.expr.Syntax.TheVariants as syntax
-use Rattle.cel_tree.specs.declared.expr.BinaryOperator.{BinaryOperator}
-use Rattle.cel_tree.specs.declared.expr.Loop.{Loop}
-use Rattle.plain.specs.declared.text.Text.{Text}
+use Rattle.cel_value.specs.declared.expr.Entry.{Entry}
+use Rattle.cel_value.specs.declared.expr.UnaryOperator.{UnaryOperator}
+use Rattle.cel_value.specs.declared.expr.Expr.{Expr, out-Expr}
+use Rattle.cel_value.specs.declared.expr.Expr.TheFolds.{map-Expr, fold_out-Expr}
+use Rattle.cel_value.specs.declared.expr.Syntax.{Syntax}
+use Rattle.cel_value.specs.declared.expr.Syntax.TheVariants as syntax
+use Rattle.cel_value.specs.declared.expr.BinaryOperator.{BinaryOperator}
+use Rattle.cel_value.specs.declared.expr.Loop.{Loop}
+use Rattle.base_containers.specs.declared.text.Text.{Text}
 use Rattle.cel_check.specs.PatternTexts.{Seen, seen, seen_step, patterns_at, of_each, of_entries, of_method, seen_each, seen_entries}
 use Rattle.cel_check.specs.PatternTexts.{patterns_in}
 

@@ -4,7 +4,7 @@ use Rattle.std.proofs.Common.{refl, inl, inr, arith}
 use Rattle.std.proofs.lemmas.Bool.{and_from, and_parts, cases_Bool, false≢true}
 use Rattle.std.specs.Prelude.{Result, Ok, Err, map, nat_lt, slice_get, codes}
 use Rattle.std.specs.Str.{bytes_eq}
-use Rattle.plain.specs.declared.text.Keyed.{Keyed}
+use Rattle.base_containers.specs.declared.text.Keyed.{Keyed}
 use Rattle.cel_value.specs.Value.{code_points}
 use Rattle.cel_value.specs.declared.value.Value as value
 use Rattle.cel_value.specs.declared.cel_type.CelType.{CelType}
@@ -13,7 +13,7 @@ use Rattle.cel_value.specs.CelType.{assignable, join}
 use Rattle.cel_value.proofs.Above.{IsAbove, join-above}
 use Rattle.cel_value.proofs.Reflexive.{assignable-refl}
 use Rattle.cel_operators.proofs.Opened.{text_fits}
-use Rattle.cel_tree.specs.declared.expr.Entry.{Entry}
+use Rattle.cel_value.specs.declared.expr.Entry.{Entry}
 use Rattle.cel_operators.specs.declared.type_rule.TypeRule.{TypeRule}
 use Rattle.cel_operators.specs.declared.type_rule.TypeRule.TheVariants.{NoOverload}
 use Rattle.cel_operators.specs.declared.operator.Operator.{Operator}
@@ -25,11 +25,11 @@ use Rattle.cel_check.specs.declared.tree.Form.TheVariants as form
 use Rattle.cel_operators.specs.Outcomes.{Types}
 use Rattle.cel_operators.specs.Operators.{row, of_limit, type_of_one, type_of_two}
 use Rattle.cel_check.specs.Meaning.{type_of, takes_result, Judged, right_at, judged_step, judged_of, is_right, types_judged}
-use Rattle.cel_tree.specs.Turns.{by_turns}
+use Rattle.cel_value.specs.Turns.{by_turns}
 use Rattle.cel_check.specs.Meaning.{each_right as all_right, takes_slot, right_loop, right_where}
-use Rattle.cel_loops.specs.Loops.{types_inside, loop_type, where_ranged}
-use Rattle.cel_tree.specs.declared.expr.Loop.{Loop}
-use Rattle.cel_tree.specs.declared.expr.Loop.TheVariants as loop
+use Rattle.cel_operators.specs.Loops.{types_inside, loop_type, where_ranged}
+use Rattle.cel_value.specs.declared.expr.Loop.{Loop}
+use Rattle.cel_value.specs.declared.expr.Loop.TheVariants as loop
 use Rattle.cel_operators.specs.Lists.{items_type}
 use Rattle.cel_check.specs.Typing.{Trees, tree_in_front, after_items, root_types, typed_by, list_literal, Names, types_in, types_of}
 use Rattle.cel_check.specs.Typing.{Checked, node, after, Pairs, entry_in_front, map_literal, at_name, name_in, selected, is_text}
@@ -44,11 +44,11 @@ use Rattle.cel_operators.specs.declared.operands.Want.TheVariants.{Members, Char
 use Rattle.cel_operators.specs.declared.limit.Span.{Span}
 use Rattle.cel_operators.specs.declared.text_operator.TextOperator.{TextOperator}
 use Rattle.cel_operators.specs.declared.text_operator.TextOperator.TheVariants as text_operator
-use Rattle.cel_patterns.specs.Choice.{refuses}
+use Rattle.cel_operators.specs.PatternChoice.{refuses}
 use Rattle.cel_check.specs.Opaque.{is_opaque}
-use Rattle.cel_tree.specs.declared.expr.BinaryOperator.{BinaryOperator}
+use Rattle.cel_value.specs.declared.expr.BinaryOperator.{BinaryOperator}
 
--- where there is a typed tree, it is well typed
+-- if there is a typed tree, it is well typed
 abbrev pub RightIn : Types → Checked → Type 0
 RightIn types (Err e) = Unit {0}
 RightIn types (Ok t) = is_right t types ≡ true
@@ -161,7 +161,7 @@ conditional_right place c a b types h k l = elim (cases_Bool (is_truth (type_of 
   | inr n ↦ rw n tt
 ]
 
--- where there are typed trees, each is well typed
+-- if there are typed trees, each is well typed
 abbrev pub EachRightIn : Types → Trees → Type 0
 EachRightIn types (Err e) = Unit {0}
 EachRightIn types (Ok ts) = all_right (map judged_of ts) types ≡ true
@@ -197,7 +197,7 @@ turns : (es : List (Entry TypedTree)) → by_turns (map judged_entry es) ≡ map
 turns [] = refl
 turns (e ∷ es) = ap (λ js. judged_of e.key ∷ judged_of e.value ∷ js) (turns es)
 
--- where there are typed entries, each key and value is well typed
+-- if there are typed entries, each key and value is well typed
 abbrev pub EntriesRightIn : Types → Pairs → Type 0
 EntriesRightIn types (Err e) = Unit {0}
 EntriesRightIn types (Ok es) = all_right (map judged_of (by_turns es)) types ≡ true
@@ -277,7 +277,7 @@ text_right place bytes types = elim (cases_Bool (nat_lt (code_points bytes) (2 ^
   | inr n ↦ rw n tt
 ]
 
--- where the slots are numbered from i on, the one that is found stands at its number
+-- with the slots numbered from i on, the one that is found is at its number
 pub SlotThere : ℕ → List (Keyed CelType) → Option (ℕ × CelType) → Type 0
 SlotThere i es None = Unit {0}
 SlotThere i es (Some s) = (k : ℕ) × (s.0 ≡ i + k) × (slice_get (types_in es) k ≡ Some s.1)
@@ -315,7 +315,7 @@ name_right place name names =
     found_right place names (slot_from 0 name names.locals) (slot_from 0 name names.slots) (slot_there 0 name names.locals)
     (slot_there 0 name names.slots)
 
--- the slot of a variable, where there is one
+-- the slot of a variable, if there is one
 pub variable_there : (names : Names) (b : Bool) (x : List ℕ) → SlotThere 0 names.slots (cond b (slot_from 0 x names.slots) None)
 unfolding SlotThere
 variable_there names true x = slot_there 0 x names.slots

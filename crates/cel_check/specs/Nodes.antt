@@ -2,16 +2,15 @@
 use Rattle.std.specs.Prelude.{ℕ, ◌+◌, ◌^◌, Bool, ◌&&◌, nat_lt, List, [], ◌∷◌, map, Option, Some, None, Result, Ok, Err, if◌then◌else◌}
 use Rattle.std.specs.Prelude.{codes, true, false}
 use Rattle.std.specs.Str.{bytes_eq}
-use Rattle.plain.specs.declared.text.Keyed.{Keyed}
+use Rattle.base_containers.specs.declared.text.Keyed.{Keyed}
 use Rattle.cel_value.specs.declared.value.Value as value
 use Rattle.cel_value.specs.declared.value.Value.{Value, out-Value}
-use Rattle.cel_loops.specs.Literals.{literal_text_at}
 use Rattle.cel_value.specs.declared.cel_type.Field.{Field}
 use Rattle.cel_value.specs.declared.cel_type.CelType.{CelType}
 use Rattle.cel_value.specs.declared.cel_type.CelType as type
 use Rattle.cel_value.specs.CelType.{join}
 use Rattle.cel_value.specs.Value.{code_points}
-use Rattle.cel_tree.specs.declared.expr.Entry.{Entry}
+use Rattle.cel_value.specs.declared.expr.Entry.{Entry}
 use Rattle.cel_operators.specs.declared.type_rule.TypeRule.{TypeRule}
 use Rattle.cel_operators.specs.declared.type_rule.TypeRule.TheVariants.{UnknownName, NoField, NoOverload, Mixed, OpaqueUse}
 use Rattle.cel_operators.specs.declared.type_rule.TypeRule.TheVariants.{PatternNotLiteral, BadPattern, TooLarge}
@@ -23,20 +22,21 @@ use Rattle.cel_check.specs.declared.tree.Form.{Form}
 use Rattle.cel_check.specs.declared.tree.Form.TheVariants as form
 use Rattle.cel_operators.specs.Operators.{type_of_one}
 use Rattle.cel_check.specs.Meaning.{type_of}
-use Rattle.cel_tree.specs.Turns.{by_turns}
+use Rattle.cel_value.specs.Turns.{by_turns}
 use Rattle.cel_operators.specs.Lists.{items_type}
 use Rattle.cel_operators.specs.Maps.{entries_type}
 use Rattle.cel_operators.specs.TextOperators.{row_with}
 use Rattle.cel_operators.specs.Wants.{Contents, Fields, Stored, limit_of, is_there, is_truth}
 use Rattle.cel_operators.specs.declared.operands.Want.TheVariants.{Members, Characters}
 use Rattle.cel_operators.specs.declared.limit.Span.{Span}
-use Rattle.cel_loops.specs.Loops.{loop_type}
-use Rattle.cel_tree.specs.declared.expr.Loop.{Loop}
-use Rattle.cel_tree.specs.declared.expr.Loop.TheVariants as loop
+use Rattle.cel_operators.specs.Loops.{loop_type}
+use Rattle.cel_value.specs.declared.expr.Loop.{Loop}
+use Rattle.cel_value.specs.declared.expr.Loop.TheVariants as loop
 use Rattle.cel_operators.specs.declared.text_operator.TextOperator.{TextOperator}
 use Rattle.cel_operators.specs.declared.text_operator.TextOperator.TheVariants as text_operator
-use Rattle.cel_names.specs.Selectors.{selects}
-use Rattle.cel_patterns.specs.Choice.{refuses}
+use Rattle.cel_check.specs.Selectors.{selects}
+use Rattle.cel_operators.specs.PatternChoice.{refuses}
+use Rattle.cel_operators.specs.Joined.{text_at}
 use Rattle.cel_check.specs.Opaque.{is_opaque}
 use Rattle.cel_check.specs.Overloads.{method_overloads_with, first_of_one, first_of_two}
 
@@ -57,7 +57,7 @@ abbrev pub after : Checked → (TypedTree → Checked) → Checked
 after (Err e) f = Err e
 after (Ok t) f = f t
 
--- the node of a type, where there is one
+-- the node of a type, if there is one
 abbrev pub typed_by : ℕ → Form TypedTree → Result CelType TypeRule → Checked
 typed_by place f (Err rule) = refused place rule
 typed_by place f (Ok t) = Ok (node t f)
@@ -116,7 +116,7 @@ name_in selector (Some (Stored store)) = Some selector
 abbrev pub with_text : ℕ → TextOperator → List ℕ → TypedTree → Checked
 with_text place op text s = typed_by place (form.WithText op s text) (type_of_one (row_with op text) (type_of s))
 
--- an operator at the own name that is selected, where there is one
+-- an operator at the own name that is selected, if there is one
 abbrev pub at_name : ℕ → TextOperator → TypedTree → Option (List ℕ) → Checked
 at_name place op s None = refused place NoField
 at_name place op s (Some name) = with_text place op name s
@@ -125,13 +125,13 @@ at_name place op s (Some name) = with_text place op name s
 abbrev pub selected : ℕ → TextOperator → List ℕ → TypedTree → Checked
 selected place op selector s = at_name place op s (name_in selector (limit_of Members (type_of s)))
 
--- whether a type may stand where a text is asked
+-- whether a type may be used where a text is required
 abbrev pub is_text : CelType → Bool
 is_text t = is_there (limit_of Characters t)
 
--- the text that a level of an expression is, where it is a literal text
+-- the text that a level of an expression is, if it is a literal text
 abbrev pub literal_text : Form TypedTree → Option (List ℕ)
-literal_text (form.Literal v) = literal_text_at (out-Value v)
+literal_text (form.Literal v) = text_at (out-Value v)
 literal_text _ = None
 
 -- a pattern, which is a literal text that the choice does not refuse
@@ -140,7 +140,7 @@ with_pattern place choice s None = refused place PatternNotLiteral
 with_pattern place choice s (Some pattern) =
     if refuses choice pattern then refused place BadPattern else Ok (node type.Bool (form.WithText text_operator.Matches s pattern))
 
--- `matches` wants two texts, of which the second is a pattern
+-- `matches` wants two texts; the second is a pattern
 abbrev pub matched : ℕ → List (List ℕ) → TypedTree → TypedTree → Checked
 matched place choice s t =
     if is_text (type_of s) && is_text (type_of t) then with_pattern place choice s (literal_text (out-TypedTree t).form)
@@ -157,7 +157,7 @@ text_literal place bytes =
     if nat_lt (code_points bytes) (2 ^ 32) then Ok (node (type.Text (code_points bytes)) (form.Literal (value.Text bytes))) else refused
     place TooLarge
 
--- the number of the first of these, slots or open loops, that has the name, and its type, where they are numbered from i on
+-- the number of the first of these, slots or open loops, that has the name, and its type, numbered from i on
 abbrev pub slot_from : ℕ → List ℕ → List (Keyed CelType) → Option (ℕ × CelType)
 slot_from i name [] = None
 slot_from i name (e ∷ es) = if bytes_eq e.key name then Some (i, e.value) else slot_from (i + 1) name es
@@ -182,7 +182,7 @@ abbrev pub mapped_where : ℕ → TypedTree → Span → TypedTree → TypedTree
 mapped_where place s span p t =
     if is_truth (type_of p) then typed_by place (form.MapWhere s p t) (loop_type loop.Map span (type_of t)) else refused place NoOverload
 
--- what no operator reads is a fault at its own place, unless it may stand there
+-- what no operator reads is a fault at its own place, unless it may occur there
 abbrev pub read : Bool → ℕ → Checked → Checked
 read true place c = c
 read false place (Err e) = Err e

@@ -2,10 +2,10 @@
 use Rattle.std.specs.Prelude.{ℕ, List, [], ◌∷◌, Result, Ok, Err, if◌then◌else◌, codes}
 use Rattle.std.specs.Str.{bytes_eq}
 use Rattle.cel_value.specs.declared.cel_type.CelType.{CelType}
-use Rattle.cel_tree.specs.declared.expr.UnaryOperator.{UnaryOperator}
-use Rattle.cel_tree.specs.declared.expr.UnaryOperator.TheVariants as unary_operator
-use Rattle.cel_tree.specs.declared.expr.BinaryOperator.{BinaryOperator}
-use Rattle.cel_tree.specs.declared.expr.BinaryOperator.TheVariants as binary_operator
+use Rattle.cel_value.specs.declared.expr.UnaryOperator.{UnaryOperator}
+use Rattle.cel_value.specs.declared.expr.UnaryOperator.TheVariants as unary_operator
+use Rattle.cel_value.specs.declared.expr.BinaryOperator.{BinaryOperator}
+use Rattle.cel_value.specs.declared.expr.BinaryOperator.TheVariants as binary_operator
 use Rattle.cel_operators.specs.declared.type_rule.TypeRule.{TypeRule}
 use Rattle.cel_operators.specs.declared.type_rule.TypeRule.TheVariants.{NoOverload}
 use Rattle.cel_operators.specs.declared.operator.Operator.{Operator}
@@ -49,7 +49,7 @@ size_overloads = operator.SizeText ∷ operator.SizeList ∷ operator.SizeMap �
 abbrev pub Named : Type 0
 Named = List (List ℕ × List Operator)
 
--- the operators that a name stands for; none where no entry has it
+-- the operators that a name stands for; none if no entry has it
 abbrev pub named_in : Named → List ℕ → List Operator
 named_in [] name = []
 named_in (entry ∷ entries) name = if bytes_eq name entry.0 then entry.1 else named_in entries name
@@ -111,7 +111,7 @@ method_overloads name = named_in methods name
 unfoldable pub method_overloads_with : List ℕ → List Operator
 method_overloads_with name = named_in methods_with name
 
--- an overload that takes the operands, or the later ones where this one does not
+-- an overload that takes the operands, or the later ones if this one does not
 abbrev pub or_later : Operator → Result CelType TypeRule → Result Overload TypeRule → Result Overload TypeRule
 or_later op (Ok t) later = Ok (record { operator = op; cel_type = t })
 or_later op (Err NoOverload) later = later

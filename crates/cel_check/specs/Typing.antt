@@ -2,21 +2,21 @@
 use Rattle.std.specs.Prelude.{ℕ, Bool, ◌&&◌, ◌||◌, nat_lt, List, [], ◌∷◌, ◌++◌, map, Option, Some, None, Result, Ok, Err, if◌then◌else◌}
 use Rattle.std.specs.Prelude.{codes, false, is_none}
 use Rattle.std.specs.Str.{bytes_eq}
-use Rattle.plain.specs.declared.text.Keyed.{Keyed}
+use Rattle.base_containers.specs.declared.text.Keyed.{Keyed}
 use Rattle.cel_value.specs.declared.value.Value as value
 use Rattle.cel_value.specs.declared.cel_type.CelType.{CelType}
 use Rattle.cel_value.specs.declared.cel_type.CelType as type
-use Rattle.cel_tree.specs.declared.expr.BinaryOperator.{BinaryOperator}
-use Rattle.cel_tree.specs.declared.expr.Entry.{Entry}
-use Rattle.cel_tree.specs.declared.expr.Expr.{Expr, fold-Expr}
-use Rattle.cel_tree.specs.declared.expr.Expr.TheOpen.{Expr-F}
-use Rattle.cel_tree.specs.declared.expr.Syntax.{Syntax}
-use Rattle.cel_tree.specs.declared.expr.Syntax.TheVariants as syntax
-use Rattle.cel_tree.specs.Sizes.{depth_of, nodes_of}
+use Rattle.cel_value.specs.declared.expr.BinaryOperator.{BinaryOperator}
+use Rattle.cel_value.specs.declared.expr.Entry.{Entry}
+use Rattle.cel_value.specs.declared.expr.Expr.{Expr, fold-Expr}
+use Rattle.cel_value.specs.declared.expr.Expr.TheOpen.{Expr-F}
+use Rattle.cel_value.specs.declared.expr.Syntax.{Syntax}
+use Rattle.cel_value.specs.declared.expr.Syntax.TheVariants as syntax
+use Rattle.cel_value.specs.Sizes.{depth_of, nodes_of}
 use Rattle.cel_operators.specs.declared.type_rule.TypeRule.TheVariants.{NoOverload, TooLarge}
 use Rattle.cel_check.specs.declared.fault.TypeFault.{TypeFault}
-use Rattle.failing.specs.declared.failed.Failed.{Failed}
-use Rattle.failing.specs.Failures.{Answers, Gives}
+use Rattle.base_containers.specs.declared.failed.Failed.{Failed}
+use Rattle.base_containers.specs.Failures.{Answers, Gives}
 use Rattle.cel_check.specs.declared.scope.Scope.{Scope}
 use Rattle.cel_check.specs.declared.bindings.Bindings.{Bindings}
 use Rattle.cel_check.specs.declared.refusals.Refusals.{Refusals}
@@ -30,9 +30,9 @@ use Rattle.cel_check.specs.Meaning.{type_of}
 use Rattle.cel_operators.specs.Wants.{limit_of}
 use Rattle.cel_operators.specs.declared.operands.Want.TheVariants.{Ranged}
 use Rattle.cel_operators.specs.declared.limit.Span.{Span}
-use Rattle.cel_tree.specs.declared.expr.Loop.{Loop}
+use Rattle.cel_value.specs.declared.expr.Loop.{Loop}
 use Rattle.cel_operators.specs.declared.text_operator.TextOperator.TheVariants as text_operator
-use Rattle.cel_patterns.specs.Answers.{choice_in}
+use Rattle.cel_operators.specs.PatternAnswers.{choice_in}
 use Rattle.cel_check.specs.Opaque.{is_equality}
 pub use Rattle.cel_check.specs.Overloads.{unary_overloads, binary_overloads, index_overloads, size_overloads, function_overloads}
 pub use Rattle.cel_check.specs.Overloads.{method_overloads, method_overloads_with, or_later, first_of, first_of_one, first_of_two}
@@ -69,7 +69,7 @@ refused_by (refusals.Given texts) = texts.now
 abbrev pub names_in : Bindings → Names
 names_in bound = record { slots = bound.slots.now; locals = bound.locals; choice = refused_by bound.refusals }
 
--- a part of an expression: where it stands, the word that it is, if it is one, and its typed tree, which may be Opaque, or
+-- a part of an expression: its place, the word that it is, if it is one, and its typed tree, which may be Opaque, or
 -- its first fault, in a scope of names
 pub record Part : Type 0 where
   pub place : ℕ
@@ -100,7 +100,7 @@ abbrev pub each_tree : List Part → Names → Trees
 each_tree [] names = Ok []
 each_tree (a ∷ xs) names = tree_in_front (used a names) (each_tree xs names)
 
--- what follows behind all of several
+-- what follows after all of several
 abbrev pub after_items : Trees → (List TypedTree → Checked) → Checked
 after_items (Err e) f = Err e
 after_items (Ok ts) f = f ts
@@ -121,17 +121,17 @@ abbrev pub each_entry : List (Entry Part) → Names → Pairs
 each_entry [] names = Ok []
 each_entry (e ∷ es) names = entry_in_front (used e.key names) (used e.value names) (each_entry es names)
 
--- what follows behind all entries
+-- what follows after all entries
 abbrev pub after_entries : Pairs → (List (Entry TypedTree) → Checked) → Checked
 after_entries (Err e) f = Err e
 after_entries (Ok es) f = f es
 
--- a function over its arguments; each that is known has one
+-- a function over its arguments; each known function has one
 abbrev pub called : ℕ → List ℕ → List Part → Names → Checked
 called place f (a ∷ []) names = after (used a names) (λ s. over_one place (function_overloads f) s)
 called place f xs names = after_each xs names (refused place NoOverload)
 
--- a method over what it is called on, and over its arguments; each that is known has one at most
+-- a method over what it is called on, and over its arguments; each known method has at most one
 abbrev pub called_on : ℕ → List ℕ → TypedTree → List Part → Names → Checked
 called_on place f s [] names = over_one place (method_overloads f) s
 called_on place f s (b ∷ []) names = after (used b names) (λ t. method_with place names.choice f s t)
@@ -147,8 +147,8 @@ abbrev pub is_word : List ℕ → Option (List ℕ) → Bool
 is_word word None = false
 is_word word (Some n) = bytes_eq word n
 
--- the slot of the variable that is selected behind the word `variables`, where no open loop's item has that name: it stands
--- among the names under one, `variables.` and its own
+-- the slot of the variable that is selected after the word `variables`, if no open loop's item has that name: it is
+-- among the slots under one name, `variables.` and its own
 abbrev pub variable_in : Part → List ℕ → Names → Option (ℕ × CelType)
 variable_in a x names =
     if is_word (codes "variables") a.word && is_none (slot_from 0 (codes "variables") names.locals)
@@ -158,12 +158,12 @@ variable_in a x names =
 abbrev pub with_local : List ℕ → Span → Names → Names
 with_local x span names = record names { locals = record { key = x; value = span.item } ∷ names.locals }
 
--- what stands inside a loop: the names, and what the type of its range says
+-- what is inside a loop: the names, and what the type of its range says
 pub record Inside : Type 0 where
   pub names : Names
   pub span : Span
 
--- inside a loop over a range, where it is one
+-- inside a loop over a range, if it is one
 abbrev pub entered : ℕ → List ℕ → Names → Option Span → Result Inside TypeFault
 entered place x names None = Err (record { rule = NoOverload; place = place })
 entered place x names (Some span) = Ok (record { names = with_local x span names; span = span })
@@ -173,7 +173,7 @@ abbrev pub once_inside : Result Inside TypeFault → (Inside → Checked) → Ch
 once_inside (Err e) f = Err e
 once_inside (Ok inner) f = f inner
 
--- what is opened, as what stands inside
+-- what is opened, as what is inside
 abbrev pub inside_of : Opened → Inside
 inside_of o = record { names = names_in o.names; span = o.span }
 
@@ -188,12 +188,12 @@ over_bodies place x p b names s =
     once_inside (entered place x names (limit_of Ranged (type_of s)))
     (λ inner. after (used p inner.names) (λ r. after (used b inner.names) (mapped_where place s inner.span r)))
 
--- both operands have a type, of which one is Null
+-- both operands have a type, and one of the two is Null
 abbrev pub beside_null : Checked → Checked → Bool
 beside_null (Ok s) (Ok t) = is_null_type (type_of s) || is_null_type (type_of t)
 beside_null _ _ = false
 
--- `==` or `!=` of what is found at two places: if one is Null both stay, and else each is read
+-- `==` or `!=` of what is found at two places: if one is Null both stay, otherwise each is read
 abbrev pub equated : ℕ → BinaryOperator → ℕ → Checked → ℕ → Checked → Checked
 equated place op p l q r =
     after (read (beside_null l r) p l) (λ s. after (read (beside_null l r) q r) (λ t. over_two place (binary_overloads op) s t))
@@ -256,25 +256,25 @@ entries_of es = map (λ e. record { key = part_of e.key; value = part_of e.value
 abbrev pub is_too_large : Expr → Bool
 is_too_large e = nat_lt 100 (depth_of e) || nat_lt 16384 (nodes_of e)
 
--- a tree past the limits is refused before all else
+-- a tree past the limits is refused before anything else
 abbrev pub checked_within : Expr → Names → Checked
 checked_within e names = if is_too_large e then refused 0 TooLarge else checked e names
 
--- whatever checking gives of a part, what a node answers is what follows behind the part
+-- whatever checking gives for a part, what a node answers is what follows after the part
 abbrev pub Follows : Result TypedTree (Failed TypeFault) → Result TypedTree (Failed TypeFault) → (TypedTree → Checked) → Type 0
 Follows part result f = (c : Checked) → Answers c part → Answers (after c f) result
 
--- likewise where a slot may come before that
+-- likewise if a slot may come before that
 abbrev pub FollowsUnless : Option (ℕ × CelType) → Result TypedTree (Failed TypeFault) → Result TypedTree (Failed TypeFault)
     → (TypedTree → Checked) → Type 0
 FollowsUnless slot part result f = (c : Checked) → Answers c part → Answers (or_else slot (after c f)) result
 
--- whatever checking gives of several parts, what a node answers is what follows behind them
+-- whatever checking gives for several parts, what a node answers is what follows after them
 abbrev pub FollowsItems : Result (List TypedTree) (Failed TypeFault) → Result TypedTree (Failed TypeFault)
     → (List TypedTree → Checked) → Type 0
 FollowsItems parts result f = (c : Trees) → Answers c parts → Answers (after_items c f) result
 
--- likewise behind several entries
+-- likewise after several entries
 abbrev pub FollowsEntries : Result (List (Entry TypedTree)) (Failed TypeFault) → Result TypedTree (Failed TypeFault)
     → (List (Entry TypedTree) → Checked) → Type 0
 FollowsEntries parts result f = (c : Pairs) → Answers c parts → Answers (after_entries c f) result

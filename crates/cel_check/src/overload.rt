@@ -1,11 +1,10 @@
 ghost use Rattle.std.specs.Prelude.{◌≡◌, Ok, Err};
 ghost use Rattle.cel_check.specs.Typing.{unary_overloads, binary_overloads, first_of_one, first_of_two};
-ghost use Rattle.failing.specs.Failures.{Answers};
+ghost use Rattle.base_containers.specs.Failures.{Answers};
 ghost use Rattle.cel_check.specs.Typing.{index_overloads, function_overloads, method_overloads, method_overloads_with};
 
 use cel_operators::{Operator, Overload, TypeRule, Untyped};
-use cel_tree::{BinaryOperator, UnaryOperator};
-use cel_value::CelType;
+use cel_value::{BinaryOperator, CelType, UnaryOperator};
 use std::alloc::Global;
 
 /// The first of these overloads that takes an operand of a type.

@@ -1,13 +1,13 @@
 //! The literal texts that `matches` is given in an expression, and whether they are patterns, asked before it is typed.
 
 ghost use Rattle.std.specs.Prelude.{◌≡◌, ◌++◌, OnOk};
-ghost use Rattle.cel_patterns.specs.Answers.{AsksOnly, Grows};
+ghost use Rattle.cel_operators.specs.PatternAnswers.{AsksOnly, Grows};
 ghost use Rattle.cel_check.specs.PatternTexts.{patterns_in, seen, seen_each, seen_entries, AreAnswered};
 ghost use Rattle.cel_check.specs.PatternTexts.{of_each, of_entries, of_method, one_or_none};
 
-use cel_patterns::Patterns;
-use cel_tree::{Entry, Expr, Syntax};
-use plain::Text;
+use base_containers::Text;
+use cel_operators::Patterns;
+use cel_value::{Entry, Expr, Syntax};
 use std::alloc::{AllocError, Global};
 
 /// Asks for each literal text that `matches` is given in an expression whether it is a pattern, and for no other text.

@@ -2,8 +2,8 @@
 
 ghost use Rattle.std.specs.Prelude.{◌≡◌, ◌++◌, codes, is_none, option_copied, option_map};
 ghost use Rattle.std.specs.Str.{bytes_eq};
-ghost use Rattle.cel_tree.specs.declared.expr.Expr.{out-Expr};
-ghost use Rattle.failing.specs.Failures.{Answers};
+ghost use Rattle.cel_value.specs.declared.expr.Expr.{out-Expr};
+ghost use Rattle.base_containers.specs.Failures.{Answers};
 ghost use Rattle.cel_check.specs.Typing.{selected, with_text, own_name, name_in, Follows, FollowsUnless};
 ghost use Rattle.cel_check.specs.Typing.{is_word, names_in, part_of, slot_from, variable_in, word_at};
 ghost use Rattle.cel_operators.specs.Wants.{limit_of};
@@ -12,12 +12,11 @@ ghost use Rattle.cel_operators.specs.declared.operands.Want.TheVariants.{Members
 use crate::bindings::Bindings;
 use crate::fault::CheckError;
 use crate::node::{new_node, refused, slot_node};
+use crate::selectors::selects;
 use crate::tree::{Form, TypedTree};
-use cel_names::selects;
+use base_containers::{Boxed, Keyed, Shared, Text};
 use cel_operators::{TextOperator, TypeRule, Untyped, without_null};
-use cel_tree::{Expr, Syntax};
-use cel_value::{CelType, Field};
-use plain::{Boxed, Keyed, Shared, Text};
+use cel_value::{CelType, Expr, Field, Syntax};
 use std::alloc::Global;
 
 /// The slot of a variable, or else the field that a selector selects.
@@ -37,7 +36,7 @@ pub fn selected(
     }
 }
 
-/// An operator at the field that a selector selects, or at the key that it is: NoField where it selects none, and of what has
+/// An operator at the field that a selector selects, or at the key that it is: NoField if it selects none, and for an operand that has
 /// neither fields nor keys.
 pub fn selection(
     alloc: Global,
@@ -98,7 +97,7 @@ fn own_name<'n>(selector: &str, fields: &'n [Keyed<Field<CelType>>]) -> Option<&
     None
 }
 
-/// The slot of the variable that is selected, if one is: behind the word `variables`, where no open loop's item has that name.
+/// The slot of the variable that is selected, if one is: after the word `variables`, if no open loop's item has that name.
 #[tactic(auto, using(crate::proofs::Words::word_is))]
 pub fn variable_in<'n>(
     names: &Bindings<'n>,

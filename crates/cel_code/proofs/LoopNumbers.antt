@@ -1,8 +1,8 @@
 -- The numbers of the kinds of loops.
 use Rattle.std.proofs.Common.{◌≡◌, ℕ, ◌<◌, Some, None, refl, arith, slice_get}
 use Rattle.std.proofs.lemmas.Option.{slice_get_past}
-use Rattle.cel_tree.specs.declared.expr.Loop.{Loop}
-use Rattle.cel_tree.specs.declared.expr.Loop.TheVariants as loop
+use Rattle.cel_value.specs.declared.expr.Loop.{Loop}
+use Rattle.cel_value.specs.declared.expr.Loop.TheVariants as loop
 use Rattle.cel_code.specs.LoopNumbers.{loops, loop_kind, loop_number}
 
 pub no_kind : (number : ℕ) → 4 < number → slice_get loops number ≡ None

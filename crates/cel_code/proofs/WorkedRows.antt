@@ -10,8 +10,8 @@ use Rattle.cel_code.specs.declared.instr.Instr.TheVariants.{Const, Op, WithText,
 use Rattle.cel_code.specs.declared.image.Image.{Image}
 use Rattle.cel_code.specs.declared.instr.Instr.TheVariants.{Loop, Item, When, Local}
 use Rattle.cel_code.specs.declared.instr.Instr.TheVariants as instr
-use Rattle.cel_tree.specs.declared.expr.Loop.TheVariants as loop
-use Rattle.cel_loops.specs.Loops.{nothing_yet, with_error}
+use Rattle.cel_value.specs.declared.expr.Loop.TheVariants as loop
+use Rattle.cel_operators.specs.Loops.{nothing_yet, with_error}
 use Rattle.cel_code.specs.Machine.{Frame, on, Goes, Ends, Stuck, step, frame}
 
 -- the machine: CONST, an operator without its operand, past the code

@@ -1,4 +1,4 @@
--- What an image declares that a run of it charges at the most.
+-- What an image declares as the most that a run of it charges.
 use Rattle.std.specs.Prelude.{ℕ, Some}
 use Rattle.cel_code.specs.declared.image.Image.{Image}
 

@@ -2,3 +2,10 @@ pub mod Declaring
 pub mod LoopNumbers
 pub mod Machine
 pub mod Matches
+pub mod Names
+pub mod Spelling
+pub mod Reading
+pub mod Writing
+pub mod Code
+pub mod CodeReading
+pub mod Decoding

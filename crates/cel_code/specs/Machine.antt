@@ -11,18 +11,18 @@ use Rattle.cel_operators.specs.Outcomes.{Outcome, Side, and_of, or_of, both_side
 use Rattle.cel_operators.specs.Wants.{side_of, taken}
 use Rattle.cel_operators.specs.declared.operands.Want.TheVariants.{Ranged}
 use Rattle.cel_code.specs.LoopNumbers.{loop_kind}
-use Rattle.cel_loops.specs.Loops.{Turn, Closes, GoesOn, nothing_yet, turn, result_of}
-use Rattle.cel_loops.specs.declared.accumulator.Accumulator.{Accumulator}
-use Rattle.cel_tree.specs.declared.expr.Loop.{Loop}
-use Rattle.cel_tree.specs.declared.expr.Loop.TheVariants.{Map}
+use Rattle.cel_operators.specs.Loops.{Turn, Closes, GoesOn, nothing_yet, turn, result_of}
+use Rattle.cel_operators.specs.declared.accumulator.Accumulator.{Accumulator}
+use Rattle.cel_value.specs.declared.expr.Loop.{Loop}
+use Rattle.cel_value.specs.declared.expr.Loop.TheVariants.{Map}
 use Rattle.cel_value.specs.declared.cel_error.CelError.{CelError}
 use Rattle.cel_operators.specs.declared.operator.Made.{Made}
 use Rattle.cel_operators.specs.Operators.{Row, One, Two, row, operator_of, at_one, at_two}
 use Rattle.cel_operators.specs.Lists.{list_made}
 use Rattle.cel_operators.specs.Maps.{map_made}
 use Rattle.cel_operators.specs.TextOperators.{row_with}
-use Rattle.cel_loops.specs.Literals.{literal_text_at}
 use Rattle.cel_operators.specs.declared.text_operator.TextOperator.{TextOperator}
+use Rattle.cel_operators.specs.Joined.{text_at}
 
 -- an open loop: the number of its LOOP and where it leads, what it makes of its items, the item at which it is, those that
 -- are left, and what it has gathered
@@ -44,13 +44,13 @@ pub record State : Type 0 where
 abbrev pub on : ℕ → List Outcome → List Frame → State
 on at stack frames = record { at = at; stack = stack; frames = frames }
 
--- what an instruction reads beside the state: the image's constants, and what the slots hold
+-- what an instruction reads in addition to the state: the image's constants, and what the slots hold
 pub record Inputs : Type 0 where
   pub constants : List Value
   pub slots : List Outcome
 
--- a step goes on for a charge, or ends with an outcome; it is stuck where an operand is missing or of a kind that the
--- instruction does not take, where a constant or a slot is missing, or where there is no instruction
+-- a step goes on for a charge, or ends with an outcome; it is stuck if an operand is missing or of a kind that the
+-- instruction does not take, if a constant or a slot is missing, or if there is no instruction
 pub data Next : Type 0 where
   Goes : (charge : ℕ) → (to : State) → Next
   Ends : (outcome : Outcome) → Next
@@ -90,14 +90,14 @@ operate_by (Some op) at stack frames = operate (row op) at stack frames
 -- the text that a constant is, if it is one
 abbrev pub constant_text : Option Value → Option (List ℕ)
 constant_text None = None
-constant_text (Some v) = literal_text_at (out-Value v)
+constant_text (Some v) = text_at (out-Value v)
 
--- an operator with a text, where there is one
+-- an operator with a text, if there is one
 abbrev pub operate_with : TextOperator → Option (List ℕ) → ℕ → List Outcome → List Frame → Next
 operate_with op None at stack frames = Stuck
 operate_with op (Some text) at stack frames = operate (row_with op text) at stack frames
 
--- so many off the top of a stack, in front of those that were taken before, and what is below; None where there are fewer
+-- so many off the top of a stack, in front of those that were taken before, and what is below; None if there are fewer
 abbrev pub taken_off : {A : Type 0} → ℕ → List A → List A → Option (List A × List A)
 taken_off zero taken stack = Some (taken, stack)
 taken_off (suc n) taken [] = None
@@ -132,12 +132,12 @@ abbrev pub joined : Option Outcome → ℕ → List Outcome → List Frame → N
 joined None at stack frames = Stuck
 joined (Some x) at stack frames = Goes 0 (on (at + 1) (x ∷ stack) frames)
 
--- both sides, where both are sides
+-- both sides, if both are sides
 abbrev pub join : (Side → Side → Outcome) → Option Side → Option Side → Option Outcome
 join f None y = None
 join f (Some x) y = both_sides f x y
 
--- a condition goes on, to the other branch, or with its error behind both
+-- a condition goes on, to the other branch, or with its error after both
 abbrev pub branch : Option Side → ℕ → ℕ → ℕ → List Outcome → List Frame → Next
 branch None if_false if_error at stack frames = Stuck
 branch (Some (Ok true)) if_false if_error at stack frames = Goes 1 (on (at + 1) stack frames)
@@ -170,7 +170,7 @@ abbrev pub item_taken : Frame → List Value → ℕ → List Outcome → List F
 item_taken f [] at stack frames = Stuck
 item_taken f (v ∷ vs) at stack frames = Goes 1 (on (at + 1) stack (record f { item = v; left = vs } ∷ frames))
 
--- behind an item: the next one, or the loop's result where none is left
+-- after an item: the next one, or the loop's result if none is left
 abbrev pub gone_on : Frame → List Value → Accumulator → List Outcome → List Frame → Next
 gone_on f [] a stack frames = Goes 0 (on f.exit (result_of f.mode a ∷ stack) frames)
 gone_on f (v ∷ vs) a stack frames = Goes 0 (on (f.start + 1) stack (record f { gathered = a } ∷ frames))
@@ -188,7 +188,7 @@ tested f (Some (Ok true)) at stack frames = Goes 0 (on (at + 1) stack (f ∷ fra
 tested f (Some (Ok false)) at stack frames = gone_on f f.left f.gathered stack frames
 tested f (Some (Err e)) at stack frames = Goes 0 (on f.exit (Err e ∷ stack) frames)
 
--- a predicate stands in a `map` alone
+-- a predicate occurs only in a `map`
 abbrev pub tested_in : Loop → Frame → Outcome → ℕ → List Outcome → List Frame → Next
 tested_in Map f x at stack frames = tested f (side_of (Some x)) at stack frames
 tested_in _ f x at stack frames = Stuck
@@ -220,7 +220,7 @@ abbrev pub act_at : Inputs → Option Instr → ℕ → List Outcome → List Fr
 act_at inputs None at stack frames = Stuck
 act_at inputs (Some i) at stack frames = act inputs i at stack frames
 
--- what an image reads where its slots hold these
+-- what an image reads if its slots hold these
 abbrev pub inputs_of : Image → List Outcome → Inputs
 inputs_of image slots = record { constants = image.constants; slots = slots }
 

@@ -4,8 +4,8 @@ ghost use Rattle.std.specs.Prelude.{◌≡◌};
 ghost use Rattle.cel_code.specs.Declaring.{declaring};
 
 use crate::instr::Instr;
+use base_containers::Items;
 use cel_value::{CelType, Value};
-use plain::Items;
 
 /// The types of the operand stack where jumps arrive, the bottom first.
 #[derive(Drop)]
@@ -24,7 +24,7 @@ pub struct Image {
     pub targets: Items<Target>,
     /// The type of the outcome.
     pub result: CelType,
-    /// What a run may charge at the most, where whoever made the image says so: the verifier refuses what may charge more.
+    /// What a run may charge at most, if the maker of the image says so: the verifier refuses what may charge more.
     pub declared: Option<u64>,
     pub code: Items<Instr>,
 }

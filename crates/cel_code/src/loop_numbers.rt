@@ -3,7 +3,7 @@
 ghost use Rattle.std.specs.Prelude.{◌≡◌};
 ghost use Rattle.cel_code.specs.LoopNumbers.{loop_number, loop_kind};
 
-use cel_tree::Loop;
+use cel_value::Loop;
 
 /// The number of a kind of loop in an image.
 pub fn loop_number(kind: Loop) -> usize

@@ -6,16 +6,16 @@ use Rattle.std.proofs.Math.Nat.{mul-le-mul_right}
 use Rattle.std.proofs.lemmas.Bool.{and_parts, and_from}
 use Rattle.std.specs.Prelude.{Result, Ok, Err}
 use Rattle.std.specs.List.{list_all}
-use Rattle.cel_tree.specs.declared.expr.Entry.{Entry}
+use Rattle.cel_value.specs.declared.expr.Entry.{Entry}
 use Rattle.cel_value.specs.declared.value.Value.{Value}
 use Rattle.cel_value.specs.declared.cel_type.CelType.{CelType}
 use Rattle.cel_value.specs.declared.cel_type.CelType as type
 use Rattle.cel_value.specs.declared.cel_error.CelError.{CelError}
 use Rattle.cel_value.specs.CelType.{fits, assignable}
-use Rattle.cel_tree.specs.declared.expr.Loop.{Loop}
-use Rattle.cel_tree.specs.declared.expr.Loop.TheVariants as loop
+use Rattle.cel_value.specs.declared.expr.Loop.{Loop}
+use Rattle.cel_value.specs.declared.expr.Loop.TheVariants as loop
 use Rattle.cel_check.specs.declared.typed.Typed.{Typed}
-use Rattle.cel_loops.specs.declared.accumulator.Accumulator.{Accumulator}
+use Rattle.cel_operators.specs.declared.accumulator.Accumulator.{Accumulator}
 use Rattle.cel_check.specs.declared.tree.TypedTree.{TypedTree, roll-TypedTree}
 use Rattle.cel_check.specs.declared.tree.TypedTree.TheOpen.{TypedTree-F}
 use Rattle.cel_check.specs.declared.tree.TypedTree.TheFolds.{map-TypedTree, fold-roll-TypedTree, fold_out-TypedTree, ind-TypedTree}
@@ -33,21 +33,22 @@ use Rattle.cel_operators.specs.TextOperators.{row_with}
 use Rattle.cel_operators.specs.declared.type_rule.TypeRule.{TypeRule}
 use Rattle.cel_operators.specs.Lists.{each_there, list_where, items_type}
 use Rattle.cel_operators.specs.Maps.{map_where, entries_type, entries_greatest}
-use Rattle.cel_loops.specs.Loops.{Turn, Closes, GoesOn, inside, types_inside, nothing_yet, cost_of_items, charged_behind, cost_over}
-use Rattle.cel_loops.specs.Loops.{where_ranged, loop_type}
+use Rattle.cel_operators.specs.Loops.{Turn, Closes, GoesOn, inside, types_inside, nothing_yet, cost_of_items, charged_behind, cost_over}
+use Rattle.cel_operators.specs.Loops.{where_ranged, loop_type}
 use Rattle.cel_check.specs.Meaning.{Valuation, Priced, cost_at, priced_step, priced_of, value_of, cost_of, values_at, values_priced}
 use Rattle.cel_check.specs.Meaning.{costs_at}
-use Rattle.cel_tree.specs.Turns.{by_turns}
+use Rattle.cel_value.specs.Turns.{by_turns}
 use Rattle.cel_check.specs.Meaning.{Judged, judged_of, judged_step, right_at, is_right, takes_result, types_judged, each_right}
 use Rattle.cel_check.specs.Meaning.{loop_turns, where_turns, where_cost, right_loop, right_where, type_of}
 use Rattle.cel_check.proofs.Levels.{part, parts, fused, value_is}
 use Rattle.cel_operators.proofs.Rows.{MadeRight, row_right, one_operand, two_operands}
 use Rattle.cel_operators.proofs.Taking.{Taken, taken_fits}
 use Rattle.cel_operators.proofs.FieldRows.{row_with_right}
-use Rattle.cel_loops.proofs.Literals.{EachFits, literal_made}
-use Rattle.cel_loops.proofs.MapLiterals.{paired_turns, paired_mapped, literal_map_made}
+use Rattle.cel_operators.proofs.Literals.{EachFits, literal_made}
+use Rattle.cel_operators.proofs.MapLiterals.{paired_turns, paired_mapped, literal_map_made}
 use Rattle.cel_check.proofs.Preserved.{preserved}
 use Rattle.cel_estimate.specs.Estimate.{Rated, sum_of, types_rated, span_max, items_most, estimate_at, rated_step, rated_of, estimate_of}
+use Rattle.cel_estimate.proofs.Estimates.{length_mapped}
 
 -- what a row's answer says of each type that takes it
 of_taken : (t : CelType) (r : Result CelType TypeRule) (P : CelType → Type 0) → takes_result t r ≡ true
@@ -55,7 +56,7 @@ of_taken : (t : CelType) (r : Result CelType TypeRule) (P : CelType → Type 0) 
 of_taken t (Err e) P h k = absurd (true≢false (sym h))
 of_taken t (Ok s) P h k = k s refl h
 
--- what is charged behind an item
+-- what is charged after an item
 behind_le : (turns : Value → Accumulator → Option Turn) (costs : Value → ℕ) (vs : List Value) (n : ℕ)
     → ((a : Accumulator) → cost_of_items turns costs vs a ≤ n)
     → (t : Option Turn) → charged_behind t (cost_of_items turns costs vs) ≤ n
@@ -63,7 +64,7 @@ behind_le turns costs vs n h None = omega arith
 behind_le turns costs vs n h (Some (Closes x)) = omega arith
 behind_le turns costs vs n h (Some (GoesOn b)) = h b
 
--- what items charge, where the bodies at each charge at most n
+-- what items charge, if the bodies at each charge at most n
 items_le : (turns : Value → Accumulator → Option Turn) (costs : Value → ℕ) (p : Value → Bool) (n : ℕ)
     → ((v : Value) → p v ≡ true → costs v ≤ n) → (vs : List Value) → list_all p vs ≡ true
     → (a : Accumulator) → cost_of_items turns costs vs a ≤ length vs * (1 + n)
@@ -73,7 +74,7 @@ items_le turns costs p n h (v ∷ vs) k a =
     let rest = behind_le turns costs vs (length vs * (1 + n)) (items_le turns costs p n h vs q.1) (turns v a) in
     omega (arith, h v q.0, rest)
 
--- what a range's items charge, where the range is of its type
+-- what a range's items charge, if the range is of its type
 range_le : (turns : Value → Accumulator → Option Turn) (costs : Value → ℕ) (n : ℕ) (span : Span)
     → ((v : Value) → fits v span.item ≡ true → costs v ≤ n) → (x : Option (Result (List Value) CelError)) → Taken Ranged span x
     → cost_over x (λ vs. cost_of_items turns costs vs nothing_yet) ≤ span.max * (1 + n)
@@ -134,10 +135,6 @@ types_same_turns (e ∷ es) =
     ap (λ t. t ∷ (rated e.value).type ∷ types_rated (by_turns (parts rated es))) (rated_same e.key.0)
     ∙ ap (λ t. (judged e.key).type ∷ t ∷ types_rated (by_turns (parts rated es))) (rated_same e.value.0)
     ∙ ap (λ ts. (judged e.key).type ∷ (judged e.value).type ∷ ts) (types_same_turns es)
-
-length_mapped : (A B : Type 0) (f : A → B) (xs : List A) → length (map f xs) ≡ length xs
-length_mapped A B f [] = refl
-length_mapped A B f (x ∷ xs) = omega (arith, length_mapped A B f xs)
 
 module _ (types : Types) (env : Env) (h : env_fits types env ≡ true) where
   -- the value of a part is of its type

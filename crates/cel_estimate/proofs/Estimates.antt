@@ -1,17 +1,17 @@
 -- The equations of an estimate, level by level.
 use Rattle.std.proofs.Common.{◌≡◌, ℕ, ◌+◌, ◌*◌, List, [], ◌∷◌, map, length, refl, sym, ap, ◌∙◌, arith}
-use Rattle.cel_tree.specs.declared.expr.Entry.{Entry}
+use Rattle.cel_value.specs.declared.expr.Entry.{Entry}
 use Rattle.cel_value.specs.declared.cel_type.CelType.{CelType}
-use Rattle.cel_tree.specs.declared.expr.Loop.{Loop}
+use Rattle.cel_value.specs.declared.expr.Loop.{Loop}
 use Rattle.cel_check.specs.declared.tree.TypedTree.{TypedTree, out-TypedTree}
 use Rattle.cel_check.specs.declared.tree.TypedTree.TheFolds.{fold_out-TypedTree}
 use Rattle.cel_check.specs.declared.tree.Form.{Form}
 use Rattle.cel_check.specs.declared.tree.Form.TheVariants as form
 use Rattle.cel_operators.specs.Maps.{keys_by_turns, keys_greatest, entries_greatest}
 use Rattle.cel_check.specs.Meaning.{type_of, IsForm}
-use Rattle.cel_tree.specs.Turns.{by_turns}
+use Rattle.cel_value.specs.Turns.{by_turns}
 use Rattle.cel_check.proofs.Levels.{part, parts, turns_parts}
-use Rattle.cel_loops.proofs.MapLiterals.{keys_of_turns}
+use Rattle.cel_operators.proofs.MapLiterals.{keys_of_turns}
 use Rattle.cel_estimate.specs.Estimate.{Rated, sum_of, types_rated, items_most, estimate_at, rated_step, rated_of, estimate_of}
 use Rattle.cel_estimate.specs.Estimate.{estimates_of, keys_most}
 
@@ -33,7 +33,7 @@ pub types_rated_of : (xs : List TypedTree) → types_rated (map rated_of xs) ≡
 types_rated_of [] = refl
 types_rated_of (x ∷ xs) = ap (λ t. t ∷ types_rated (map rated_of xs)) (rated_type x) ∙ ap (λ ts. type_of x ∷ ts) (types_rated_of xs)
 
-length_mapped : (A B : Type 0) (f : A → B) (xs : List A) → length (map f xs) ≡ length xs
+pub length_mapped : (A B : Type 0) (f : A → B) (xs : List A) → length (map f xs) ≡ length xs
 length_mapped A B f [] = refl
 length_mapped A B f (x ∷ xs) = omega (arith, length_mapped A B f xs)
 

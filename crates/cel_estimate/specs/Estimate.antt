@@ -1,7 +1,7 @@
 -- The most that an expression may charge, by its types alone (Kubernetes, "Resource usage by validation functions").
 use Rattle.std.specs.Prelude.{◌≡◌, ℕ, ◌+◌, ◌*◌, max, List, [], ◌∷◌, map, length, Option, Some, None}
 use Rattle.cel_value.specs.declared.cel_type.CelType.{CelType}
-use Rattle.cel_tree.specs.declared.expr.Entry.{Entry}
+use Rattle.cel_value.specs.declared.expr.Entry.{Entry}
 use Rattle.cel_check.specs.declared.tree.TypedTree.{TypedTree, fold-TypedTree}
 use Rattle.cel_check.specs.declared.tree.TypedTree.TheOpen.{TypedTree-F}
 use Rattle.cel_check.specs.declared.tree.Form.{Form}
@@ -13,7 +13,7 @@ use Rattle.cel_operators.specs.Operators.{row, greatest_of_one, greatest_of_two}
 use Rattle.cel_operators.specs.TextOperators.{row_with}
 use Rattle.cel_operators.specs.Maps.{keys_greatest, entries_greatest}
 use Rattle.cel_check.specs.Meaning.{type_of}
-use Rattle.cel_tree.specs.Turns.{by_turns}
+use Rattle.cel_value.specs.Turns.{by_turns}
 
 -- the most that an expression may charge
 abbrev pub budget : ℕ

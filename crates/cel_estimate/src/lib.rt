@@ -1,4 +1,4 @@
-//! The most that an expression may charge, told from its types before it runs: [`estimate`].
+//! The most that an expression may charge, computed from its types before it runs: [`estimate`].
 #![tactic(auto)]
 
 mod limits;

@@ -3,14 +3,14 @@
 ghost use Rattle.std.specs.Prelude.{◌≡◌, ℕ, ◌+◌, ◌*◌, ◌≤◌, ◌<◌, ◌^◌, ◌-◌, min, List, IsTrue, MatchResult};
 ghost use Rattle.cel_operators.specs.Outcomes.{Outcome, slots_fit, outside};
 ghost use Rattle.cel_check.specs.Meaning.{cost_of};
-ghost use Rattle.cel_tree.specs.Turns.{by_turns};
+ghost use Rattle.cel_value.specs.Turns.{by_turns};
 ghost use Rattle.cel_estimate.specs.Estimate.{estimate_of, estimates_of, items_most, keys_most, budget};
 
-use crate::limits::{greatest_of_key, range_max};
+use crate::limits::range_max;
 use crate::over_budget::OverBudget;
 use cel_check::{Form, Typed, TypedTree, greatest_of_one, greatest_of_two};
-use cel_tree::Entry;
-use cel_value::CelType;
+use cel_operators::greatest_of_key;
+use cel_value::{CelType, Entry};
 
 // The most that an expression may charge.
 const BUDGET: u64 = 10_000_000;
@@ -117,7 +117,7 @@ fn most_of_keys(entries: &[Entry<TypedTree>]) -> u64
     sum.saturating_add(1)
 }
 
-// As often as a range of a type has items at most: 1 and the most of the bodies.
+// The sum of 1 and the most of the bodies, as often as a range of a type has items at most.
 fn rounds(range: &CelType, bodies: u64) -> u64
     ensures { (most : ℕ) → bodies ≡ min most (2 ^ 64 - 1) → result ≡ min (items_most range.now * (1 + most)) (2 ^ 64 - 1) }
 {

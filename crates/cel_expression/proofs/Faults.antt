@@ -1,12 +1,12 @@
 -- Why a typed expression is not compiled.
 use Rattle.std.proofs.Common.{◌≡◌, ℕ, List}
-use Rattle.failing.specs.Failures.{Widens}
-use Rattle.failing.specs.declared.failed.Failed.{Failed}
-use Rattle.failing.specs.declared.failed.Failed.TheVariants.{OutOfMemory, Fault}
+use Rattle.base_containers.specs.Failures.{Widens}
+use Rattle.base_containers.specs.declared.failed.Failed.{Failed}
+use Rattle.base_containers.specs.declared.failed.Failed.TheVariants.{OutOfMemory, Fault}
 use Rattle.cel_value.specs.declared.cel_type.CelType.{CelType}
 use Rattle.cel_check.specs.declared.tree.TypedTree.{TypedTree}
 use Rattle.cel_code.specs.declared.image.Image.{Image}
-use Rattle.cel_compile.specs.Compiled.{IsCompiled}
+use Rattle.cel_expression.specs.Compiled.{IsCompiled}
 use Rattle.cel_verify.specs.Accepted.{IsRefused}
 use Rattle.cel_verify.specs.declared.fault.VerifyFault.{VerifyFault}
 use Rattle.cel_expression.specs.declared.refusal.CompileFault.{CompileFault}

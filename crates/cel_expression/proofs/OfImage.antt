@@ -2,8 +2,8 @@
 use Rattle.std.proofs.Common.{◌≡◌, sym, subst}
 use Rattle.cel_check.specs.Typing.{types_in}
 use Rattle.cel_code.specs.declared.image.Image.{Image}
-use Rattle.cel_compile.specs.Compiled.{IsCompiled as IsImage}
-use Rattle.cel_compile.specs.Correct.{Computes}
+use Rattle.cel_expression.specs.Compiled.{IsCompiled as IsImage}
+use Rattle.cel_expression.specs.Correct.{Computes}
 use Rattle.cel_expression.specs.Faithful.{IsFaithful}
 use Rattle.cel_expression.specs.Holds.{source_of, IsCompiled}
 use Rattle.cel_expression.specs.Images.{IsImageOf}

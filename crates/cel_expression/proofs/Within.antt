@@ -2,10 +2,11 @@
 use Rattle.std.proofs.Common.{◌≡◌, ◌≤◌, ◌<◌, ◌-◌, ◌^◌, ℕ, cond, min, ap, sym, ◌∙◌}
 use Rattle.std.proofs.lemmas.Bool.{le-ltb, lt-ltb}
 use Rattle.std.specs.Prelude.{Ok, Err}
+use Rattle.cel_value.specs.Views.{capped}
 use Rattle.cel_check.specs.declared.tree.TypedTree.{TypedTree}
 use Rattle.cel_estimate.specs.Estimate.{estimate_of, budget}
 use Rattle.cel_expression.specs.declared.refusal.Refusal.TheVariants as refusal
-use Rattle.cel_expression.specs.Expressions.{capped, within_budget}
+use Rattle.cel_expression.specs.Expressions.{within_budget}
 
 -- an estimate within the budget keeps the tree
 pub within : (tree : TypedTree) → estimate_of tree ≤ budget → within_budget (Ok tree) ≡ Ok tree

@@ -1,9 +1,10 @@
--- What the text of an expression comes to: its typed tree, its estimate, its value and its cost, or why it is refused.
-use Rattle.std.specs.Prelude.{ℕ, ◌-◌, ◌^◌, min, nat_lt, List, Option, Some, None, Result, Ok, Err, option_map, if◌then◌else◌}
+-- What the text of an expression results in: its typed tree, its estimate, its value and its cost, or why it is refused.
+use Rattle.std.specs.Prelude.{ℕ, ◌-◌, nat_lt, List, Option, Some, None, Result, Ok, Err, option_map, if◌then◌else◌}
 use Rattle.cel_value.specs.declared.cel_type.CelType.{CelType}
 use Rattle.cel_value.specs.declared.cel_type.CelType as type
-use Rattle.cel_grammar.specs.declared.fault.ParseFault.{ParseFault}
-use Rattle.cel_tree.specs.declared.expr.Expr.{Expr}
+use Rattle.cel_parse.specs.declared.fault.ParseFault.{ParseFault}
+use Rattle.cel_value.specs.declared.expr.Expr.{Expr}
+use Rattle.cel_value.specs.Views.{capped}
 use Rattle.cel_parse.specs.Parsed.{parsed}
 use Rattle.cel_check.specs.declared.tree.TypedTree.{TypedTree}
 use Rattle.cel_check.specs.Typing.{Names, Checked, names_of, checked_within}
@@ -22,17 +23,17 @@ names_in s = names_of s.choice (record { names = s.names })
 abbrev pub Typed : Type 0
 Typed = Result TypedTree Refusal
 
--- what checking told
+-- what checking answered
 abbrev pub told : Checked → Typed
 told (Err fault) = Err (refusal.Type fault)
 told (Ok tree) = Ok tree
 
--- the typed tree of an expression, where the text spells one
+-- the typed tree of an expression, if the text spells one
 abbrev pub typed_at : Names → Result Expr ParseFault → Typed
 typed_at names (Err fault) = Err (refusal.Parse fault)
 typed_at names (Ok e) = told (checked_within e names)
 
--- the typed tree that a text spells where it stands: the fault of its parts comes before that of its types
+-- the typed tree that a text spells in its scope: the fault of its parts comes before that of its types
 unfoldable pub typed_of : Source → Typed
 typed_of s = typed_at (names_in s) (parsed s.text)
 
@@ -40,10 +41,6 @@ typed_of s = typed_at (names_in s) (parsed s.text)
 abbrev pub root_type : Typed → Option CelType
 root_type (Err why) = None
 root_type (Ok tree) = Some (type_of tree)
-
--- a number as one of 64 bits tells it
-abbrev pub capped : ℕ → ℕ
-capped n = min n (2 ^ 64 - 1)
 
 -- a tree within the budget
 abbrev pub within_budget : Typed → Typed
@@ -54,7 +51,7 @@ within_budget (Ok tree) = if nat_lt budget (estimate_of tree) then Err (refusal.
 unfoldable pub accepted_of : Source → Typed
 accepted_of s = within_budget (typed_of s)
 
--- what a run comes to, and what it charges
+-- what a run results in, and what it charges
 pub record Ran : Type 0 where
   pub outcome : Outcome
   pub charged : ℕ
@@ -63,12 +60,12 @@ pub record Ran : Type 0 where
 abbrev pub ran_at : TypedTree → List Outcome → Option Ran
 ran_at tree slots = option_map (λ x. record { outcome = x; charged = cost_of tree (outside slots) }) (value_of tree (outside slots))
 
--- the same of an expression, where it may be run
+-- the same of an expression, if it may be run
 abbrev pub ran_in : Typed → List Outcome → Option Ran
 ran_in (Err why) slots = None
 ran_in (Ok tree) slots = ran_at tree slots
 
--- what an expression comes to from its text, where its names have these values; no image has a part in it
+-- what an expression evaluates to from its text, if its names have these values; no image is used for it
 unfoldable pub run_of : Source → List Outcome → Option Ran
 run_of s slots = ran_in (accepted_of s) slots
 
@@ -77,6 +74,7 @@ abbrev pub type_in : Typed → CelType
 type_in (Err why) = type.Never
 type_in (Ok tree) = type_of tree
 
+-- the same of an expression as it is written
 unfoldable pub type_at : Source → CelType
 type_at s = type_in (accepted_of s)
 
@@ -85,6 +83,7 @@ abbrev pub estimate_in : Typed → ℕ
 estimate_in (Err why) = 0
 estimate_in (Ok tree) = estimate_of tree
 
+-- the same of an expression as it is written
 unfoldable pub estimate_at : Source → ℕ
 estimate_at s = estimate_in (accepted_of s)
 
@@ -93,5 +92,6 @@ abbrev pub allowed : Source → Typed → Result Source Refusal
 allowed s (Err why) = Err why
 allowed s (Ok tree) = Ok s
 
+-- the expression that is compiled of a source, which contracts see as the source, or why there is none
 unfoldable pub compiled_of : Source → Result Source Refusal
 compiled_of s = allowed s (accepted_of s)

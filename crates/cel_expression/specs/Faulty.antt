@@ -4,7 +4,7 @@ use Rattle.cel_value.specs.declared.cel_type.CelType.{CelType}
 use Rattle.cel_check.specs.declared.tree.TypedTree.{TypedTree}
 use Rattle.cel_check.specs.Typing.{types_in}
 use Rattle.cel_code.specs.declared.image.Image.{Image}
-use Rattle.cel_compile.specs.Compiled.{IsCompiled}
+use Rattle.cel_expression.specs.Compiled.{IsCompiled}
 use Rattle.cel_verify.specs.declared.fault.VerifyFault.{VerifyFault}
 use Rattle.cel_verify.specs.Accepted.{IsFault}
 use Rattle.cel_expression.specs.Source.{Source}

@@ -3,8 +3,8 @@ use Rattle.std.specs.Prelude.{◌≡◌, ◌≤◌, Ok}
 use Rattle.cel_check.specs.declared.tree.TypedTree.{TypedTree}
 use Rattle.cel_check.specs.Meaning.{type_of}
 use Rattle.cel_check.specs.Typing.{types_in}
-use Rattle.cel_compile.specs.Compiled.{IsCompiled as IsImageOf}
-use Rattle.cel_compile.specs.Correct.{Computes, Preserves}
+use Rattle.cel_expression.specs.Compiled.{IsCompiled as IsImageOf}
+use Rattle.cel_expression.specs.Correct.{Computes, Preserves}
 use Rattle.cel_estimate.specs.Estimate.{estimate_of, budget}
 use Rattle.cel_expression.specs.Source.{Source}
 use Rattle.cel_expression.specs.Expressions.{accepted_of}

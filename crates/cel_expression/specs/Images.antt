@@ -3,7 +3,7 @@ use Rattle.std.specs.Prelude.{◌≡◌, Ok}
 use Rattle.cel_check.specs.declared.tree.TypedTree.{TypedTree}
 use Rattle.cel_check.specs.Typing.{types_in}
 use Rattle.cel_code.specs.declared.image.Image.{Image}
-use Rattle.cel_compile.specs.Compiled.{IsCompiled}
+use Rattle.cel_expression.specs.Compiled.{IsCompiled}
 use Rattle.cel_expression.specs.Source.{Source}
 use Rattle.cel_expression.specs.Expressions.{accepted_of}
 

@@ -1,3 +1,9 @@
+pub mod Compiled
+pub mod Correct
+pub mod Drafts
+pub mod Jumps
+pub mod Placed
+pub mod Numbered
 pub mod Source
 pub mod Expressions
 pub mod Stages

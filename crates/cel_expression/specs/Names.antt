@@ -1,11 +1,11 @@
--- The names that are printed, and the places beside them.
+-- The names that are printed, and the places with them.
 use Rattle.std.specs.Prelude.{ℕ, List, Option, Some, None, codes}
-use Rattle.cel_grammar.specs.Names.{parse_fault_name, parse_fault_place}
+use Rattle.cel_parse.specs.Names.{parse_fault_name, parse_fault_place}
 use Rattle.cel_operators.specs.Names.{type_rule_name}
 use Rattle.cel_expression.specs.declared.refusal.Refusal.{Refusal}
 use Rattle.cel_expression.specs.declared.refusal.Refusal.TheVariants as refusal
 
--- the name of why a text may not be run: of a fault of the parser or a type its own
+-- the name of why a text may not be run: for a fault of the parser or of a type, its own name
 abbrev pub refusal_name : Refusal → List ℕ
 refusal_name (refusal.Parse fault) = parse_fault_name fault
 refusal_name (refusal.Type fault) = type_rule_name fault.rule

@@ -1,7 +1,7 @@
 -- The literal texts that `matches` is given in the expression of a text.
 use Rattle.std.specs.Prelude.{◌≡◌, ◌≢◌, ℕ, List, [], Result, Ok, Err}
-use Rattle.cel_grammar.specs.declared.fault.ParseFault.{ParseFault}
-use Rattle.cel_tree.specs.declared.expr.Expr.{Expr}
+use Rattle.cel_parse.specs.declared.fault.ParseFault.{ParseFault}
+use Rattle.cel_value.specs.declared.expr.Expr.{Expr}
 use Rattle.cel_parse.specs.Parsed.{parsed}
 use Rattle.cel_check.specs.PatternTexts.{patterns_in}
 use Rattle.cel_expression.specs.Source.{Source}

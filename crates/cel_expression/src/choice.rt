@@ -1,14 +1,14 @@
 //! Which texts are taken as no patterns: those that `regex` refuses.
 
 ghost use Rattle.std.specs.Prelude.{◌≡◌, IfOk, OnOk};
-ghost use Rattle.cel_patterns.specs.Answers.{choice_in, AsksOnly, Grows, IsHonest};
+ghost use Rattle.cel_operators.specs.PatternAnswers.{choice_in, AsksOnly, Grows, IsHonest};
 ghost use Rattle.cel_check.specs.PatternTexts.{AreAnswered};
 ghost use Rattle.cel_expression.specs.Patterns.{patterns_of};
 
+use base_containers::{Items, Shared, Text};
 use cel_check::ask;
+use cel_operators::Patterns;
 use cel_parse::{ParseError, parse};
-use cel_patterns::Patterns;
-use plain::{Items, Shared, Text};
 use std::alloc::{AllocError, Global};
 
 /// Asks for each literal text that `matches` is given in a text's expression whether it is a pattern, and for no other text.

@@ -1,8 +1,8 @@
 ghost use Rattle.std.specs.Prelude.{◌≡◌, ◌≤◌, ℕ, IfOk, IsErrOf};
-ghost use Rattle.failing.specs.declared.failed.Failed.TheVariants.{Fault};
+ghost use Rattle.base_containers.specs.declared.failed.Failed.TheVariants.{Fault};
 ghost use Rattle.cel_check.specs.Typing.{types_in};
-ghost use Rattle.cel_compile.specs.Compiled.{IsCompiled};
-ghost use Rattle.cel_compile.specs.Correct.{Computes, Preserves};
+ghost use Rattle.cel_expression.specs.Compiled.{IsCompiled};
+ghost use Rattle.cel_expression.specs.Correct.{Computes, Preserves};
 ghost use Rattle.cel_estimate.specs.Estimate.{budget};
 ghost use Rattle.cel_expression.specs.Expressions.{accepted_of, compiled_of, estimate_at, type_at};
 ghost use Rattle.cel_expression.specs.Faithful.{IsFaithful};
@@ -13,9 +13,9 @@ ghost use Rattle.cel_expression.specs.declared.refusal.CompileFault.TheVariants.
 
 use crate::refusal::{CompileError, Refusal};
 use crate::stages::{Accepted, program_of, typed_text};
+use base_containers::{Items, Keyed, Shared, Text};
 use cel_value::CelType;
 use cel_verify::Program;
-use plain::{Items, Keyed, Shared, Text};
 use std::alloc::{AllocError, Global};
 use std::marker::Model;
 

@@ -4,22 +4,22 @@ ghost use Rattle.std.specs.Prelude.{◌≡◌};
 ghost use Rattle.cel_expression.specs.Names.{refusal_name, refusal_place};
 ghost use Rattle.cel_expression.specs.declared.refusal.CompileFault.TheVariants.{Unverified};
 
+use base_containers::Failed;
 use cel_check::TypeFault;
 use cel_parse::ParseFault;
 use cel_verify::VerifyFault;
-use failing::Failed;
 
 /// Why a text is no expression that may be run; the first of these that applies.
 #[derive(Clone, Copy, Debug, PartialEq, Eq)]
 pub enum Refusal {
     Parse(ParseFault),
     Type(TypeFault),
-    /// It may charge more than 10,000,000; the estimate is told up to the greatest number of 64 bits.
+    /// It may charge more than 10,000,000; the estimate is reported up to the greatest number of 64 bits.
     OverBudget(u64),
 }
 
 impl Refusal {
-    /// The name that is printed: of a fault of the parser or a type its own.
+    /// The name that is printed: for a fault of the parser or of a type, its own name.
     pub fn name(&self) -> &'static str
         ensures { result.now ≡ refusal_name self.now }
     {

@@ -2,23 +2,22 @@
 
 ghost use Rattle.std.specs.Prelude.{◌≡◌, ℕ, Ok, IfOk, IsErrOf};
 ghost use Rattle.cel_check.specs.Typing.{names_of, types_in};
-ghost use Rattle.cel_compile.specs.Compiled.{IsCompiled};
-ghost use Rattle.cel_compile.specs.Correct.{Computes, Preserves};
+ghost use Rattle.cel_expression.specs.Compiled.{IsCompiled};
+ghost use Rattle.cel_expression.specs.Correct.{Computes, Preserves};
 ghost use Rattle.cel_expression.specs.Expressions.{accepted_of, root_type, typed_at, typed_of, within_budget};
 ghost use Rattle.cel_expression.specs.Faulty.{IsFaulty};
 ghost use Rattle.cel_expression.specs.Stages.{IsFound};
-ghost use Rattle.failing.specs.declared.failed.Failed.TheVariants.{Fault};
+ghost use Rattle.base_containers.specs.declared.failed.Failed.TheVariants.{Fault};
 ghost use Rattle.cel_expression.specs.declared.refusal.CompileFault.TheVariants.{Unverified};
 
+use crate::compiler::compile;
 use crate::refusal::{CompileError, Refusal};
+use base_containers::{Keyed, Text};
 use cel_check::{CheckError, Typed, check_by};
-use cel_compile::compile;
 use cel_estimate::estimate;
 use cel_parse::{ParseError, parse};
-use cel_tree::Expr;
-use cel_value::CelType;
+use cel_value::{CelType, Expr};
 use cel_verify::{Program, verify};
-use plain::{Keyed, Text};
 use std::alloc::{AllocError, Global};
 
 /// A typed expression within the budget, and the most that it charges.

@@ -3,9 +3,9 @@
 ghost use Rattle.std.specs.Prelude.{◌≡◌, ◌++◌, OnOk};
 ghost use Rattle.cel_expression.specs.Patterns.{patterns_of};
 
+use base_containers::Text;
 use cel_check::gather_patterns;
 use cel_parse::{ParseError, parse};
-use plain::Text;
 use std::alloc::{AllocError, Global};
 
 /// Puts each literal text that `matches` is given in a text's expression after the texts that are there, from left to right.

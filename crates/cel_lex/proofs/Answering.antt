@@ -78,11 +78,11 @@ fault_is : {bytes : List ℕ} {f : LexFault} {r : Answer} → Refuses bytes f �
 fault_is {bytes} {f} x (is_cut {ts} d) = absurd (no_refusal bytes ts f d x)
 fault_is {bytes} {f} x (is_refused {f = g} y) = ap Err (one_refusal bytes g f y x)
 
--- the answer is the cut where there is one
+-- the answer is the cut, if there is one
 pub answer_cut : (bytes : List ℕ) (ts : List Token) → IsCut bytes ts → answer_of bytes ≡ Ok ts
 answer_cut bytes ts c = cut_is c (right_answer bytes)
 
--- and the fault where there is one
+-- and the fault, if there is one
 pub answer_fault : (bytes : List ℕ) (f : LexFault) → Refuses bytes f → answer_of bytes ≡ Err f
 answer_fault bytes f x = fault_is x (right_answer bytes)
 

@@ -1,5 +1,5 @@
 -- One turn of the loop over what a text means.
-use Rattle.std.proofs.Common.{◌≡◌, ℕ, ◌+◌, ◌-◌, ◌<◌, ◌≤◌, Bool, true, false, List, [], ◌∷◌}
+use Rattle.std.proofs.Common.{◌≡◌, ℕ, ◌+◌, ◌-◌, ◌<◌, ◌≤◌, Bool, true, false, List, ◌∷◌}
 use Rattle.std.proofs.Common.{◌++◌, length, take, drop, get_or, Some, None, Result, Ok, Err, refl, sym}
 use Rattle.std.proofs.Common.{ap, subst, ◌∙◌, inl, inr, arith, rules, eq-eqb, length-drop, append-nil}
 use Rattle.std.specs.Prelude.{nat_eq, not}
@@ -14,6 +14,7 @@ use Rattle.cel_lex.specs.Bytes.{is_backslash, is_plain}
 use Rattle.cel_lex.specs.Escapes.{escape_of, meaning_of}
 use Rattle.cel_lex.proofs.Meaning.{after, after_after, bad_escape, escape_first, run_first}
 use Rattle.cel_lex.proofs.EscapeParts.{is_escape}
+use Rattle.cel_lex.proofs.Spelled.{meaning_nil}
 
 -- a backslash is no other byte
 not_backslash : (c : ℕ) → (c ≡ 92 → ⊥) → is_backslash c ≡ false
@@ -103,10 +104,6 @@ module _ (bytes : List ℕ) (place : ℕ) (lt : place < length bytes) where
         ap (λ (x : List ℕ). after (out ++ take (1 + n) x) (place + (1 + n)) (meaning_of 0 (drop (place + (1 + n)) bytes))) from_here
         ∙ turned (take (1 + n) (get_or bytes place 0 ∷ rest)) (1 + n)
         (run_first (get_or bytes place 0) rest n (not_backslash (get_or bytes place 0) e) is)
-
-meaning_nil : meaning_of 0 [] ≡ Ok []
-unfolding meaning_of
-meaning_nil = refl
 
 -- the whole text has been read
 pub all_read : (bytes out : List ℕ) (place : ℕ) (total : Result (List ℕ) ℕ) → length bytes ≤ place

@@ -16,7 +16,7 @@ digit_ascii base c small e = grind (arith, nat_tests)
 simple_ascii : (c v : ℕ) → simple c ≡ Some v → c < 128
 simple_ascii c v e = grind (arith, nat_tests)
 
--- the bytes of an escape: one at least, within the text, of which the last is ASCII
+-- the bytes of an escape: at least one, all within the text; the last is ASCII
 pub record IsEscape (bytes : List ℕ) (n : ℕ) : Type 0 where
   pub some : 1 ≤ n
   pub within : n ≤ length bytes
@@ -46,7 +46,7 @@ behind_letter : (c : ℕ) (rest : List ℕ) (n : ℕ) → IsEscape rest n → Is
 behind_letter c rest n e = let w = e.within
     in record { some = omega arith; within = omega arith; ascii = λ k is. at_letter c rest n k e is }
 
--- a count that is told beside a character
+-- a count that is answered beside a character
 letter_by : (c base count : ℕ) (rest : List ℕ) (o : Option ℕ) (v n : ℕ) → coded base count rest ≡ o → base ≤ 36
     → 1 ≤ count → spelled_by (suc count) o ≡ Some (v, n) → IsEscape (c ∷ rest) n
 letter_by c base count rest None v n e small some is = absurd cc

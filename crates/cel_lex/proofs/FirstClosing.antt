@@ -167,12 +167,12 @@ with_escape s c d rest n m e b is h = record {
   content = escape e b h.content;
 }
 
--- what is found behind a byte, or behind a backslash and the byte that it escapes
+-- what is found after a byte, or after a backslash and the byte that it escapes
 some_more : (o : Option ℕ) (n : ℕ) → option_map (λ k. 1 + k) o ≡ Some n → (m : ℕ) × (o ≡ Some m) × (1 + m ≡ n)
 some_more None n h = absurd cc
 some_more (Some m) n h = (m, refl, cc)
 
--- what is found at the first bytes, given what is found behind the first and behind the second
+-- what is found at the first bytes, given what is found after the first and after the second
 module _ (s : Style) (quote : is_quote s.quote ≡ true) (c : ℕ) (rest : List ℕ) (n : ℕ)
     (is : closed_at s false (c ∷ rest) ≡ Some n) where
   abbrev Found : List ℕ → Type 0
@@ -197,7 +197,7 @@ module _ (s : Style) (quote : is_quote s.quote ≡ true) (c : ℕ) (rest : List 
       let p = some_more (closed_at s (escapes s c) rest) n (sym (past_byte s c rest x b) ∙ is) in
       with_byte s c rest n p.0 x e b p.2 (more p.0 (ap (λ y. closed_at s y rest) (sym e) ∙ p.1))
 
--- likewise behind a backslash
+-- likewise after a backslash
 found_escaped : (s : Style) (c : ℕ) (rest : List ℕ) (n m : ℕ) → escapes s c ≡ true → 1 + m ≡ n
     → closed_at s true rest ≡ Some m
     → ((k : ℕ) → closed_at s false (drop 1 rest) ≡ Some k → ClosesAt s (drop 1 rest) k) → ClosesAt s (c ∷ rest) n

@@ -1,4 +1,4 @@
--- Where a text may be cut: at its opening, at its closing quotes and behind a word.
+-- Where a text may be cut: at its opening, at its closing quotes and after a word.
 use Rattle.std.proofs.Common.{◌≡◌, ℕ, ◌+◌, ◌-◌, ◌<◌, ◌≤◌, Bool, true, false, cond, List, ◌∷◌}
 use Rattle.std.proofs.Common.{length, take, drop, get_or, Some, sym, ap, subst, ◌∙◌, arith, length-drop}
 use Rattle.std.specs.Str.{IsUtf8, IsCharBoundary}

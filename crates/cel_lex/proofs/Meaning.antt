@@ -9,7 +9,7 @@ use Rattle.cel_lex.specs.Bytes.{is_backslash, is_plain}
 use Rattle.cel_lex.specs.Escapes.{escape_of, behind, escaped, meaning_of}
 use Rattle.cel_lex.proofs.Runs.{front_passes}
 
--- what a text means whose front means this and has so many bytes
+-- what a text means if its front means this and has so many bytes
 abbrev pub after : List ℕ → ℕ → Result (List ℕ) ℕ → Result (List ℕ) ℕ
 after value place (Ok rest) = Ok (value ++ rest)
 after value place (Err n) = Err (place + n)

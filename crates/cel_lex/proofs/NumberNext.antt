@@ -11,7 +11,7 @@ use Rattle.cel_lex.specs.Lexis.{piece_of, IsNext}
 use Rattle.cel_lex.specs.Scan.{ends_at, digits_at, further, number_at}
 use Rattle.cel_lex.proofs.Runs.{front_len}
 
--- the front of some bytes that reads as a piece, where no longer front does
+-- the front of some bytes that reads as a piece, and no longer front does
 pub record IsFront (reads : List ℕ → Option Piece) (bytes : List ℕ) (x : ℕ × Piece) : Type 0 where
   pub here : x.0 ≤ length bytes
   pub is : reads (take x.0 bytes) ≡ Some x.1
@@ -23,7 +23,7 @@ no_suffix value c rest zero e = ap (λ b. cond b (Some (unsigned value)) None) e
 no_suffix value c [] (suc j) e = ap (λ b. cond b (Some (unsigned value)) None) e
 no_suffix value c (d ∷ rest) (suc j) e = refl
 
--- two bytes behind digits are no suffix
+-- two bytes after digits are no suffix
 two_behind : (value c : ℕ) (rest : List ℕ) (j : ℕ) → suc (suc j) ≤ length (c ∷ rest)
     → suffixed value (take (suc (suc j)) (c ∷ rest)) ≡ None
 two_behind value c [] j le = absurd (omega arith)
@@ -68,7 +68,7 @@ tail_next : (reads : List ℕ → Option Piece) (bytes : List ℕ) (k value : �
 tail_next reads bytes k value [] t = no_tail reads bytes k value t
 tail_next reads bytes k value (c ∷ rest) t = tail_by reads bytes k value c rest (is_suffix c) refl t
 
--- what a front is that has all of the digits
+-- what a front that has all of the digits is
 digits_front : (base : ℕ) (bytes : List ℕ) (m j : ℕ) → m ≡ digits_in base bytes + j → digits_of base (take m bytes)
     ≡ suffixed (value_of base 0 (take (digits_in base bytes) bytes)) (take j (drop (digits_in base bytes) bytes))
 digits_front base bytes m j e =
@@ -88,7 +88,7 @@ digits_next base bytes =
     (drop (digits_in base bytes) bytes)
     (record { within = omega arith; front = digits_front base bytes })
 
--- where 0x and a digit stand first, they do in a front that has them, and else in none
+-- if 0x and a digit come first, they do in a front that has them, and otherwise in none
 no_hexadecimal : (bytes : List ℕ) (m : ℕ) → is_hexadecimal bytes ≡ false → is_hexadecimal (take m bytes) ≡ false
 no_hexadecimal [] zero e = refl
 no_hexadecimal [] (suc m) e = refl
@@ -125,7 +125,7 @@ ends_behind k value (c ∷ rest) = by_test (is_suffix c)
     by_test true = omega arith
     by_test false = omega arith
 
--- digits are read where one stands first
+-- digits are read if one comes first
 pub reads_some : (base : ℕ) (bytes : List ℕ) → digits_in base bytes ≤ (digits_at base bytes).0
 reads_some base bytes =
     ends_behind (digits_in base bytes) (value_of base 0 (take (digits_in base bytes) bytes)) (drop (digits_in base bytes) bytes)

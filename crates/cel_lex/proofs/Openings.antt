@@ -120,7 +120,7 @@ pub opening_some : (c : ℕ) (rest : List ℕ) (m : ℕ) (o : ℕ × Style) → 
     → opening (c ∷ take m rest) ≡ Some o
 opening_some c rest m o is le = some_by c rest m o (opens c rest o is) le
 
--- where there is no opening, no front has one
+-- if there is no opening, no front has one
 abbrev chosen : Bool → Bool → ℕ → List ℕ → Option (ℕ × Style)
 chosen q r c rest = cond q (Some (quotes (style_of false c rest), style_of false c rest)) (cond r (raw_opening rest) None)
 
@@ -141,7 +141,7 @@ none_by false true c (x ∷ rest) (suc m) e =
 pub opening_none : (c : ℕ) (rest : List ℕ) (m : ℕ) → opening (c ∷ rest) ≡ None → opening (c ∷ take m rest) ≡ None
 opening_none c rest m e = none_by (is_quote c) (is_raw_mark c) c rest m e
 
--- what an opening is: a byte at least and at most four, of which the last is a quote
+-- what is known of an opening: it has one byte to four, all within the text; its quote and its last byte are ASCII
 pub record IsOpening (bytes : List ℕ) (o : ℕ × Style) : Type 0 where
   pub some : 1 ≤ o.0
   pub small : o.0 ≤ 4

@@ -68,7 +68,7 @@ chosen_reads false false true None c rest es ed eo el =
     run_next c rest is_name (λ text. piece.Token (word_of text)) (letter_run c rest es ed eo el)
 chosen_reads false false false None c rest es ed eo el = symbol_reads c rest (symbolic c rest es ed eo el)
 
--- what is read next is the longest piece, and nothing is read only where no front is one
+-- what is read next is the longest piece, and nothing is read only if no front is one
 pub next_reads : (bytes : List ℕ) → Reads bytes (next_of bytes)
 unfolding next_of piece_of
 next_reads [] = none

@@ -12,7 +12,7 @@ escape_is : (c : ℕ) (rest : List ℕ) (v n : ℕ) → is_backslash c ≡ true 
     → meaning_of 0 (c ∷ rest) ≡ behind (encode_utf8 v) (after [] n (meaning_of 0 (drop n rest)))
 escape_is c rest v n e is = escape_by c rest v n e is ∙ ap (behind (encode_utf8 v)) (passed n rest)
 
-meaning_nil : meaning_of 0 [] ≡ Ok []
+pub meaning_nil : meaning_of 0 [] ≡ Ok []
 unfolding meaning_of
 meaning_nil = refl
 

@@ -57,7 +57,7 @@ none_longer c d rest s other h (suc (suc (suc m))) lt le = third c d rest m s ot
 abbrev Longer : ℕ → List ℕ → Type 0
 Longer c rest = (m : ℕ) → 1 < m → m ≤ length (c ∷ rest) → piece_of (take m (c ∷ rest)) ≡ None
 
--- what one byte is, where no longer front is a piece
+-- what one byte is, if no longer front is a piece
 one_reads : (c : ℕ) (rest : List ℕ) (o : Option TokenKind) → IsSymbolic c rest → single c ≡ o → Longer c rest
     → Reads (c ∷ rest) (one_of o)
 unfolding piece_of

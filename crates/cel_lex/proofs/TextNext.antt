@@ -145,12 +145,12 @@ closed_within s is_escaped (c ∷ rest) n e =
     (length rest)
     (here_long s is_escaped c rest) (λ j h. closed_within s (not is_escaped && escapes s c) rest j h) e
 
--- the fronts of what stands behind an opening
+-- the fronts of what follows an opening
 
 abbrev pub inside_of : ℕ → Style → List ℕ → Option Piece
 inside_of before s inside = closed_or_not before s inside (closed_at s false inside)
 
--- some bytes behind an opening, with what is read there
+-- some bytes after an opening, with what is read there
 record Ends (before : ℕ) (s : Style) (inside : List ℕ) (n : ℕ) (what : Piece) : Type 0 where
   here : n ≤ length inside
   is : inside_of before s (take n inside) ≡ Some what

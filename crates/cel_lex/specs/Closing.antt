@@ -11,15 +11,15 @@ closing_quotes s = if s.is_triple then s.quote ∷ s.quote ∷ s.quote ∷ [] el
 abbrev pub BeginWith : List ℕ → List ℕ → Type 0
 BeginWith first bytes = (rest : List ℕ) × (bytes ≡ first ++ rest)
 
--- what a text holds in front of the bytes behind it, part by part: a byte at which the closing quotes do not begin, or a
--- backslash that escapes the byte behind it. A text of one quote holds no end of a line
+-- what a text holds before the bytes after it, part by part: a byte at which the closing quotes do not begin, or a
+-- backslash that escapes the byte after it. A text of one quote holds no end of a line
 pub data IsContent (s : Style) (behind : List ℕ) : List ℕ → Type 0 where
   nothing : IsContent s behind []
   byte : {c : ℕ} {body : List ℕ} → escapes s c ≡ false → breaks s c ≡ false → (BeginWith (closing_quotes s) (c ∷ (body ++ behind)) → ⊥)
       → IsContent s behind body → IsContent s behind (c ∷ body)
   escape : {c d : ℕ} {body : List ℕ} → escapes s c ≡ true → breaks s d ≡ false → IsContent s behind body → IsContent s behind (c ∷ d ∷ body)
 
--- what stands behind the opening of a text is its content, of so many bytes, the closing quotes and the rest
+-- what follows the opening of a text is its content, of so many bytes, the closing quotes and the rest
 pub record ClosesAt (s : Style) (inside : List ℕ) (n : ℕ) : Type 0 where
   pub body : List ℕ
   pub rest : List ℕ

@@ -13,11 +13,11 @@ is_character n = nat_lt n 0xD800 || (nat_le 0xE000 n && nat_le n 0x10FFFF)
 abbrev pub character : ℕ → Option ℕ
 character n = if is_character n then Some n else None
 
--- the character that so many digits of a base are the code of, where they stand first
+-- the character that so many digits of a base are the code of, if they come first
 abbrev pub coded : ℕ → ℕ → List ℕ → Option ℕ
 coded base count bytes = if nat_le count (digits_in base bytes) then character (value_of base 0 (take count bytes)) else None
 
--- the character that one byte behind a backslash stands for: a b f n r t v, or itself
+-- the character that one byte after a backslash stands for: a b f n r t v, or itself
 abbrev pub simple : ℕ → Option ℕ
 simple c =
     if nat_eq c 97 then Some 7
@@ -34,7 +34,7 @@ simple c =
 abbrev pub spelled_by : ℕ → Option ℕ → Option (ℕ × ℕ)
 spelled_by count o = option_map (λ v. (v, count)) o
 
--- the character that the bytes behind a backslash stand for, and how many they are: x and X with two hexadecimal
+-- the character that the bytes after a backslash stand for, and how many they are: x and X with two hexadecimal
 -- digits, u with four, U with eight, three octal digits up to 377, or one byte
 abbrev pub escape_of : List ℕ → Option (ℕ × ℕ)
 escape_of [] = None
@@ -45,12 +45,12 @@ escape_of (c ∷ rest) =
     else (if nat_le 48 c && nat_le c 51 then spelled_by 3 (coded 8 3 (c ∷ rest))
     else spelled_by 1 (simple c))))
 
--- what a text stands for behind one more of its bytes, or how far in its first bad escape is
+-- what a text stands for with one more of its bytes in front, or how far in its first bad escape is
 abbrev pub behind : List ℕ → Result (List ℕ) ℕ → Result (List ℕ) ℕ
 behind value (Ok rest) = Ok (value ++ rest)
 behind value (Err place) = Err (suc place)
 
--- what a text stands for that begins with an escape
+-- what a text that begins with an escape stands for
 abbrev pub escaped : Option (ℕ × ℕ) → (ℕ → Result (List ℕ) ℕ) → Result (List ℕ) ℕ
 escaped None rest = Err 0
 escaped (Some x) rest = behind (encode_utf8 x.0) (rest x.1)

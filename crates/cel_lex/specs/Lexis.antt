@@ -15,7 +15,7 @@ use Rattle.cel_lex.specs.Words.{word_of}
 use Rattle.cel_lex.specs.Symbols.{run_of, symbol_of}
 use Rattle.cel_lex.specs.Texts.{opening, text_of}
 
--- a literal text where there is an opening, and else what it is otherwise
+-- a literal text if there is an opening, else what it is otherwise
 abbrev pub text_or : Option (ℕ × Style) → List ℕ → Option Piece → Option Piece
 text_or None bytes otherwise = otherwise
 text_or (Some o) bytes otherwise = text_of o bytes
@@ -29,7 +29,7 @@ piece_of (c ∷ rest) =
     else text_or (opening (c ∷ rest)) (c ∷ rest)
     (if is_letter c then run_of is_name (piece.Token (word_of (c ∷ rest))) rest else symbol_of c rest))
 
--- the front of a text that is a piece where no longer front is one
+-- the front of a text that is a piece, and no longer front is one
 pub record IsNext (bytes : List ℕ) (n : ℕ) (what : Piece) : Type 0 where
   pub some : 0 < n
   pub here : n ≤ length bytes

@@ -8,7 +8,7 @@ use Rattle.cel_lex.specs.declared.piece.Piece.{Piece}
 use Rattle.cel_lex.specs.declared.piece.Piece.TheVariants as piece
 use Rattle.cel_lex.specs.declared.fault.LexFaultKind.TheVariants as fault
 
--- the number that digits of a base spell, behind n
+-- the number that digits of a base spell, after n
 abbrev pub value_of : ℕ → ℕ → List ℕ → ℕ
 value_of base n [] = n
 value_of base n (d ∷ ds) = value_of base (n * base + digit_value d) ds
@@ -33,21 +33,21 @@ unsigned n = if nat_le n (2 ^ 64 - 1) then piece.Token (kind.Uint n) else out_of
 abbrev pub is_suffix : ℕ → Bool
 is_suffix c = nat_eq c 117 || nat_eq c 85
 
--- what a number is by the bytes behind its digits: none, or one suffix
+-- what a number is by the bytes after its digits: none, or one suffix
 abbrev pub suffixed : ℕ → List ℕ → Option Piece
 suffixed n [] = Some (signed n)
 suffixed n (c ∷ []) = if is_suffix c then Some (unsigned n) else None
 suffixed n (c ∷ d ∷ rest) = None
 
--- how many digits of a base stand first
+-- how many digits of a base come first
 abbrev pub digits_in : ℕ → List ℕ → ℕ
 digits_in base bytes = prefix_len (λ c. is_digit_of c base) bytes
 
--- digits of a base, and behind them at most a suffix
+-- digits of a base, and after them at most a suffix
 abbrev pub digits_of : ℕ → List ℕ → Option Piece
 digits_of base bytes = suffixed (value_of base 0 (take (digits_in base bytes) bytes)) (drop (digits_in base bytes) bytes)
 
--- 0x and a digit stand first
+-- 0x and a digit come first
 abbrev pub is_hexadecimal : List ℕ → Bool
 is_hexadecimal [] = false
 is_hexadecimal (c ∷ []) = false

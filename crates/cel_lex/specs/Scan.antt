@@ -20,16 +20,16 @@ abbrev pub ends_at : ℕ → ℕ → List ℕ → ℕ × Piece
 ends_at n value [] = (n, signed value)
 ends_at n value (c ∷ rest) = if is_suffix c then (n + 1, unsigned value) else (n, signed value)
 
--- the digits of a base that stand first with their suffix, and how many bytes they are
+-- the digits of a base that come first with their suffix, and how many bytes they are
 abbrev pub digits_at : ℕ → List ℕ → ℕ × Piece
 digits_at base bytes = ends_at (digits_in base bytes) (value_of base 0 (take (digits_in base bytes) bytes))
     (drop (digits_in base bytes) bytes)
 
--- what stands so many bytes further
+-- what is so many bytes further
 abbrev pub further : ℕ → ℕ × Piece → ℕ × Piece
 further n x = (n + x.0, x.1)
 
--- the number that stands first, and how many bytes it is
+-- the number that comes first, and how many bytes it is
 abbrev pub number_at : List ℕ → ℕ × Piece
 number_at bytes = if is_hexadecimal bytes then further 2 (digits_at 16 (drop 2 bytes)) else digits_at 10 bytes
 
@@ -52,22 +52,22 @@ abbrev pub two_of : Option TokenKind → Option (ℕ × Piece) → Option (ℕ �
 two_of None otherwise = otherwise
 two_of (Some k) otherwise = Some (2, piece.Token k)
 
--- the comment or the symbol that stands first, and how many bytes it is
+-- the comment or the symbol that comes first, and how many bytes it is
 abbrev pub symbol_at : ℕ → List ℕ → Option (ℕ × Piece)
 symbol_at c [] = one_of (single c)
 symbol_at c (d ∷ rest) = if is_comment c d then Some (2 + prefix_len is_inline rest, piece.Blank) else two_of (double c d)
     (one_of (single c))
 
--- the word that stands first, and how many bytes it is
+-- the word that comes first, and how many bytes it is
 abbrev pub word_at : ℕ → List ℕ → ℕ × Piece
 word_at c rest = (1 + prefix_len is_name rest, piece.Token (word_of (take (1 + prefix_len is_name rest) (c ∷ rest))))
 
--- the text that stands first where there is an opening, and else what stands first otherwise
+-- the text that comes first if there is an opening, else what comes first otherwise
 abbrev pub literal_or : Option (ℕ × Style) → List ℕ → Option (ℕ × Piece) → Option (ℕ × Piece)
 literal_or None bytes otherwise = otherwise
 literal_or (Some o) bytes otherwise = Some (text_at o.0 o.1 (drop o.0 bytes))
 
--- the piece that stands first, and how many bytes it is
+-- the piece that comes first, and how many bytes it is
 unfoldable pub next_of : List ℕ → Option (ℕ × Piece)
 next_of [] = None
 next_of (c ∷ rest) =
@@ -81,7 +81,7 @@ abbrev pub Reads : List ℕ → Option (ℕ × Piece) → Type 0
 Reads bytes None = (m : ℕ) → m ≤ length bytes → piece_of (take m bytes) ≡ None
 Reads bytes (Some x) = IsNext bytes x.0 x.1
 
--- the fault of a piece is at most so many bytes behind its first
+-- the fault of a piece is at most so many bytes after its first
 abbrev pub HasFaultWithin : ℕ → Piece → Type 0
 HasFaultWithin n (piece.Faulty f) = f.place ≤ n
 HasFaultWithin n piece.Blank = Unit {0}

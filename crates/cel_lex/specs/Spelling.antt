@@ -11,7 +11,7 @@ pub data Spells : List ℕ → List ℕ → Type 0 where
   escape : {c : ℕ} {rest : List ℕ} (v n : ℕ) (value : List ℕ) → is_backslash c ≡ true → escape_of rest ≡ Some (v, n)
       → Spells (drop n rest) value → Spells (c ∷ rest) (encode_utf8 v ++ value)
 
--- the first backslash that begins no escape stands so far in
+-- the first backslash that begins no escape is so far in
 pub data FirstBad : List ℕ → ℕ → Type 0 where
   bad_here : {c : ℕ} {rest : List ℕ} → is_backslash c ≡ true → escape_of rest ≡ None → FirstBad (c ∷ rest) 0
   behind_byte : {c : ℕ} {rest : List ℕ} (k : ℕ) → is_backslash c ≡ false → FirstBad rest k → FirstBad (c ∷ rest) (1 + k)

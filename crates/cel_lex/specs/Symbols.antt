@@ -8,7 +8,7 @@ use Rattle.cel_lex.specs.declared.piece.Piece.{Piece}
 use Rattle.cel_lex.specs.declared.piece.Piece.TheVariants as piece
 use Rattle.cel_lex.specs.Bytes.{is_inline}
 
--- the tokens of one character that stand between no two operands
+-- the tokens of one character that are not between two operands
 abbrev pub punctuation : ℕ → Option TokenKind
 punctuation c =
     if nat_eq c 40 then Some kind.Open

@@ -6,7 +6,7 @@ ghost use Rattle.cel_lex.specs.Spelling.{Spells, FirstBad};
 
 use crate::bytes::{Class, run_len};
 use crate::escape::escape;
-use plain::Text;
+use base_containers::Text;
 use std::alloc::{AllocError, Global};
 
 /// The text that bytes with escapes stand for, or how far in the first bad escape is.

@@ -6,7 +6,7 @@ ghost use Rattle.cel_lex.specs.Escapes.{coded, simple, spelled_by, escape_of};
 use crate::bytes::{Class, run_len};
 use crate::number::number_up_to;
 
-// The character that so many digits are the code of, where they stand first.
+// The character that so many digits are the code of, if they come first.
 fn character(base: u32, count: usize, bytes: &[u8]) -> Option<char>
     requires some { 1 ≤ base }
     requires small { base ≤ 36 }
@@ -42,7 +42,7 @@ fn spelled_by(count: usize, found: Option<char>) -> Option<(char, usize)>
     Some((found?, count))
 }
 
-/// The character that the bytes behind a backslash stand for, and how many they are.
+/// The character that the bytes after a backslash stand for, and how many they are.
 pub fn escape(bytes: &[u8]) -> Option<(char, usize)>
     ensures { result ≡ escape_of bytes.now }
 {

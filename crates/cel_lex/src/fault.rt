@@ -3,7 +3,7 @@
 ghost use Rattle.std.specs.Prelude.{◌≡◌};
 ghost use Rattle.cel_lex.specs.Names.{lex_fault_name};
 
-use failing::Failed;
+use base_containers::Failed;
 use thiserror::Error;
 
 #[derive(Clone, Copy, Debug, PartialEq, Eq, Error)]
@@ -35,7 +35,7 @@ impl LexFaultKind {
     }
 }
 
-/// The first fault of a text, and the byte at which it stands.
+/// The first fault of a text, and the byte at which it is.
 #[derive(Clone, Copy, Debug, PartialEq, Eq, Error)]
 #[error("{kind} at {place}")]
 pub struct LexFault {

@@ -15,10 +15,10 @@ use crate::content::content;
 use crate::fault::{LexFault, LexFaultKind};
 use crate::piece::Piece;
 use crate::token::TokenKind;
-use plain::Text;
+use base_containers::Text;
 use std::alloc::{AllocError, Global};
 
-/// How a text is written: which quotes stand at its ends, whether three of them do, and whether a backslash is a byte
+/// How a text is written: which quotes are at its ends, whether three of them are, and whether a backslash is a byte
 /// like any other.
 #[derive(Clone, Copy)]
 pub struct Style {
@@ -82,7 +82,7 @@ pub fn opening(bytes: &[u8]) -> Option<(usize, Style)>
     Some((1 + quote_count(style), style))
 }
 
-// Whether the closing quotes stand first and the first is not escaped.
+// Whether the closing quotes come first and the first is not escaped.
 fn closes_at(style: Style, is_escaped: bool, bytes: &[u8]) -> bool
     ensures { result ≡ (not is_escaped && closes style bytes.now) }
 {
@@ -102,14 +102,14 @@ fn breaks_at(style: Style, c: u8) -> bool
     !style.is_triple && ends_line(c)
 }
 
-// Whether the byte behind this one is escaped.
+// Whether the byte after this one is escaped.
 fn escapes_at(style: Style, is_escaped: bool, c: u8) -> bool
     ensures { result ≡ (not is_escaped && escapes style c) }
 {
     !is_escaped && !style.is_raw && c == 92
 }
 
-// How many bytes stand before the closing quotes.
+// How many bytes are before the closing quotes.
 fn closing(style: Style, inside: &[u8]) -> Option<usize>
     ensures { result ≡ closed_at style false inside.now }
 {
@@ -183,7 +183,7 @@ pub fn literal(
     Ok((before + count + quote_count(style), piece))
 }
 
-/// A text's content ends at the first closing quotes that no backslash escapes, and where there are none the text is not
+/// A text's content ends at the first closing quotes that no backslash escapes, and if there are none, the text is not
 /// closed.
 pub fn text_closing()
     ensures closed { (s : Style) (inside : List ℕ) (n : ℕ) → IsTrue (is_quote s.quote)

@@ -63,7 +63,7 @@ fn is_suffix_at(c: u8) -> bool
     c == 117 || c == 85
 }
 
-// The digits that stand first with their suffix, and how many bytes they are.
+// The digits that come first with their suffix, and how many bytes they are.
 fn digits_with_suffix(base: u32, bytes: &[u8]) -> (usize, Piece)
     requires some { 1 ≤ base }
     requires small { base ≤ 36 }
@@ -88,7 +88,7 @@ fn is_hexadecimal_at(bytes: &[u8]) -> bool
     }
 }
 
-/// The number that stands first, and how many bytes it is.
+/// The number that comes first, and how many bytes it is.
 pub fn number(bytes: &[u8]) -> (usize, Piece)
     requires { length bytes.now ≤ 16384 }
     ensures { result ≡ number_at bytes.now }

@@ -1,4 +1,4 @@
-//! The piece that stands next in a text.
+//! The piece that is next in a text.
 
 ghost use Rattle.std.specs.Prelude.{◌≡◌, ◌+◌, ◌<◌, ◌≤◌, length, drop, IfOk};
 ghost use Rattle.cel_lex.specs.Scan.{next_of, Reads, IsNear};
@@ -12,12 +12,12 @@ use crate::token::TokenKind;
 use crate::word::token_of;
 use std::alloc::{AllocError, Global};
 
-/// What stands next in a text.
+/// What is next in a text.
 #[derive(Drop)]
 pub enum Piece {
     /// White space or a comment.
     Blank,
-    /// What is no token for a fault, whose place is counted from the start of the piece.
+    /// What is no token because of a fault, whose place is counted from the start of the piece.
     Faulty(LexFault),
     Token(TokenKind),
 }

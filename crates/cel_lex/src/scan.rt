@@ -3,7 +3,7 @@
 ghost use Rattle.std.specs.Prelude.{◌≡◌, ◌≤◌, ℕ, List, length, IfOk, IsErrOf};
 ghost use Rattle.cel_lex.specs.declared.token.Token.{Token};
 ghost use Rattle.cel_lex.specs.declared.fault.LexFault.{LexFault};
-ghost use Rattle.failing.specs.declared.failed.Failed.TheVariants as failed;
+ghost use Rattle.base_containers.specs.declared.failed.Failed.TheVariants as failed;
 ghost use Rattle.cel_lex.specs.Lexis.{IsCut, Refuses};
 ghost use Rattle.cel_lex.specs.Together.{IsTogether};
 ghost use Rattle.cel_lex.specs.Total.{HasAnswer};

@@ -56,7 +56,7 @@ fn double_at(c: u8, d: u8) -> Option<TokenKind>
     }
 }
 
-/// The comment or the longest symbol that stands first, and how many bytes it is.
+/// The comment or the longest symbol that comes first, and how many bytes it is.
 pub fn symbol(c: u8, rest: &[u8]) -> Option<(usize, Piece)>
     requires { length rest.now ≤ 16384 }
     ensures { result ≡ symbol_at c rest.now }

@@ -1,6 +1,6 @@
 //! Tokens.
 
-use plain::Text;
+use base_containers::Text;
 
 /// An operator between two operands.
 #[derive(Clone, Copy)]

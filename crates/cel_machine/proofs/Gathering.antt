@@ -2,7 +2,7 @@
 use Rattle.std.proofs.Common.{◌≡◌, ℕ, zero, suc, ◌+◌, ◌-◌, ◌<◌, List, [], ◌∷◌, Option, Some, None, Result, Ok, Err, IfOk, MatchOption}
 use Rattle.std.proofs.Common.{refl, sym, ap, ◌∙◌, subst, arith}
 use Rattle.std.specs.Option.{option_map}
-use Rattle.plain.specs.declared.text.Keyed.{Keyed}
+use Rattle.base_containers.specs.declared.text.Keyed.{Keyed}
 use Rattle.cel_value.specs.declared.value.Value.{Value}
 use Rattle.cel_value.specs.declared.cel_error.CelError.{CelError}
 use Rattle.cel_operators.specs.declared.operator.Made.{Made}
@@ -14,8 +14,8 @@ use Rattle.cel_code.specs.Machine.{Frame, Next, Stuck, taken_off, mapped, made}
 use Rattle.cel_machine.specs.declared.step.Move.{Move}
 use Rattle.cel_machine.specs.declared.position.Position.{Position}
 use Rattle.cel_machine.specs.Follow.{metered, Comes, Finishes, LeadsTo}
-use Rattle.cel_apply.specs.Counted.{counted}
-use Rattle.cel_apply.specs.Pairs.{entry_of, entries_off, in_front, turned}
+use Rattle.cel_operators_applied.specs.Counted.{counted}
+use Rattle.cel_operators_applied.specs.Pairs.{entry_of, entries_off, in_front, turned}
 
 -- the entries of what was taken, and what is below
 abbrev entries_of : Option (List Outcome × List Outcome) → Option (Entries × List Outcome)
@@ -53,14 +53,14 @@ pub mapped_off : (n at : ℕ) (stack : List Outcome) (o : Option (Entries × Lis
 mapped_off n at stack o frames e =
     mapped_by (taken_off (n + n) [] stack) at frames ∙ ap (λ q. mapped_of q at frames) (off n [] stack ∙ e)
 
--- what is answered in memory that was there, where it is known
+-- what is answered when memory suffices, if it is known
 pub answered : {E : Type 0} (r : Result (Option Made) E) (o : Option Made) (at : ℕ) (stack : List Outcome) (m : Move) (there : Position)
     (after : List Outcome)
     → IfOk r (λ p. p ≡ o) → Finishes r at stack m there after → Comes (made o at stack) m there after
 answered (Ok p) o at stack m there after e h = subst (λ q. Comes (made q at stack) m there after) e h
 answered (Err x) o at stack m there after e h = absurd h
 
--- where a key is no text, nothing is taken
+-- if a key is no text, nothing is taken
 front_none : (k : Option (Result (List ℕ) CelError)) (v : Outcome) → entry_in_front k v None ≡ None
 front_none None v = refl
 front_none (Some (Ok k)) v = refl
@@ -108,7 +108,7 @@ no_entry None v so h = refl
 no_entry (Some (Err y)) v so h = let no : ⊥ = cc in absurd no
 no_entry (Some (Ok k)) v so h = let no : ⊥ = cc in absurd no
 
--- where what is taken for a key is none, there are no entries
+-- if what is taken for a key is none, there are no entries
 pub keyless : (n : ℕ) (so : Entries) (v k : Outcome) (stack below rest : List Outcome) → 0 < n
     → stack ≡ v ∷ below → below ≡ k ∷ rest → entry_of (taken Characters (Some k)) v ≡ None → entries_off n (Some so) stack ≡ None
 keyless zero so v k stack below rest h a b t = absurd (omega (arith, h))
@@ -128,7 +128,7 @@ one_more_off n count so all v k seen start stack below rest found e h a b s f g 
     ∙ one_off n (turned so) v k stack below rest e h a b (ap (λ q. entry_of (taken Characters (Some q)) v) (sym s) ∙ sym f ∙ g)
     ∙ i
 
--- where nothing was taken, there is no way on
+-- if nothing was taken, the machine is stuck
 pub none_mapped : (n at : ℕ) (stack below : List Outcome) (found : Option (Result (List (Keyed Value)) CelError)) (frames : List Frame)
     → found ≡ None
     → MatchOption found (entries_off n (Some (Ok [])) stack ≡ None) (λ es. entries_off n (Some (Ok [])) stack ≡ Some (turned es, below))

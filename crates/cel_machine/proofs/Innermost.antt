@@ -1,4 +1,4 @@
--- The innermost loop, which is the last of those that stand open.
+-- The innermost loop, which is the last of those that are open.
 use Rattle.std.proofs.Common.{◌≡◌, ℕ, zero, suc, Bool, true, false, List, [], ◌∷◌, ◌++◌, length, take, Option, Some, None, Result, Ok, Err}
 use Rattle.std.proofs.Common.{IfOk, MatchBool, refl, sym, ap, ◌∙◌, subst, arith, slice_index_or, slice_set}
 use Rattle.std.specs.Prelude.{reverse}
@@ -7,10 +7,10 @@ use Rattle.std.proofs.lemmas.List.{reverse-append}
 use Rattle.cel_value.specs.declared.value.Value.{Value}
 use Rattle.cel_operators.specs.Outcomes.{Outcome, Side}
 use Rattle.cel_operators.specs.Wants.{side_of}
-use Rattle.cel_tree.specs.declared.expr.Loop.{Loop}
-use Rattle.cel_tree.specs.declared.expr.Loop.TheVariants.{All, Exists, ExistsOne, Filter, Map}
-use Rattle.cel_loops.specs.Loops.{GoesOn, turn}
-use Rattle.cel_loops.specs.declared.accumulator.Accumulator.{Accumulator}
+use Rattle.cel_value.specs.declared.expr.Loop.{Loop}
+use Rattle.cel_value.specs.declared.expr.Loop.TheVariants.{All, Exists, ExistsOne, Filter, Map}
+use Rattle.cel_operators.specs.Loops.{GoesOn, turn}
+use Rattle.cel_operators.specs.declared.accumulator.Accumulator.{Accumulator}
 use Rattle.cel_code.specs.Machine.{Frame, on, Goes, gone_on, turned as turn_done}
 use Rattle.cel_machine.specs.declared.turns.Turned.{Turned}
 use Rattle.cel_machine.specs.declared.turns.Turned.TheVariants as turned
@@ -33,7 +33,7 @@ last_set (x ∷ []) (suc i) y e = absurd (omega arith)
 last_set (x ∷ z ∷ zs) zero y e = absurd (omega arith)
 last_set (x ∷ z ∷ zs) (suc i) y e = ap (λ l. x ∷ l) (last_set (z ∷ zs) i y (omega arith))
 
--- turned round, it is the first
+-- in reverse order, it is the first
 innermost : {A : Type 0} (xs : List A) (i : ℕ) (f : A) → suc i ≡ length xs → f ≡ slice_index_or xs i f
     → reverse xs ≡ f ∷ reverse (take i xs)
 innermost xs i f e h =
@@ -42,7 +42,7 @@ innermost xs i f e h =
 innermost_set : {A : Type 0} (xs : List A) (i : ℕ) (g : A) → suc i ≡ length xs → reverse (slice_set xs i g) ≡ g ∷ reverse (take i xs)
 innermost_set xs i g e = ap reverse (last_set xs i g e) ∙ reverse-append (take i xs) (g ∷ [])
 
--- the innermost loop where it stands, at its next item
+-- the innermost loop in its place, at its next item
 pub advancing : (r : Bool) (xs : List Frame) (i : ℕ) (f g : Frame) → suc i ≡ length xs → f ≡ slice_index_or xs i f
     → MatchBool r (taking f f.left ≡ Some g) (f.left ≡ [])
     → MatchBool r (advanced (reverse xs) ≡ Some (reverse (slice_set xs i g))) (advanced (reverse xs) ≡ None)
@@ -79,7 +79,7 @@ passed ExistsOne v a x e = passed_side ExistsOne v a (side_of (Some x)) e
 passed Filter v a x e = passed_side Filter v a (side_of (Some x)) e
 passed Map v a x e = cc
 
--- where it changes nothing, the innermost loop goes on
+-- if it changes nothing, the innermost loop goes on
 pub passing : (stack : List Outcome) (frames : List Frame) (x : Outcome) → top_of stack ≡ Some x
     → passed_in (side_of (Some x)) frames ≡ true
     → next_in stack frames ≡ gone_in (below_top stack) frames
@@ -103,7 +103,7 @@ told turned.GoesOn f g stack rest e =
     sym (gone_same f g.gathered f.left stack rest) ∙ sym (ap (λ (h : Frame). gone_on h h.left h.gathered stack rest) e)
 told (turned.Closes x) f g stack rest e = sym (ap (λ (h : Frame). Goes 0 (on h.exit (x ∷ stack) rest)) e)
 
--- a turn of the innermost loop where it stands
+-- a turn of the innermost loop in its place
 pub turning : {E : Type 0} (r : Result Turned E) (xs : List Frame) (i : ℕ) (f g : Frame) (x : Outcome) → suc i ≡ length xs
     → f ≡ slice_index_or xs i f → IfOk r (λ t. turn_by t g.gathered ≡ turn f.mode f.item f.gathered (Some x))
     → g ≡ with_gathered g.gathered f

@@ -4,3 +4,8 @@ pub mod Innermost
 pub mod Meters
 pub mod Running
 pub mod Values
+mod Runs
+mod Matches
+mod PlainCode
+mod PlainTrees
+mod Spelled

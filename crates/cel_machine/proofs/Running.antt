@@ -41,7 +41,7 @@ over : (stack : List Outcome) (frames : List Frame) (x : Outcome) → top_of sta
 over [] frames x e = cc
 over (y ∷ stack) frames x e = cc
 
--- something is there, where the end is no place to be stuck
+-- something is on the stack, if the run is not stuck at its end
 some_top : (stack : List Outcome) (frames : List Frame) → (end_of stack frames ≡ Stuck → ⊥) → 0 < length stack
 some_top [] frames h = absurd (h refl)
 some_top (y ∷ stack) frames h = omega arith
@@ -121,7 +121,7 @@ module _ (p image : Image) (slots : List Outcome) (accepted : IsAccepted p) (is 
       steps_to : step image slots (on at stack frames) ≡ next_of m there stack' frames'
       steps_to = sym metered_is ∙ stepped image slots at i stack stack' frames frames' m there hi e
 
-      -- the step, where the move is known
+      -- the step, if the move is known
       moved : (n : Move) → m ≡ n → step image slots (on at stack frames) ≡ next_of n there stack' frames'
       moved n q = steps_to ∙ ap (λ k. next_of k there stack' frames') q
 
@@ -136,7 +136,7 @@ module _ (p image : Image) (slots : List Outcome) (accepted : IsAccepted p) (is 
           let h = subst (λ i. Gets i slots (on 0 [] []) s (charged + there.charge) (steps + 1)) is (goes q) in
           subst (λ i. IsAt i there.at (charged + there.charge) (steps + 1)) (sym is) (state_at s (charged + there.charge) (steps + 1) h)
 
-      -- the step, where the run is over
+      -- the step, if the run is over
       ended : (x : Outcome) → m ≡ IsOver → top_of stack' ≡ Some x → step image slots (on at stack frames) ≡ Ends x
       ended x q t = moved IsOver q ∙ over stack' frames' x t
 

@@ -1,4 +1,4 @@
--- Values behind others.
+-- Values after others.
 use Rattle.std.proofs.Common.{List, ◌++◌}
 use Rattle.std.specs.Prelude.{Result, Ok, Err}
 use Rattle.cel_value.specs.declared.value.Value.{Value}

@@ -1,15 +1,15 @@
 -- How the turns of loops follow their definition.
 use Rattle.std.specs.Prelude.{Bool, true, false, Option, Some, None, Ok, option_map}
 use Rattle.cel_value.specs.declared.value.Value.{Value}
-use Rattle.cel_tree.specs.declared.expr.Loop.{Loop}
-use Rattle.cel_tree.specs.declared.expr.Loop.TheVariants.{All, Exists, ExistsOne, Filter, Map}
-use Rattle.cel_loops.specs.declared.accumulator.Accumulator.{Accumulator}
+use Rattle.cel_value.specs.declared.expr.Loop.{Loop}
+use Rattle.cel_value.specs.declared.expr.Loop.TheVariants.{All, Exists, ExistsOne, Filter, Map}
+use Rattle.cel_operators.specs.declared.accumulator.Accumulator.{Accumulator}
 use Rattle.cel_operators.specs.Outcomes.{Side}
-use Rattle.cel_loops.specs.Loops.{Turn, Closes, GoesOn, turn_all, turn_exists, turn_exists_one, turn_filter}
+use Rattle.cel_operators.specs.Loops.{Turn, Closes, GoesOn, turn_all, turn_exists, turn_exists_one, turn_filter}
 use Rattle.cel_machine.specs.declared.turns.Turned.{Turned}
 use Rattle.cel_machine.specs.declared.turns.Turned.TheVariants as turned
 
--- a turn, with what is gathered behind it
+-- a turn, with what is gathered after it
 abbrev pub turn_by : Turned → Accumulator → Option Turn
 turn_by (turned.Closes x) a = Some (Closes x)
 turn_by turned.GoesOn a = Some (GoesOn a)

@@ -3,14 +3,14 @@
 ghost use Rattle.std.specs.Prelude.{◌≡◌, IfSome, Some, Ok, reverse, option_map, not};
 ghost use Rattle.cel_value.specs.Value.{same};
 ghost use Rattle.cel_operators.specs.Operators.{row, at_two, less, lesser_weight};
-ghost use Rattle.cel_apply.specs.Counted.{counted};
+ghost use Rattle.cel_operators_applied.specs.Counted.{counted};
 ghost use Rattle.cel_machine.specs.Follow.{made_of_two, truth_made};
 
 use crate::operand::{Operand, read};
 use cel_operators::Operator;
 use cel_value::{CelError, Value, equal};
 
-/// Whether a comparison of the two operands on top holds, where they are integers. It charges 1.
+/// Whether a comparison of the two operands on top holds, if they are integers. It charges 1.
 pub fn compared(op: Operator, operands: &[Result<Operand<'_>, CelError>]) -> Option<bool>
     ensures { IfSome result (λ holds. made_of_two (row op) (reverse operands.now) ≡ Some (truth_made holds)) }
 {

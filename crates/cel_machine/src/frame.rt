@@ -1,16 +1,15 @@
 //! Open loops.
 
 ghost use Rattle.std.specs.Prelude.{◌≡◌, ◌+◌, ◌<◌, ◌^◌, [], length, IfOk, IfSome, MatchBool, Some};
-ghost use Rattle.cel_loops.specs.Loops.{turn as turn_of, result_of as result_of_loop};
+ghost use Rattle.cel_operators.specs.Loops.{turn as turn_of, result_of as result_of_loop};
 ghost use Rattle.cel_machine.specs.Ranges.{range_items, opened_over, taking, with_gathered};
 ghost use Rattle.cel_machine.specs.Turns.{turn_by};
 
 use crate::operand::Operand;
 use crate::range::Range;
 use crate::turns::{Turned, nothing_yet, result_of, turn};
-use cel_loops::Accumulator;
-use cel_tree::Loop;
-use cel_value::{CelError, Value};
+use cel_operators::Accumulator;
+use cel_value::{CelError, Loop, Value};
 use std::alloc::{AllocError, Global};
 use std::marker::Model;
 
@@ -96,7 +95,7 @@ impl<'a> Frame<'a> {
         self.taken < self.range.len()
     }
 
-    /// The item at which it is: lent on where it is lent, else copied.
+    /// The item at which it is: lent on if it is lent, else copied.
     pub fn item(&self, alloc: Global) -> Result<Operand<'a>, AllocError>
         ensures { IfOk result (λ item. item ≡ self.now.item) }
     {

@@ -1,18 +1,18 @@
-//! Items by their places, and what stands under keys. A part of what is lent is lent, and one of the run's own values is
+//! Items by their places, and what is under keys. A part of what is lent is lent, and one of the run's own values is
 //! copied.
 
 ghost use Rattle.std.specs.Prelude.{◌≡◌, Ok, Some, IfOk, MatchResult, option_map};
 ghost use Rattle.cel_operators.specs.Operators.{row, at_two};
-ghost use Rattle.cel_apply.specs.Counted.{counted};
+ghost use Rattle.cel_operators_applied.specs.Counted.{counted};
 ghost use Rattle.cel_machine.specs.Found.{made_by};
-ghost use Rattle.cel_apply.specs.Lent.{lent};
+ghost use Rattle.cel_operators_applied.specs.Lent.{lent};
 
 use crate::operand::{Held, Operand, own};
 use crate::parts::lend;
-use cel_apply::{
+use cel_operators::{Made, Operator};
+use cel_operators_applied::{
     both, characters, entries, item_at, item_of_list, items, tenths_in, value_of_map, whole,
 };
-use cel_operators::{Made, Operator};
 use cel_value::{CelError, Value};
 use std::alloc::{AllocError, Global};
 
@@ -53,7 +53,7 @@ fn item_in<'a>(list: &'a Value, y: Result<&Value, CelError>) -> Option<Found<'a>
     }
 }
 
-/// What stands under a key of a map.
+/// What is under a key of a map.
 pub fn index_map<'a>(
     alloc: Global,
     x: Result<Operand<'a>, CelError>,

@@ -5,14 +5,14 @@ ghost use Rattle.cel_operators.specs.Lists.{values_in, list_made};
 ghost use Rattle.cel_code.specs.Machine.{taken_off, listed};
 ghost use Rattle.cel_machine.specs.Room.{HasRoom};
 ghost use Rattle.cel_machine.specs.Follow.{LeadsTo};
-ghost use Rattle.cel_apply.specs.Counted.{counted};
+ghost use Rattle.cel_operators_applied.specs.Counted.{counted};
 
 use crate::position::Position;
 use crate::stack::Stack;
 use crate::step::{Move, finish};
+use base_containers::Items;
 use cel_operators::Made;
 use cel_value::{CelError, Value};
-use plain::Items;
 use std::alloc::{AllocError, Global};
 
 /// The list of so many items on the stack, the last one on top, or the leftmost error.

@@ -16,10 +16,9 @@ use crate::range::{Range, ranged};
 use crate::stack::Stack;
 use crate::step::Move;
 use crate::turns::{Turned, nothing_yet, result_of};
-use cel_apply::truth;
 use cel_code::loop_kind;
-use cel_tree::Loop;
-use cel_value::{CelError, Value};
+use cel_operators_applied::truth;
+use cel_value::{CelError, Loop, Value};
 use std::alloc::{AllocError, Global};
 
 /// The item at which an open loop is.
@@ -237,7 +236,7 @@ fn turn<'a>(
     behind(frames.turn(alloc, x), position, stack, frames)
 }
 
-// Behind a turn: the loop ends, or goes on with what it has gathered.
+// After a turn: the loop ends, or goes on with what it has gathered.
 fn behind<'a>(
     turned: Result<Turned, AllocError>,
     position: &mut Position,
@@ -257,7 +256,7 @@ fn behind<'a>(
     }
 }
 
-// To the next item, or out of the loop with its result where none is left.
+// To the next item, or out of the loop with its result if none is left.
 fn go_on<'a>(position: &mut Position, stack: &mut Stack<'a>, frames: &mut Frames<'a>) -> Move
     requires room { HasRoom stack.old }
     ensures acts { Follows (gone_in stack.old.items frames.old.items) result position.new stack.new.items frames.new.items }

@@ -1,5 +1,5 @@
 ghost use Rattle.std.specs.Prelude.{ℕ, ◌≡◌, ◌<◌, ◌≤◌, true, Some, IfOk, IsErrOf, length};
-ghost use Rattle.failing.specs.declared.failed.Failed.TheVariants.{Fault};
+ghost use Rattle.base_containers.specs.declared.failed.Failed.TheVariants.{Fault};
 ghost use Rattle.cel_machine.specs.declared.fault.RunFault.TheVariants.{Pattern};
 ghost use Rattle.cel_operators.specs.Outcomes.{slots_fit};
 ghost use Rattle.cel_code.specs.Machine.{Run as IsRun};
@@ -17,22 +17,22 @@ use crate::position::Position;
 use crate::slots::Slots;
 use crate::stack::Stack;
 use crate::step::{Move, step};
-use cel_patterns::Matchers;
+use cel_operators::Matchers;
 use cel_value::{CelError, Value};
 use cel_verify::Program;
 use std::alloc::{AllocError, Global};
 
-/// Runs a program where its slots hold these. The run is the definition's; it ends within as many steps as the longest
+/// Runs a program whose slots hold these. The run is the definition's; it ends within as many steps as the longest
 /// route has, for no more than the dearest route, the budget and what the image declares, with an outcome of its type.
 /// Constants and what the slots hold are lent to it: memory is taken for the stack and the open loops, once, before the
 /// first step, for the lists and maps that literals and loops make, for the texts, lists and copied items that operators
-/// answer with, for items of lists that the run made and for keys of maps where a loop's body names them, for patterns
-/// that are built and searched for, and for the outcome where it is a copy of a constant or of what a slot holds.
+/// answer with, for items of lists that the run made and for keys of maps if a loop's body names them, for patterns
+/// that are built and searched for, and for the outcome if it is a copy of a constant or of what a slot holds.
 ///
 /// `matchers` finds the patterns of the program, and keeps what it built for later runs; no answer depends on that.
 ///
-/// The run is given up where memory is wanting, or where a pattern is found to take too much room to be built: that only
-/// where the program has an instruction that looks for a pattern.
+/// The run is given up if memory does not suffice, or if a pattern that it looks for is not built: the latter only
+/// if the program has an instruction that looks for a pattern.
 pub fn run<'a>(
     alloc: Global,
     program: &'a Program,

@@ -4,18 +4,18 @@ ghost use Rattle.std.specs.Prelude.{◌≡◌, ◌+◌, ◌<◌, ◌≤◌, ◌^
 ghost use Rattle.cel_code.specs.Machine.{taken_off, mapped};
 ghost use Rattle.cel_machine.specs.Room.{HasRoom};
 ghost use Rattle.cel_machine.specs.Follow.{LeadsTo};
-ghost use Rattle.cel_apply.specs.Pairs.{entries_off, turned, entry_of, under};
+ghost use Rattle.cel_operators_applied.specs.Pairs.{entries_off, turned, entry_of, under};
 ghost use Rattle.cel_operators.specs.Wants.{taken};
 ghost use Rattle.cel_operators.specs.declared.operands.Want.TheVariants.{Characters};
-ghost use Rattle.cel_apply.specs.Lent.{lent};
+ghost use Rattle.cel_operators_applied.specs.Lent.{lent};
 
 use crate::operand::{Operand, outcome_of, read};
 use crate::position::Position;
 use crate::stack::Stack;
 use crate::step::{Move, finish};
-use cel_apply::{characters, in_front, map_of};
+use base_containers::{Items, Keyed, Text};
+use cel_operators_applied::{characters, in_front, map_of};
 use cel_value::{CelError, Value};
-use plain::{Items, Keyed, Text};
 use std::alloc::{AllocError, Global};
 
 /// The map of so many keys and values on the stack, each value on its key and the last one on top, or the leftmost error.
@@ -38,7 +38,7 @@ pub fn map(
 }
 
 // The entries that so many keys and values on the stack are, from the last to the first, or the leftmost error; nothing
-// where there are fewer or a key is no text. What is lent is copied.
+// if there are fewer or a key is no text. What is lent is copied.
 fn entries_off(
     alloc: Global,
     count: usize,
@@ -68,7 +68,7 @@ fn entries_off(
     Ok(Some(entries))
 }
 
-// A value under a key, or the error of the two that comes first; nothing where the key is no text. Null is no key but an
+// A value under a key, or the error of the two that comes first; nothing if the key is no text. Null is no key but an
 // error. What is lent is copied.
 fn entry(
     alloc: Global,

@@ -1,5 +1,5 @@
 ghost use Rattle.std.specs.Prelude.{◌≡◌, IfOk};
-ghost use Rattle.cel_apply.specs.Lent.{lent};
+ghost use Rattle.cel_operators_applied.specs.Lent.{lent};
 ghost use Rattle.cel_machine.specs.Operand.{content_of};
 
 use cel_value::{CelError, Value};
@@ -13,10 +13,10 @@ pub struct Operand<'a> {
     held: Held<'a>,
 }
 
-/// Where the value of an operand stands.
+/// Where the value of an operand is.
 #[derive(Drop)]
 pub(crate) enum Held<'a> {
-    /// Among the constants or in a slot, or within what stands there.
+    /// Among the constants or in a slot, or within what is there.
     Lent(&'a Value),
     /// On the stack.
     Own(Value),
@@ -37,7 +37,7 @@ impl<'a> Model for Operand<'a> {
 }
 
 impl<'a> Operand<'a> {
-    /// A value that stands elsewhere.
+    /// A value that is elsewhere.
     pub fn lent(value: &'a Value) -> Operand<'a>
         ensures { result ≡ value.now }
     {
@@ -65,14 +65,14 @@ impl<'a> Operand<'a> {
         }
     }
 
-    /// The value, with where it stands.
+    /// The value, with where it is.
     pub(crate) fn into_held(self) -> Held<'a>
         ensures { content_of result ≡ self.entry }
     {
         self.held
     }
 
-    /// The value, which is copied where it was lent.
+    /// The value, which is copied if it was lent.
     pub fn into_value(self, alloc: Global) -> Result<Value, AllocError>
         ensures { IfOk result (λ value. value ≡ self.entry) }
     {

@@ -3,17 +3,17 @@
 ghost use Rattle.std.specs.Prelude.{◌≡◌, Some, Ok, IfOk, option_map};
 ghost use Rattle.cel_operators.specs.Operators.{at_one, outcome_made};
 ghost use Rattle.cel_operators.specs.TextOperators.{row_with};
-ghost use Rattle.cel_apply.specs.Counted.{counted};
-ghost use Rattle.cel_apply.specs.Lent.{lent};
+ghost use Rattle.cel_operators_applied.specs.Counted.{counted};
+ghost use Rattle.cel_operators_applied.specs.Lent.{lent};
 
 use crate::operand::{Held, Operand};
-use cel_apply::{alone, made, members};
 use cel_operators::{Made, TextOperator};
+use cel_operators_applied::{alone, made, members};
 use cel_value::{CelError, Value};
 use std::alloc::{AllocError, Global};
 
-/// The field of an object, or the value of a map, under a name: NoSuchKey where there is none, and NullOperand of null.
-/// Nothing where an operand of another kind has no fields; an error stays.
+/// The field of an object, or the value of a map, under a name: NoSuchKey if there is none, and NullOperand for null.
+/// Nothing if an operand of another kind has no fields; an error stays.
 ///
 /// A field of what is lent is lent; one of the run's own values is copied.
 pub fn field<'a>(
@@ -35,7 +35,7 @@ pub fn field<'a>(
     }
 }
 
-// A field, where it stands.
+// A field, in its place.
 fn field_in<'v>(value: &'v Value, name: &str) -> Option<Result<&'v Value, CelError>>
     ensures { option_map lent result ≡ outcome_made (at_one (row_with TextOperator.Select name.now) (Some (Ok value.now))) }
 {

@@ -3,15 +3,15 @@
 ghost use Rattle.std.specs.Prelude.{◌≡◌, ◌<◌, Some, Ok, length, slice_get, IfOk, IfSome, option_copied};
 ghost use Rattle.cel_operators.specs.declared.operands.Want.TheVariants.{Ranged};
 ghost use Rattle.cel_operators.specs.Wants.{taken, keys_of};
-ghost use Rattle.cel_apply.specs.Kinds.{seen_by};
+ghost use Rattle.cel_operators_applied.specs.Kinds.{seen_by};
 ghost use Rattle.cel_machine.specs.Ranges.{range_items, item_at};
 
 use crate::operand::{Held, Operand};
+use base_containers::{Items, Keyed, TextMap};
 use cel_value::{CelError, Value};
-use plain::{Items, Keyed, TextMap};
 use std::alloc::{AllocError, Global};
 
-/// The items of a list or the keys of a map: lent where the operand is, else the run's own.
+/// The items of a list or the keys of a map: lent if the operand is, else the run's own.
 #[derive(Drop)]
 pub enum Range<'a> {
     Lent(&'a [Value]),

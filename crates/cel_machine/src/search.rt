@@ -3,16 +3,15 @@
 ghost use Rattle.std.specs.Prelude.{◌≡◌, Some, IfOk};
 ghost use Rattle.cel_operators.specs.Operators.{at_one};
 ghost use Rattle.cel_operators.specs.TextOperators.{row_with};
-ghost use Rattle.cel_apply.specs.Counted.{counted};
-ghost use Rattle.cel_apply.specs.Lent.{lent};
-ghost use Rattle.cel_patterns.specs.Meaning.{is_found};
+ghost use Rattle.cel_operators_applied.specs.Counted.{counted};
+ghost use Rattle.cel_operators_applied.specs.Lent.{lent};
+ghost use Rattle.cel_operators.specs.PatternMeaning.{is_found};
 
 use crate::fault::RunError;
-use cel_apply::{alone, characters, made};
-use cel_operators::{Made, TextOperator, matching_charge};
-use cel_patterns::Matchers;
+use base_containers::Failed;
+use cel_operators::{Made, Matchers, TextOperator, matching_charge};
+use cel_operators_applied::{alone, characters, made};
 use cel_value::{CelError, Value, code_points};
-use failing::Failed;
 use std::alloc::Global;
 
 /// Whether a pattern is found in an operand.
@@ -34,7 +33,7 @@ pub fn matches(
     }
 }
 
-// Whether a pattern is found in a text; why it is not built, as a run tells it.
+// Whether a pattern is found in a text; or why it is not built, as a run reports it.
 fn is_found(
     alloc: Global,
     pattern: &str,

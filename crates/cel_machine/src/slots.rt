@@ -1,12 +1,12 @@
 ghost use Rattle.std.specs.Prelude.{◌≡◌, ◌++◌, Some, option_map, slice_get};
 ghost use Rattle.cel_operators.specs.Outcomes.{outcome_fits, slots_fit as fits_slots};
-ghost use Rattle.cel_apply.specs.Lent.{lent, all_lent};
+ghost use Rattle.cel_operators_applied.specs.Lent.{lent, all_lent};
 
 use cel_value::{CelError, CelType, Value, fits};
 use cel_verify::Program;
 use std::marker::Model;
 
-/// What the slots of a program hold: values that are lent and errors, and behind them what was made, values and errors too.
+/// What the slots of a program hold: values that are lent and errors, and after them what was made, values and errors too.
 /// Contracts see one list of the values themselves and the errors.
 #[derive(Drop)]
 pub struct Slots<'a> {
@@ -19,7 +19,7 @@ impl<'a> Model for Slots<'a> {
     ghost use Rattle.std.specs.Coded.{codes};
     ghost use Rattle.cel_value.specs.contracts.value.Value as cel_value;
     ghost use Rattle.cel_operators.specs.Outcomes.{Outcome};
-    ghost use Rattle.cel_apply.specs.Lent.{all_lent};
+    ghost use Rattle.cel_operators_applied.specs.Lent.{all_lent};
 
     ghost Value = { List Outcome };
 
@@ -29,7 +29,7 @@ impl<'a> Model for Slots<'a> {
 }
 
 impl<'a> Slots<'a> {
-    /// What is lent, and behind it what was made; nothing is copied. [`slots_fit`] is the test of what slots may hold.
+    /// What is lent, and after it what was made; nothing is copied. [`slots_fit`] is the test of what slots may hold.
     pub fn new(
         lent: &'a [Result<&'a Value, CelError>],
         made: &'a [Result<Value, CelError>],

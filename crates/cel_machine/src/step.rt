@@ -1,5 +1,5 @@
 ghost use Rattle.std.specs.Prelude.{◌≡◌, ◌+◌, ◌<◌, ◌^◌, [], Ok, IfOk, IsErrOf, IsTrue, Some, slice_get, option_map, reverse};
-ghost use Rattle.failing.specs.declared.failed.Failed.TheVariants.{Fault};
+ghost use Rattle.base_containers.specs.declared.failed.Failed.TheVariants.{Fault};
 ghost use Rattle.cel_machine.specs.declared.fault.RunFault.TheVariants.{Pattern};
 ghost use Rattle.cel_operators.specs.Operators.{row, operator_of};
 ghost use Rattle.cel_operators.specs.Wants.{side_of};
@@ -7,7 +7,7 @@ ghost use Rattle.cel_code.specs.Machine.{Frame, act, inputs_of, push, constant a
 ghost use Rattle.cel_code.specs.Machine.{made as made_next, join as sides_joined};
 ghost use Rattle.cel_machine.specs.Found.{made_by};
 ghost use Rattle.cel_code.specs.Matches.{is_matches};
-ghost use Rattle.cel_apply.specs.Lent.{lent};
+ghost use Rattle.cel_operators_applied.specs.Lent.{lent};
 ghost use Rattle.cel_machine.specs.Room.{HasRoom, HasFrameRoom};
 ghost use Rattle.cel_machine.specs.declared.position.Position.{Position};
 ghost use Rattle.cel_machine.specs.Follow.{Follows, LeadsTo, Comes, Finishes, metered_one, metered_two, made_of_two};
@@ -26,14 +26,13 @@ use crate::position::Position;
 use crate::slots::Slots;
 use crate::stack::Stack;
 use crate::with_text::{operate_with, text_at};
-use cel_apply::{on_one, on_two, truth};
 use cel_code::{Image, Instr};
-use cel_operators::{Made, Operands, Operator};
-use cel_patterns::Matchers;
+use cel_operators::{Made, Matchers, Operands, Operator};
+use cel_operators_applied::{on_one, on_two, truth};
 use cel_value::{CelError, Value};
 use std::alloc::{AllocError, Global};
 
-/// Whether a run goes on behind an instruction.
+/// Whether a run goes on after an instruction.
 #[derive(Clone, Copy)]
 pub enum Move {
     /// It goes on where it is then.
@@ -44,7 +43,7 @@ pub enum Move {
 }
 
 /// One instruction, which is the one that the position has. Its operands are the constants and what the slots hold, which are
-/// not copied, and what the run made. A loop that it opens stands among the open ones, and goes over what is lent in its place.
+/// not copied, and what the run made. A loop that it opens is among the open ones, and goes over what is lent in its place.
 pub fn step<'a>(
     alloc: Global,
     image: &'a Image,
@@ -100,7 +99,7 @@ fn end(stack: &Stack<'_>) -> Move
     }
 }
 
-/// The move of an instruction for which memory alone may be wanting, as a step answers it.
+/// The move of an instruction that can fail only for lack of memory, as a step answers it.
 pub fn told(moved: Result<Move, AllocError>) -> Result<Move, RunError>
     ensures moved { IfOk result (λ m. moved ≡ Ok m) }
     ensures memory { IsErrOf result (Fault Pattern) → ⊥ }
@@ -227,7 +226,7 @@ fn operate_two<'a>(
     }
 }
 
-// An index, of which what stands in a lent list or map is lent.
+// An index; what is in a lent list or map is lent.
 fn index<'a>(
     alloc: Global,
     op: Operator,
@@ -252,7 +251,7 @@ fn index<'a>(
     }
 }
 
-// What an operator makes of the last two operands, which stay where they are; nothing where there are fewer.
+// What an operator makes of the last two operands, which stay where they are; nothing if there are fewer.
 fn made_of_two(
     alloc: Global,
     op: Operator,
@@ -329,7 +328,7 @@ pub fn finish<E: Drop>(
     }
 }
 
-// The jump of a test, which is taken where the top is this truth value.
+// The jump of a test, which is taken if the top is this truth value.
 fn test(stack: &Stack<'_>, ends: bool, to: usize, position: &mut Position) -> Move
     requires { position.old.at + 1 < 2 ^ 64 }
     ensures { LeadsTo (test_of ends stack.now.items to position.old.at) result position.new stack.now.items }
@@ -344,7 +343,7 @@ fn test(stack: &Stack<'_>, ends: bool, to: usize, position: &mut Position) -> Mo
     }
 }
 
-// Both sides of `&&`, where `all` is true, or of `||`.
+// Both sides of `&&`, if `all` is true, or of `||`.
 fn join(stack: &mut Stack<'_>, all: bool, position: &mut Position) -> Move
     requires at { position.old.at + 1 < 2 ^ 64 }
     requires room { HasRoom stack.old }

@@ -1,28 +1,27 @@
 //! What loops gather from their items.
 
 ghost use Rattle.std.specs.Prelude.{◌≡◌, ◌<◌, Some, IfOk, length, option_map};
-ghost use Rattle.cel_loops.specs.Loops.{GoesOn, nothing_yet, with_error, with_item, error_or, result_of, turn};
-ghost use Rattle.cel_loops.specs.Loops.{turn_all, turn_exists, turn_exists_one, turn_filter, turn_map};
+ghost use Rattle.cel_operators.specs.Loops.{GoesOn, nothing_yet, with_error, with_item, error_or, result_of, turn};
+ghost use Rattle.cel_operators.specs.Loops.{turn_all, turn_exists, turn_exists_one, turn_filter, turn_map};
 ghost use Rattle.cel_machine.specs.Ranges.{range_items, item_at};
 ghost use Rattle.cel_machine.specs.Turns.{passes, turn_by, turn_side};
 
 use crate::operand::{Operand, outcome_of, read};
 use crate::range::Range;
-use cel_apply::truth;
-use cel_loops::{Accumulator, Tally};
-use cel_tree::Loop;
-use cel_value::{CelError, Value};
-use plain::Items;
+use base_containers::Items;
+use cel_operators::{Accumulator, Tally};
+use cel_operators_applied::truth;
+use cel_value::{CelError, Loop, Value};
 use std::alloc::{AllocError, Global};
 
-/// How a loop goes on behind an item.
+/// How a loop goes on after an item.
 #[derive(Drop)]
 pub enum Turned {
     /// It ends with this.
     Closes(Result<Value, CelError>),
     /// To the next item, with what it has gathered.
     GoesOn,
-    /// Not at all: its body's value is of a kind that cannot stand there.
+    /// Not at all: its body's value is of a kind that cannot occur there.
     IsStuck,
 }
 
@@ -61,7 +60,7 @@ fn error_or(error: Option<CelError>, truth: bool) -> Result<Value, CelError>
 }
 
 /// A loop's turn at the item at a place of its range, by what its body gave there. An item that `filter` keeps is copied,
-/// and so is what the body of `map` gave, where it is lent.
+/// and so is what the body of `map` gave, if it is lent.
 pub fn turn(
     alloc: Global,
     mode: Loop,
@@ -163,7 +162,7 @@ fn turn_exists_one(gathered: &mut Accumulator, side: Option<Result<bool, CelErro
     }
 }
 
-// `filter`: a copy of the item at a place is kept where the predicate holds, and an error ends it.
+// `filter`: a copy of the item at a place is kept if the predicate holds, and an error ends it.
 fn turn_filter(
     alloc: Global,
     range: &Range<'_>,

@@ -1,7 +1,7 @@
 //! The instruction of the operators that are given a text.
 
 ghost use Rattle.std.specs.Prelude.{◌≡◌, ◌+◌, ◌<◌, ◌^◌, IfOk, IsErrOf, Some, option_map, slice_get};
-ghost use Rattle.failing.specs.declared.failed.Failed.TheVariants.{Fault};
+ghost use Rattle.base_containers.specs.declared.failed.Failed.TheVariants.{Fault};
 ghost use Rattle.cel_machine.specs.declared.fault.RunFault.TheVariants.{Pattern};
 ghost use Rattle.cel_operators.specs.TextOperators.{row_with};
 ghost use Rattle.cel_code.specs.Machine.{constant_text, operate_with};
@@ -16,8 +16,7 @@ use crate::search::matches;
 use crate::stack::Stack;
 use crate::step::{Move, finish, told};
 use cel_code::Image;
-use cel_operators::TextOperator;
-use cel_patterns::Matchers;
+use cel_operators::{Matchers, TextOperator};
 use cel_value::Value;
 use std::alloc::{AllocError, Global};
 

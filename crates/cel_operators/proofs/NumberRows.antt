@@ -22,7 +22,7 @@ use Rattle.cel_value.specs.Value.{same, bool_lt}
 use Rattle.cel_value.proofs.Bounds.{weight_of-le}
 use Rattle.cel_value.proofs.Joins.{IsBareLevel, bare_from}
 use Rattle.cel_value.proofs.JoinRules.{join-apart}
-use Rattle.cel_text.proofs.Digits.{int_short, uint_short}
+use Rattle.cel_operators.proofs.Digits.{int_short, uint_short}
 use Rattle.cel_operators.specs.Outcomes.{Outcome, outcome_fits}
 use Rattle.cel_operators.specs.Orders.{Order, order_at, AreInOneOrder, Orders, Only, orders_at, less_at, less}
 use Rattle.cel_operators.specs.Wants.{Want, Any, Ordered, Wholes, Naturals, Of, Within}
@@ -146,7 +146,7 @@ bare_ordered v t p =
     bare_from (out-CelType t) t refl
     (bare_level (out-CelType t) (out-Value v) (Only p.1) (sym (fits-out v t) ∙ p.0) p.3)
 
--- values of types that have a join stand in one order, if they stand in any
+-- values of types that have a join are in one order, if they are in any
 one_order : (v w : Value) (s t u : CelType) → type_join s t ≡ Some u → Within Ordered s v → Within Ordered t w → AreInOneOrder v w
 one_order v w s t u e p q = elim (cases_Bool (are_of_one_kind s t)) [
   | inl y ↦

@@ -11,13 +11,13 @@ use Rattle.cel_value.specs.declared.cel_error.CelError.{CelError}
 use Rattle.cel_value.specs.CelType.{assignable}
 use Rattle.cel_value.specs.Value.{code_points}
 use Rattle.cel_value.proofs.Soundness.{IsWithin-from_assignable}
-use Rattle.cel_text.specs.Numbers.{int_of, uint_of}
-use Rattle.cel_time.specs.Days.{day_of, day_time, place_in_year, weekday_of, hour_of, minute_of, second_of, nanosecond_of}
-use Rattle.cel_time.specs.Instants.{instant_of, duration_in_range}
-use Rattle.cel_time.specs.Printed.{timestamp_text}
-use Rattle.cel_time.specs.Reading.{timestamp_of, duration_of}
-use Rattle.cel_text.specs.Parts.{starts_with, ends_with}
-use Rattle.cel_text.proofs.Recased.{code_points-lower, code_points-upper}
+use Rattle.cel_operators.specs.Numbers.{int_of, uint_of}
+use Rattle.cel_value.specs.Days.{day_of, day_time, place_in_year, weekday_of, hour_of, minute_of, second_of, nanosecond_of}
+use Rattle.cel_value.specs.Instants.{instant_of, duration_in_range}
+use Rattle.cel_value.specs.Printed.{timestamp_text}
+use Rattle.cel_value.specs.Reading.{timestamp_of, duration_of}
+use Rattle.cel_operators.specs.Parts.{starts_with, ends_with}
+use Rattle.cel_operators.proofs.Recased.{code_points-lower, code_points-upper}
 use Rattle.cel_operators.specs.declared.operator.Operator.{Operator}
 use Rattle.cel_operators.specs.declared.operator.Operator.TheVariants as operator
 use Rattle.cel_operators.specs.declared.type_rule.TypeRule.{TypeRule}

@@ -8,7 +8,7 @@ use Rattle.std.specs.List.{list_all}
 use Rattle.std.specs.Option.{option_map}
 use Rattle.cel_value.specs.declared.value.Value.{Value, out-Value, roll-Value, the_lemmas as value_lemmas}
 use Rattle.cel_value.specs.declared.value.Value.TheOpen.{Value-F}
-use Rattle.plain.specs.declared.text.Keyed.{Keyed}
+use Rattle.base_containers.specs.declared.text.Keyed.{Keyed}
 use Rattle.cel_value.specs.declared.value.Value as value
 use Rattle.cel_value.specs.declared.cel_type.CelType as type
 use Rattle.cel_value.specs.declared.cel_type.CelType.{CelType, out-CelType}
@@ -18,7 +18,7 @@ use Rattle.cel_value.specs.declared.cel_error.CelError.TheVariants.{NullOperand}
 use Rattle.cel_value.specs.CelType.{fits}
 use Rattle.cel_value.specs.Fits.{fits_at, is_null}
 use Rattle.cel_value.specs.Value.{code_points}
-use Rattle.cel_text.specs.Joined.{text_at, text_of, texts_of}
+use Rattle.cel_operators.specs.Joined.{text_at, text_of, texts_of}
 use Rattle.cel_operators.specs.Outcomes.{Outcome, outcome_fits}
 use Rattle.cel_operators.specs.Wants.{Want, Any, Truth, Whole, Natural, Moment, Lapse, Ordered, Characters, Items, Entries, Indexed}
 use Rattle.cel_operators.specs.Wants.{Sought, Wholes, Naturals}
@@ -35,11 +35,11 @@ Taken w l None = ⊥
 Taken w l (Some (Err e)) = Unit {0}
 Taken w l (Some (Ok a)) = Within w l a
 
--- a value stands in the one order of its type
+-- a value is in the one order of its type
 abbrev pub IsInOrder : Value-F Value → CelType-F CelType → Type 0
 IsInOrder p o = (order : Order) × (order_at p ≡ Some order) × (orders_at o ≡ Some (Only order))
 
--- a value of a type whose values have an order stands in that order
+-- a value of a type whose values have an order is in that order
 ordered_level : (o : CelType-F CelType) (p : Value-F Value) (orders : Orders) → fits_at (opened o) p ≡ true → orders_at o ≡ Some orders
     → IsInOrder p o
 ordered_level CelType-F.Bool (Value-F.Bool b) orders h k = (OfBools, refl, refl)
@@ -70,7 +70,7 @@ ordered_taken v t l e h =
     subst (λ o. Taken Ordered l (option_map (λ order. Ok v) o)) (sym is)
     (subst (λ s. fits v s ≡ true) same h, order, is, subst (λ s. orders_of s ≡ Some (Only order)) same only)
 
--- each value of a list as what it is, where what fits is something that passes a test
+-- each value of a list as what it is, if what fits is something that passes a test
 each_there : {A : Type 0} (f : Value → Option A) (g : Value → Bool) (q : A → Bool)
     → ((v : Value) → g v ≡ true → (a : A) × (f v ≡ Some a) × (q a ≡ true)) → (vs : List Value) → list_all g vs ≡ true
     → (xs : List A) × (each_of f vs ≡ Some xs) × (length xs ≡ length vs) × (list_all q xs ≡ true)

@@ -1,7 +1,7 @@
 -- The rows of timestamps and durations are right.
-use Rattle.std.proofs.Common.{◌≡◌, ℕ, ◌^◌, ◌≤◌, cond, Bool, true, false, List, [], ◌∷◌, length, Option, Some, None, refl, arith}
-use Rattle.std.proofs.Common.{inl, inr, ℤ, pos, negsuc, unsigned_abs}
-use Rattle.std.proofs.lemmas.Bool.{cases_Bool, ltb-true}
+use Rattle.std.proofs.Common.{◌≡◌, ◌^◌, ◌≤◌, cond, Bool, true, false, Option, Some, None, refl, arith}
+use Rattle.std.proofs.Common.{ℤ, pos, negsuc, unsigned_abs}
+use Rattle.std.proofs.lemmas.Bool.{ltb-true}
 use Rattle.std.specs.Prelude.{Ok, Err}
 use Rattle.cel_value.specs.declared.value.Value.{Value}
 use Rattle.cel_value.specs.declared.value.Value as value
@@ -9,13 +9,13 @@ use Rattle.cel_value.specs.declared.cel_type.CelType.{CelType}
 use Rattle.cel_value.specs.declared.cel_type.CelType as type
 use Rattle.cel_value.specs.declared.cel_error.CelError.TheVariants.{Overflow}
 use Rattle.cel_value.specs.CelType.{fits}
-use Rattle.cel_value.specs.Value.{begins, code_points}
-use Rattle.cel_time.specs.Printed.{timestamp_text, duration_text}
-use Rattle.cel_time.proofs.DurationBack.{duration_short}
-use Rattle.cel_time.proofs.TimestampBack.{timestamp_short}
+use Rattle.cel_value.specs.Printed.{timestamp_text, duration_text}
+use Rattle.cel_value.proofs.DurationBack.{duration_short}
+use Rattle.cel_value.proofs.TimestampBack.{timestamp_short}
 use Rattle.cel_operators.specs.Outcomes.{outcome_fits}
 use Rattle.cel_operators.specs.Operators.{in_range, or_overflow, string_of_duration}
 use Rattle.cel_operators.proofs.Opened.{timestamp_fits, duration_fits, text_fits}
+use Rattle.cel_operators.proofs.Digits.{code_points_le}
 
 -- nanoseconds that are in range, or Overflow
 ranged_fits : (f : ℤ → Value) (t : CelType) → ((n : ℤ) → fits (f n) t ≡ true) → (o : Option ℤ)
@@ -28,14 +28,6 @@ timestamp_or_overflow o = ranged_fits value.Timestamp type.Timestamp timestamp_f
 
 pub duration_or_overflow : (o : Option ℤ) → outcome_fits type.Duration (Some (or_overflow value.Duration o)) ≡ true
 duration_or_overflow o = ranged_fits value.Duration type.Duration duration_fits o
-
--- a text has no more code points than bytes
-code_points_le : (bs : List ℕ) → code_points bs ≤ length bs
-code_points_le [] = omega arith
-code_points_le (b ∷ bs) = elim (cases_Bool (begins b)) [
-  | inl h ↦ rw h (omega (arith, code_points_le bs))
-  | inr h ↦ rw h (omega (arith, code_points_le bs))
-]
 
 pub string_of_timestamp_fits : (n : ℤ) → outcome_fits (type.Text 30) (Some (Ok (value.Text (timestamp_text n)))) ≡ true
 string_of_timestamp_fits n = text_fits (timestamp_text n) 30 (omega (arith, code_points_le (timestamp_text n), timestamp_short n))

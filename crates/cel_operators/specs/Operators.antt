@@ -8,7 +8,7 @@ use Rattle.std.specs.Fmt.{signed_decimal}
 use Rattle.std.specs.Int.{int_div_euclid}
 use Rattle.std.specs.Char.{to_ascii_lowercase, to_ascii_uppercase}
 use Rattle.std.specs.List.{list_any, join_by}
-use Rattle.plain.specs.Keys.{value_under}
+use Rattle.base_containers.specs.Keys.{value_under}
 use Rattle.cel_value.specs.declared.value.Value.{Value}
 use Rattle.cel_value.specs.declared.value.Value as value
 use Rattle.cel_value.specs.declared.cel_type.CelType.{CelType}
@@ -17,12 +17,12 @@ use Rattle.cel_value.specs.declared.cel_error.CelError.{CelError}
 use Rattle.cel_value.specs.declared.cel_error.CelError.TheVariants.{Overflow, DivideByZero, OutOfRange, NoSuchKey, BadConversion, EmptyList}
 use Rattle.cel_value.specs.Value.{weight_of, items_weight_of, text_weight_of, tenths_of, code_points, same}
 use Rattle.cel_value.specs.CelType.{greatest_of, join}
-use Rattle.cel_time.specs.Days.{day_of, day_time, place_in_year, weekday_of, hour_of, minute_of, second_of, nanosecond_of}
-use Rattle.cel_time.specs.Instants.{instant_of, duration_in_range}
-use Rattle.cel_time.specs.Printed.{timestamp_text, duration_text}
-use Rattle.cel_time.specs.Reading.{timestamp_of, duration_of}
-use Rattle.cel_text.specs.Numbers.{int_of, uint_of}
-use Rattle.cel_text.specs.Parts.{starts_with, ends_with, contains}
+use Rattle.cel_value.specs.Days.{day_of, day_time, place_in_year, weekday_of, hour_of, minute_of, second_of, nanosecond_of}
+use Rattle.cel_value.specs.Instants.{instant_of, duration_in_range}
+use Rattle.cel_value.specs.Printed.{timestamp_text, duration_text}
+use Rattle.cel_value.specs.Reading.{timestamp_of, duration_of}
+use Rattle.cel_operators.specs.Numbers.{int_of, uint_of}
+use Rattle.cel_operators.specs.Parts.{starts_with, ends_with, contains}
 use Rattle.cel_operators.specs.declared.operator.Operator.{Operator}
 use Rattle.cel_operators.specs.declared.operator.Operator.TheVariants as operator
 pub use Rattle.cel_operators.specs.declared.operator.Made.{Made}
@@ -74,7 +74,7 @@ int_or_overflow z = if in_range z then Ok (value.Int z) else Err Overflow
 abbrev pub uint_or_overflow : ℕ → Outcome
 uint_or_overflow n = if nat_lt n (2 ^ 64) then Ok (value.Uint n) else Err Overflow
 
--- a quotient or a remainder; the remainder overflows where the quotient does
+-- a quotient or a remainder; the remainder overflows if the quotient does
 abbrev pub divided : (ℤ → ℤ → ℤ) → ℤ → ℤ → Outcome
 divided f a (pos zero) = Err DivideByZero
 divided f a b = if in_range (int_div a b) then Ok (value.Int (f a b)) else Err Overflow
@@ -88,7 +88,7 @@ abbrev pub uint_divided : (ℕ → ℕ → ℕ) → ℕ → ℕ → Outcome
 uint_divided f m zero = Err DivideByZero
 uint_divided f m (suc n) = Ok (value.Uint (f m (suc n)))
 
--- a comparison's truth value, where it has one
+-- a comparison's truth value, if it has one
 abbrev pub truth_of : Option Bool → Option Outcome
 truth_of None = None
 truth_of (Some b) = Some (Ok (value.Bool b))
@@ -98,7 +98,7 @@ abbrev pub untruth_of : Option Bool → Option Outcome
 untruth_of None = None
 untruth_of (Some b) = Some (Ok (value.Bool (not b)))
 
--- a truth value, where two types have a join
+-- a truth value, if two types have a join
 abbrev pub bool_where : Option CelType → Result CelType TypeRule
 bool_where None = Err NoOverload
 bool_where (Some t) = Ok type.Bool
@@ -137,7 +137,7 @@ order_row f = record { answer = f; charge = lesser_weight; result = λ s t. bool
 abbrev pub tenths_in : List ℕ → ℕ
 tenths_in bytes = tenths_of (code_points bytes)
 
--- the type of texts of at most so many code points, where there is one
+-- the type of texts of at most so many code points, if there is one
 abbrev pub text_type : ℕ → Result CelType TypeRule
 text_type n = if nat_lt n (2 ^ 32) then Ok (type.Text n) else Err TooLarge
 
@@ -213,7 +213,7 @@ item_at vs (negsuc n) = Err OutOfRange
 abbrev pub index_list_row : TwoRow Indexed Whole
 index_list_row = record { answer = λ vs n. Some (item_at vs n); charge = λ vs n. 1; result = λ r l. Ok r.item; greatest = λ r l. 1 }
 
--- what stands under a key
+-- what is under a key
 abbrev pub index_map_row : TwoRow Sought Characters
 index_map_row = record {
   answer = λ es k. Some (or_error NoSuchKey (value_under k es));
@@ -266,7 +266,7 @@ abbrev pub uint_of_int : ℤ → Outcome
 uint_of_int (pos n) = Ok (value.Uint n)
 uint_of_int (negsuc n) = Err Overflow
 
--- the sum of all, whole before its range is looked at; of nothing it is 0
+-- the sum of all, whole before its range is looked at; the sum of none is 0
 abbrev pub sum_of_ints : List ℤ → ℤ
 sum_of_ints [] = pos 0
 sum_of_ints (n ∷ ns) = n +ℤ sum_of_ints ns
@@ -279,7 +279,7 @@ lesser_int m n = if int_lt n m then n else m
 abbrev pub greater_int : ℤ → ℤ → ℤ
 greater_int m n = if int_lt m n then n else m
 
--- what is left of several things, where of two one is left; of nothing there is none
+-- what is left of several things, the first of which is given, if one of each two is left; nothing is left of none
 abbrev pub left_of : {A : Type 0} → (A → A → A) → A → List A → A
 left_of f a [] = a
 left_of f a (b ∷ bs) = left_of f (f a b) bs
@@ -418,7 +418,7 @@ two f (Some (Err e)) (Some y) = makes (Some (Err e)) 1
 two f (Some (Ok a)) (Some (Err e)) = makes (Some (Err e)) 1
 two f (Some (Ok a)) (Some (Ok b)) = f a b
 
--- an operator at one operand; None where it takes two, or another kind
+-- an operator at one operand; None if it takes two, or another kind
 abbrev pub at_one : Row → Option Outcome → Option Made
 at_one (One w r) x = one (λ a. makes (r.answer a) (r.charge a)) (taken w x)
 at_one (Two v w r) x = None
@@ -438,12 +438,12 @@ abbrev pub charge_made : Option Made → ℕ
 charge_made None = 0
 charge_made (Some m) = m.charge
 
--- what a row says at a limit, where the type has it
+-- what a row says at a limit, if the type has it
 abbrev pub of_limit : {A : Type 0} → (A → Result CelType TypeRule) → Option A → Result CelType TypeRule
 of_limit f None = Err NoOverload
 of_limit f (Some l) = f l
 
--- what a row says at two limits, where the types have them
+-- what a row says at two limits, if the types have them
 abbrev pub of_limits : {A B : Type 0} → (A → B → Result CelType TypeRule) → Option A → Option B → Result CelType TypeRule
 of_limits f None m = Err NoOverload
 of_limits f (Some l) None = Err NoOverload
@@ -459,12 +459,12 @@ abbrev pub type_of_two : Row → CelType → CelType → Result CelType TypeRule
 type_of_two (One w r) s t = Err NoOverload
 type_of_two (Two v w r) s t = of_limits r.result (limit_of v s) (limit_of w t)
 
--- the greatest charge at a limit, where the type has it
+-- the greatest charge at a limit, if the type has it
 abbrev pub most : {A : Type 0} → (A → ℕ) → Option A → ℕ
 most f None = 0
 most f (Some l) = f l
 
--- the greatest charge at two limits, where the types have them
+-- the greatest charge at two limits, if the types have them
 abbrev pub most_of_two : {A B : Type 0} → (A → B → ℕ) → Option A → Option B → ℕ
 most_of_two f None m = 0
 most_of_two f (Some l) None = 0

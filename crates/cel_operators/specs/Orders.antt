@@ -1,4 +1,4 @@
--- The orders of `<`: which values stand in one, and which of two in the same order is the lesser.
+-- The orders of `<`: which values are in one, and which of two in the same order is the lesser.
 use Rattle.std.specs.Prelude.{◌≡◌, Bool, int_lt, nat_lt, chars, Option, Some, None}
 use Rattle.std.specs.Ordering.{nat_cmp, is_lt}
 use Rattle.std.specs.Cmp.Lexicographic.{slice_cmp}
@@ -17,7 +17,7 @@ pub data Order : Type 0 where
   OfTimestamps : Order
   OfDurations : Order
 
--- the order in which a value stands, by its level: truth values, numbers, texts, timestamps and durations stand in one, no others
+-- the order that a value is in, by its level: truth values, numbers, texts, timestamps and durations are in one, no others
 abbrev pub order_at : Value-F Value → Option Order
 order_at (Value-F.Bool b) = Some OfBools
 order_at (Value-F.Int n) = Some OfInts
@@ -27,15 +27,15 @@ order_at (Value-F.Timestamp n) = Some OfTimestamps
 order_at (Value-F.Duration n) = Some OfDurations
 order_at _ = None
 
--- the order in which a value stands, if it stands in one
+-- the order that a value is in, if it is in one
 abbrev pub order_of : Value → Option Order
 order_of v = order_at (out-Value v)
 
--- both values stand in one order
+-- both values are in one order
 abbrev pub AreInOneOrder : Value → Value → Type 0
 AreInOneOrder v w = (order : Order) × (order_of v ≡ Some order) × (order_of w ≡ Some order)
 
--- the orders in which all values of a type stand: only one, or, where the type has no value, every order
+-- the orders that all values of a type are in: only one, or, if the type has no value, every order
 pub data Orders : Type 0 where
   Every : Orders
   Only : Order → Orders
@@ -51,7 +51,7 @@ orders_at CelType-F.Timestamp = Some (Only OfTimestamps)
 orders_at CelType-F.Duration = Some (Only OfDurations)
 orders_at _ = None
 
--- the orders of a type, if its values stand in any
+-- the orders of a type, if its values are in any
 abbrev pub orders_of : CelType → Option Orders
 orders_of t = orders_at (out-CelType t)
 
@@ -66,6 +66,6 @@ less_at (Value-F.Timestamp m) (Value-F.Timestamp n) = Some (int_lt m n)
 less_at (Value-F.Duration m) (Value-F.Duration n) = Some (int_lt m n)
 less_at _ _ = None
 
--- whether a value is less than another, where both stand in one order
+-- whether a value is less than another, if both are in one order
 abbrev pub less : Value → Value → Option Bool
 less v w = less_at (out-Value v) (out-Value w)

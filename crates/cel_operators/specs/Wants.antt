@@ -3,11 +3,11 @@ use Rattle.std.specs.Prelude.{◌≡◌, ◌≤◌, ℕ, Bool, true, ◌&&◌, n
 use Rattle.std.specs.Prelude.{Result, Ok, Err, ℤ, if◌then◌else◌}
 use Rattle.std.specs.List.{list_all}
 use Rattle.std.specs.Option.{option_map, option_and_then}
-use Rattle.plain.specs.declared.text.Keyed.{Keyed}
+use Rattle.base_containers.specs.declared.text.Keyed.{Keyed}
 use Rattle.cel_value.specs.declared.cel_type.CelType as type
 use Rattle.cel_value.specs.declared.cel_type.Field.{Field}
 use Rattle.cel_value.specs.Value.{code_points}
-use Rattle.cel_text.specs.Joined.{texts_of}
+use Rattle.cel_operators.specs.Joined.{texts_of}
 use Rattle.cel_value.specs.declared.value.Value.{Value, out-Value}
 use Rattle.cel_value.specs.declared.value.Value as value
 use Rattle.cel_value.specs.declared.value.Value.TheOpen.{Value-F}
@@ -72,7 +72,7 @@ naturals_of = each_of (λ v. natural_at (out-Value v))
 abbrev pub keys_of : List (Keyed Value) → List Value
 keys_of es = map (λ e. value.Text e.key) es
 
--- a value, and its level, as one of the kind; None where it is of another
+-- a value, and its level, as one of the kind; None if it is of another
 abbrev pub kind_at : (w : Want) → Value → Value-F Value → Option (Result (Of w) CelError)
 kind_at Any v _ = Some (Ok v)
 kind_at Truth v (Value-F.Bool b) = Some (Ok b)
@@ -120,7 +120,7 @@ pub record Room : Type 0 where
   pub plain : Bool
   pub item : CelType
 
--- what a map's type says: the most entries, the most code points of a key, and the type of what stands under keys
+-- what a map's type says: the most entries, the most code points of a key, and the type of what is under keys
 pub record Store : Type 0 where
   pub max : ℕ
   pub key_max : ℕ
@@ -156,25 +156,25 @@ Limit Texts = Shelf
 Limit Members = Contents
 Limit Ranged = Span
 
--- how many items there may be, where those of a type, whose level is given, are integers
+-- how many items there may be, if those of a type, whose level is given, are integers
 abbrev pub wholes_limit : ℕ → CelType-F CelType → Option ℕ
 wholes_limit max CelType-F.Never = Some max
 wholes_limit max CelType-F.Int = Some max
 wholes_limit max _ = None
 
--- likewise, where they are unsigned integers
+-- likewise, if they are unsigned integers
 abbrev pub naturals_limit : ℕ → CelType-F CelType → Option ℕ
 naturals_limit max CelType-F.Never = Some max
 naturals_limit max CelType-F.Uint = Some max
 naturals_limit max _ = None
 
--- how many items there may be and how long each, where those of a type are texts
+-- how many items there may be and how long each, if those of a type are texts
 abbrev pub texts_limit : ℕ → CelType-F CelType → Option Shelf
 texts_limit max CelType-F.Never = Some (record { max = max; text_max = 0 })
 texts_limit max (CelType-F.Text n) = Some (record { max = max; text_max = n })
 texts_limit max _ = None
 
--- what a type, whose level is given, says where it is one of the kind; Never is one of each, but has no item and no entry
+-- what a type, whose level is given, says if it is one of the kind; Never is one of each, but has no item and no entry
 abbrev pub limit_at : (w : Want) → CelType → CelType-F CelType → Option (Limit w)
 limit_at Any t _ = Some t
 limit_at Truth t CelType-F.Never = Some tt
@@ -208,7 +208,7 @@ limit_at Ranged t (CelType-F.List max plain item) = Some (record { max = max; it
 limit_at Ranged t (CelType-F.Map max key_max item) = Some (record { max = max; item = type.Text key_max })
 limit_at _ t _ = None
 
--- the type beside null, where a type, whose level is given, has null too
+-- the type beside null, if a type, whose level is given, has null too
 abbrev pub without_null_at : CelType → CelType-F CelType → CelType
 without_null_at t (CelType-F.Nullable s) = s
 without_null_at t _ = t
@@ -217,7 +217,7 @@ without_null_at t _ = t
 abbrev pub without_null : CelType → CelType
 without_null t = without_null_at t (out-CelType t)
 
--- what a type says where it is one of the kind, or Nullable of one
+-- what a type says if it is one of the kind, or Nullable of one
 abbrev pub limit_of : (w : Want) → CelType → Option (Limit w)
 limit_of Any t = Some t
 limit_of w t = limit_at w (without_null t) (out-CelType (without_null t))
@@ -256,6 +256,6 @@ abbrev pub is_there : {A : Type 0} → Option A → Bool
 is_there None = false
 is_there (Some x) = true
 
--- whether a type may stand at a side of `&&` or as a condition
+-- whether a type may be used at a side of `&&` or as a condition
 abbrev pub is_truth : CelType → Bool
 is_truth t = is_there (limit_of Truth t)

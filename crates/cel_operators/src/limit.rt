@@ -9,8 +9,8 @@ ghost use Rattle.cel_operators.specs.TextOperators.{type_under, field_named};
 ghost use Rattle.cel_operators.specs.Wants.{Members, Ranged, limit_of, wholes_limit, naturals_limit, texts_limit, is_truth, is_there};
 
 use crate::operands::{Want, without_null};
+use base_containers::{Shared, TextMap};
 use cel_value::{CelType, Field};
-use plain::{Shared, TextMap};
 use std::alloc::{AllocError, Global};
 
 /// What a type says of its lists: the most items, whether they are plain, and the type of the items.
@@ -28,7 +28,7 @@ pub struct Span {
     pub item: Shared<CelType>,
 }
 
-/// Whether a type may stand where an operand of a kind is asked.
+/// Whether a type may be used where an operand of a kind is expected.
 pub fn takes(want: Want, cel_type: &CelType) -> bool
     ensures { result ≡ is_there (limit_of want cel_type.now) }
 {
@@ -53,42 +53,42 @@ pub fn takes(want: Want, cel_type: &CelType) -> bool
     }
 }
 
-/// Whether a type may stand where a truth value is asked.
+/// Whether a type may be used where a truth value is expected.
 pub fn is_truth(cel_type: &CelType) -> bool
     ensures { result ≡ is_truth cel_type.now }
 {
     matches!(without_null(cel_type), CelType::Never | CelType::Bool)
 }
 
-/// Whether a type may stand where an integer is asked.
+/// Whether a type may be used where an integer is expected.
 pub fn is_whole(cel_type: &CelType) -> bool
     ensures { result ≡ is_there (limit_of Whole cel_type.now) }
 {
     matches!(without_null(cel_type), CelType::Never | CelType::Int)
 }
 
-/// Whether a type may stand where an unsigned integer is asked.
+/// Whether a type may be used where an unsigned integer is expected.
 pub fn is_natural(cel_type: &CelType) -> bool
     ensures { result ≡ is_there (limit_of Natural cel_type.now) }
 {
     matches!(without_null(cel_type), CelType::Never | CelType::Uint)
 }
 
-/// Whether a type may stand where a timestamp is asked.
+/// Whether a type may be used where a timestamp is expected.
 fn is_moment(cel_type: &CelType) -> bool
     ensures { result ≡ is_there (limit_of Moment cel_type.now) }
 {
     matches!(without_null(cel_type), CelType::Never | CelType::Timestamp)
 }
 
-/// Whether a type may stand where a duration is asked.
+/// Whether a type may be used where a duration is expected.
 fn is_lapse(cel_type: &CelType) -> bool
     ensures { result ≡ is_there (limit_of Lapse cel_type.now) }
 {
     matches!(without_null(cel_type), CelType::Never | CelType::Duration)
 }
 
-/// Whether a type may stand where a value that has an order is asked.
+/// Whether a type may be used where a value that has an order is expected.
 pub fn is_ordered(cel_type: &CelType) -> bool
     ensures { result ≡ is_there (limit_of Ordered cel_type.now) }
 {
@@ -104,14 +104,14 @@ pub fn is_ordered(cel_type: &CelType) -> bool
     )
 }
 
-/// Whether a type may stand where a map is asked.
+/// Whether a type may be used where a map is expected.
 fn is_map(cel_type: &CelType) -> bool
     ensures { result ≡ is_there (limit_of Entries cel_type.now) }
 {
     matches!(without_null(cel_type), CelType::Never | CelType::Map { .. })
 }
 
-/// The most code points of a text, where a type may stand for one.
+/// The most code points of a text, if a type may be used for one.
 pub fn text_limit(cel_type: &CelType) -> Option<u32>
     ensures { result ≡ limit_of Characters cel_type.now }
 {
@@ -162,7 +162,7 @@ pub fn entry_of(cel_type: &CelType) -> Option<&CelType>
     }
 }
 
-/// The most integers, where a type may stand for a list of them.
+/// The most integers, if a type may be used for a list of them.
 pub fn ints_limit(cel_type: &CelType) -> Option<u32>
     ensures { result ≡ limit_of Wholes cel_type.now }
 {
@@ -202,7 +202,7 @@ fn uints_in(max: u32, item: &CelType) -> Option<u32>
     }
 }
 
-/// The most texts and the most code points of each, where a type may stand for a list of texts.
+/// The most texts and the most code points of each, if a type may be used for a list of texts.
 pub fn texts_limit(cel_type: &CelType) -> Option<(u32, u32)>
     ensures { result ≡ option_map (λ shelf. (shelf.max, shelf.text_max)) (limit_of Texts cel_type.now) }
 {
@@ -233,7 +233,7 @@ fn has_members(cel_type: &CelType) -> bool
     )
 }
 
-/// The most items of a range, where a type is that of lists or maps.
+/// The most items of a range, if a type is that of lists or maps.
 pub fn most_items(cel_type: &CelType) -> Option<u32>
     ensures { result ≡ option_map (λ span. span.max) (limit_of Ranged cel_type.now) }
 {
@@ -260,7 +260,7 @@ pub fn span_of(alloc: Global, cel_type: &CelType) -> Result<Option<Span>, AllocE
     }
 }
 
-/// The type of what stands under a name in objects or maps.
+/// The type of what is under a name in objects or maps.
 pub fn field_of<'t>(name: &str, cel_type: &'t CelType) -> Option<&'t CelType>
     ensures { option_copied result ≡ option_and_then (type_under name.now) (limit_of Members cel_type.now) }
 {

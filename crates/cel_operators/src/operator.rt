@@ -1,5 +1,5 @@
 ghost use Rattle.std.specs.Prelude.{◌≡◌, Some};
-ghost use Rattle.failing.specs.Failures.{Answers};
+ghost use Rattle.base_containers.specs.Failures.{Answers};
 ghost use Rattle.cel_operators.specs.Operators.{row, code_of, operands_of, operator_of, type_of_one, type_of_two};
 
 use crate::answer_type::{

@@ -1,20 +1,20 @@
 -- The expression of each node whose parts are a list.
 use Rattle.std.proofs.Common.{◌≡◌, ℕ, List, ◌++◌, Result, Ok, sym, ap, subst, ◌∙◌}
-use Rattle.cel_tree.specs.declared.expr.Expr.{Expr}
-use Rattle.cel_tree.specs.declared.expr.Entry.{Entry}
-use Rattle.cel_tree.specs.declared.expr.Syntax.TheVariants as syntax
-use Rattle.cel_grammar.specs.declared.fault.ParseFault.{ParseFault}
-use Rattle.failing.specs.declared.failed.Failed.{Failed}
-use Rattle.cel_grammar.specs.declared.tree.Tree.{Tree, roll-Tree, Call as call, Method as method, List as list, Map as map_tree}
-use Rattle.cel_grammar.specs.declared.tree.Tree.TheOpen.{Tree-F}
-use Rattle.cel_grammar.specs.declared.tree.Tree.TheVariants.{rolls-Call, rolls-Method, rolls-List, rolls-Map}
-use Rattle.cel_grammar.specs.declared.tree.Tree.TheFolds.{map-Tree, fold-roll-Tree}
-use Rattle.cel_grammar.specs.Views.{same, Gives}
-use Rattle.cel_grammar.specs.Descent.{◌>>=◌}
+use Rattle.cel_value.specs.declared.expr.Expr.{Expr}
+use Rattle.cel_value.specs.declared.expr.Entry.{Entry}
+use Rattle.cel_value.specs.declared.expr.Syntax.TheVariants as syntax
+use Rattle.cel_parse.specs.declared.fault.ParseFault.{ParseFault}
+use Rattle.base_containers.specs.declared.failed.Failed.{Failed}
+use Rattle.cel_parse.specs.declared.tree.Tree.{Tree, roll-Tree, Call as call, Method as method, List as list, Map as map_tree}
+use Rattle.cel_parse.specs.declared.tree.Tree.TheOpen.{Tree-F}
+use Rattle.cel_parse.specs.declared.tree.Tree.TheVariants.{rolls-Call, rolls-Method, rolls-List, rolls-Map}
+use Rattle.cel_parse.specs.declared.tree.Tree.TheFolds.{map-Tree, fold-roll-Tree}
+use Rattle.cel_parse.specs.Views.{same, Gives}
+use Rattle.cel_parse.specs.Descent.{◌>>=◌}
 use Rattle.cel_parse.specs.Expansion.{expr, Expanded, Expansion, each, each_entry, call_of, method_of}
 use Rattle.cel_parse.specs.Expansion.{expanded_at, role_at, expansion, expansions, entry_expansions, expanded}
 
--- behind the expressions that are there already
+-- after the expressions that are there already
 abbrev pub with_done : {A : Type 0} → List A → Result (List A) ParseFault → Result (List A) ParseFault
 with_done front r = r >>= λ es. Ok (front ++ es)
 

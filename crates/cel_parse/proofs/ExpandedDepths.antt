@@ -3,28 +3,28 @@ use Rattle.std.proofs.Common.{◌≡◌, ℕ, ◌+◌, ◌<◌, Bool, true, fals
 use Rattle.std.proofs.Common.{Option, Some, None, Result, Ok, Err, refl, sym, ap, subst, ◌∙◌, arith}
 use Rattle.std.specs.Prelude.{max, ◌&&◌}
 use Rattle.cel_lex.specs.declared.token.Infix.TheVariants as op
-use Rattle.cel_grammar.specs.declared.fault.ParseFault.{ParseFault}
-use Rattle.cel_tree.specs.declared.expr.Entry.{Entry}
-use Rattle.cel_grammar.specs.declared.tree.Joint.{Joint}
-use Rattle.cel_grammar.specs.declared.tree.Joint.TheVariants as joint
-use Rattle.cel_grammar.specs.declared.tree.Tree.{Tree, roll-Tree}
-use Rattle.cel_grammar.specs.declared.tree.Tree.TheOpen.{Tree-F}
-use Rattle.cel_grammar.specs.declared.tree.Tree.TheFolds.{map-Tree}
-use Rattle.cel_grammar.specs.Words.{is_has, word_at}
-use Rattle.cel_grammar.specs.Limits.{Depth, deepest as deepest_tree, deepest_entry as deepest_tree_entry, one_select, call_depth}
-use Rattle.cel_grammar.specs.Limits.{depth, depth_at as tree_depth_at, measure, measure_at}
-use Rattle.cel_grammar.specs.Descent.{◌>>=◌}
-use Rattle.cel_grammar.proofs.Depths.{depth_pos}
-use Rattle.cel_grammar.proofs.Levels.{Such, fold_level, every_tree}
-use Rattle.cel_tree.specs.declared.expr.BinaryOperator.TheVariants as binary
-use Rattle.cel_tree.specs.declared.expr.Expr.{Expr}
-use Rattle.cel_tree.specs.declared.expr.Expr.TheFolds.{map-Expr, fold-roll-Expr}
-use Rattle.cel_tree.specs.declared.expr.Loop.{Loop}
-use Rattle.cel_tree.specs.declared.expr.Loop.TheVariants as loop
-use Rattle.cel_tree.specs.declared.expr.Syntax.{Syntax}
-use Rattle.cel_tree.specs.declared.expr.Syntax.TheVariants as syntax
+use Rattle.cel_parse.specs.declared.fault.ParseFault.{ParseFault}
+use Rattle.cel_value.specs.declared.expr.Entry.{Entry}
+use Rattle.cel_parse.specs.declared.tree.Joint.{Joint}
+use Rattle.cel_parse.specs.declared.tree.Joint.TheVariants as joint
+use Rattle.cel_parse.specs.declared.tree.Tree.{Tree, roll-Tree}
+use Rattle.cel_parse.specs.declared.tree.Tree.TheOpen.{Tree-F}
+use Rattle.cel_parse.specs.declared.tree.Tree.TheFolds.{map-Tree}
+use Rattle.cel_parse.specs.Words.{is_has, word_at}
+use Rattle.cel_parse.specs.Limits.{Depth, deepest as deepest_tree, deepest_entry as deepest_tree_entry, one_select, call_depth}
+use Rattle.cel_parse.specs.Limits.{depth, depth_at as tree_depth_at, measure, measure_at}
+use Rattle.cel_parse.specs.Descent.{◌>>=◌}
+use Rattle.cel_parse.proofs.Depths.{depth_pos}
+use Rattle.cel_parse.proofs.Levels.{Such, fold_level, every_tree}
+use Rattle.cel_value.specs.declared.expr.BinaryOperator.TheVariants as binary
+use Rattle.cel_value.specs.declared.expr.Expr.{Expr}
+use Rattle.cel_value.specs.declared.expr.Expr.TheFolds.{map-Expr, fold-roll-Expr}
+use Rattle.cel_value.specs.declared.expr.Loop.{Loop}
+use Rattle.cel_value.specs.declared.expr.Loop.TheVariants as loop
+use Rattle.cel_value.specs.declared.expr.Syntax.{Syntax}
+use Rattle.cel_value.specs.declared.expr.Syntax.TheVariants as syntax
 use Rattle.cel_parse.specs.Macros.{loop_of}
-use Rattle.cel_tree.specs.Sizes.{deepest, deepest_entry, depth_at, depth_of, entry_depths}
+use Rattle.cel_value.specs.Sizes.{deepest, deepest_entry, depth_at, depth_of, entry_depths}
 use Rattle.cel_parse.specs.Expansion.{expr, signed, form_of, is_in_range, number_of, Expanded, Role, names, selects}
 use Rattle.cel_parse.specs.Expansion.{other, Expansion, each, each_entry, plain_call, has_by, has_of, plain_method, loop_by}
 use Rattle.cel_parse.specs.Expansion.{where_by, loop_of_kind, method_by, expanded_at, role_at, expansion, expanded}

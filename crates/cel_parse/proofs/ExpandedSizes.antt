@@ -2,25 +2,25 @@
 use Rattle.std.proofs.Common.{◌≡◌, ℕ, ◌+◌, ◌≤◌, Bool, true, false, cond, List, []}
 use Rattle.std.proofs.Common.{◌∷◌, map, Option, Some, None, Ok, Err, sym, subst, arith}
 use Rattle.cel_lex.specs.declared.token.Infix.TheVariants as op
-use Rattle.cel_grammar.specs.declared.fault.ParseFault.{ParseFault}
-use Rattle.cel_tree.specs.declared.expr.Entry.{Entry}
-use Rattle.cel_grammar.specs.declared.tree.Joint.{Joint}
-use Rattle.cel_grammar.specs.declared.tree.Joint.TheVariants as joint
-use Rattle.cel_grammar.specs.declared.tree.Tree.{Tree, roll-Tree}
-use Rattle.cel_grammar.specs.declared.tree.Tree.TheOpen.{Tree-F}
-use Rattle.cel_grammar.specs.declared.tree.Tree.TheFolds.{map-Tree}
-use Rattle.cel_grammar.specs.Words.{is_has, word_at}
-use Rattle.cel_grammar.proofs.Levels.{Such, fold_level, every_tree}
-use Rattle.cel_grammar.proofs.Sizes.{total as tree_total, total_entries as tree_total_entries, size_at, size}
-use Rattle.cel_tree.specs.declared.expr.BinaryOperator.TheVariants as binary
-use Rattle.cel_tree.specs.declared.expr.Expr.{Expr}
-use Rattle.cel_tree.specs.declared.expr.Expr.TheFolds.{map-Expr, fold-roll-Expr}
-use Rattle.cel_tree.specs.declared.expr.Loop.{Loop}
-use Rattle.cel_tree.specs.declared.expr.Loop.TheVariants as loop
-use Rattle.cel_tree.specs.declared.expr.Syntax.{Syntax}
-use Rattle.cel_tree.specs.declared.expr.Syntax.TheVariants as syntax
+use Rattle.cel_parse.specs.declared.fault.ParseFault.{ParseFault}
+use Rattle.cel_value.specs.declared.expr.Entry.{Entry}
+use Rattle.cel_parse.specs.declared.tree.Joint.{Joint}
+use Rattle.cel_parse.specs.declared.tree.Joint.TheVariants as joint
+use Rattle.cel_parse.specs.declared.tree.Tree.{Tree, roll-Tree}
+use Rattle.cel_parse.specs.declared.tree.Tree.TheOpen.{Tree-F}
+use Rattle.cel_parse.specs.declared.tree.Tree.TheFolds.{map-Tree}
+use Rattle.cel_parse.specs.Words.{is_has, word_at}
+use Rattle.cel_parse.proofs.Levels.{Such, fold_level, every_tree}
+use Rattle.cel_parse.proofs.Sizes.{size_at, size}
+use Rattle.cel_value.specs.declared.expr.BinaryOperator.TheVariants as binary
+use Rattle.cel_value.specs.declared.expr.Expr.{Expr}
+use Rattle.cel_value.specs.declared.expr.Expr.TheFolds.{map-Expr, fold-roll-Expr}
+use Rattle.cel_value.specs.declared.expr.Loop.{Loop}
+use Rattle.cel_value.specs.declared.expr.Loop.TheVariants as loop
+use Rattle.cel_value.specs.declared.expr.Syntax.{Syntax}
+use Rattle.cel_value.specs.declared.expr.Syntax.TheVariants as syntax
 use Rattle.cel_parse.specs.Macros.{loop_of}
-use Rattle.cel_tree.specs.Sizes.{total, total_entries, nodes_at, nodes_of, entry_sizes}
+use Rattle.cel_value.specs.Sizes.{total, total_entries, nodes_at, nodes_of, entry_sizes}
 use Rattle.cel_parse.specs.Expansion.{expr, signed, form_of, is_in_range, number_of, Expanded, Role, names, selects}
 use Rattle.cel_parse.specs.Expansion.{other, Expansion, each, each_entry, plain_call, has_by, has_of, plain_method, loop_by}
 use Rattle.cel_parse.specs.Expansion.{where_by, loop_of_kind, method_by, expanded_at, role_at, expansion, expanded}
@@ -43,7 +43,7 @@ AreSmall n es = total (map nodes_of es) ≤ n
 abbrev AreEntriesSmall : ℕ → List (Entry Expr) → Type 0
 AreEntriesSmall n es = total_entries (entry_sizes es) ≤ n
 
--- what a select selects from has a node less
+-- what a select selects from has one node less
 abbrev IsBelow : ℕ → Role → Type 0
 IsBelow n (names p) = Unit {0}
 IsBelow n (selects field a) = Holds (λ e. 1 + nodes_of e ≤ n) a
@@ -63,14 +63,14 @@ data AllEntries : List (Entry ℕ) → List (Entry Expansion) → Type 0 where
   one_entry : {n : Entry ℕ} {ns : List (Entry ℕ)} {x : Entry Expansion} {xs : List (Entry Expansion)} → IsKept n.key x.key
       → IsKept n.value x.value → AllEntries ns xs → AllEntries (n ∷ ns) (x ∷ xs)
 
-each_small : {ns : List ℕ} {xs : List Expansion} → AllKept ns xs → Holds (AreSmall (tree_total ns)) (each xs)
+each_small : {ns : List ℕ} {xs : List Expansion} → AllKept ns xs → Holds (AreSmall (total ns)) (each xs)
 each_small none = holds_ok _ [] (omega arith)
 each_small (one {n} {ns} {x} {xs} k r) =
     holds_then _ x.own _ (λ e h. holds_then _ (each xs) _ (λ es g. holds_ok _ (e ∷ es) (let p =
     k.own e h in let q = each_small r es g in omega arith)))
 
 entries_small : {ns : List (Entry ℕ)} {xs : List (Entry Expansion)} → AllEntries ns xs
-    → Holds (AreEntriesSmall (tree_total_entries ns)) (each_entry xs)
+    → Holds (AreEntriesSmall (total_entries ns)) (each_entry xs)
 entries_small no_entry = holds_ok _ [] (omega arith)
 entries_small (one_entry {n} {ns} {x} {xs} k v r) =
     holds_then _ x.key.own _ (λ a h. holds_then _ x.value.own _ (λ b g. holds_then _ (each_entry xs) _
@@ -78,31 +78,31 @@ entries_small (one_entry {n} {ns} {x} {xs} k v r) =
     in let s = entries_small r es i in omega arith))))
 
 module _ (source : List ℕ) (place : ℕ) where
-  call_small : {ns : List ℕ} {xs : List Expansion} → AllKept ns xs → Holds (IsSmall (1 + tree_total ns)) (plain_call source place xs)
+  call_small : {ns : List ℕ} {xs : List Expansion} → AllKept ns xs → Holds (IsSmall (1 + total ns)) (plain_call source place xs)
   call_small {ns} {xs} k =
       holds_then _ (each xs) _ (λ es h. holds_ok _ _ (let l = level place (syntax.Call (word_at source place) es)
       in let p = each_small k es h in omega arith))
 
   role_small : {n : ℕ} {x : Expansion} (r : Role) → IsKept n x → IsBelow n r
-      → Holds (IsSmall (1 + tree_total (n ∷ []))) (has_by source place (x ∷ []) r)
+      → Holds (IsSmall (1 + total (n ∷ []))) (has_by source place (x ∷ []) r)
   role_small (names p) k b = call_small (one k none)
   role_small (selects field a) k b =
       holds_then _ a _ (λ e h. holds_ok _ _ (let l = level place (syntax.Has e (word_at source field)) in let p = b e h in omega arith))
   role_small other k b = call_small (one k none)
 
-  has_small : {ns : List ℕ} {xs : List Expansion} → AllKept ns xs → Holds (IsSmall (1 + tree_total ns)) (has_of source place xs)
+  has_small : {ns : List ℕ} {xs : List Expansion} → AllKept ns xs → Holds (IsSmall (1 + total ns)) (has_of source place xs)
   has_small none = call_small none
   has_small (one {x} k none) = role_small x.role k k.role
   has_small (one k (one l r)) = call_small (one k (one l r))
 
   call_by : (b : Bool) {ns : List ℕ} {xs : List Expansion} → AllKept ns xs
-      → Holds (IsSmall (1 + tree_total ns)) (cond b (has_of source place xs) (plain_call source place xs))
+      → Holds (IsSmall (1 + total ns)) (cond b (has_of source place xs) (plain_call source place xs))
   call_by true k = has_small k
   call_by false k = call_small k
 
   module _ (d : ℕ) (a : Expanded) (on : Holds (IsSmall d) a) where
     method_small : {ns : List ℕ} {xs : List Expansion} → AllKept ns xs
-        → Holds (IsSmall (1 + (d + tree_total ns))) (plain_method source place a xs)
+        → Holds (IsSmall (1 + (d + total ns))) (plain_method source place a xs)
     method_small {ns} {xs} k =
         holds_then _ a _ (λ e h. holds_then _ (each xs) _ (λ es g. holds_ok _ _ (let l =
         level place (syntax.Method e (word_at source place) es) in let p = on e h in let q = each_small k es g in omega arith)))
@@ -133,7 +133,7 @@ module _ (source : List ℕ) (place : ℕ) where
     three_small {x = x} loop.Map k j i = where_small x.role k j i
 
     kind_small : {ns : List ℕ} {xs : List Expansion} (l : Loop) → AllKept ns xs
-        → Holds (IsSmall (1 + (d + tree_total ns))) (loop_of_kind source place l a xs)
+        → Holds (IsSmall (1 + (d + total ns))) (loop_of_kind source place l a xs)
     kind_small loop.All none = method_small none
     kind_small loop.Exists none = method_small none
     kind_small loop.ExistsOne none = method_small none
@@ -153,7 +153,7 @@ module _ (source : List ℕ) (place : ℕ) where
     kind_small loop.Map (one k (one j (one i (one m r)))) = method_small (one k (one j (one i (one m r))))
 
     any_small : {ns : List ℕ} {xs : List Expansion} (o : Option Loop) → AllKept ns xs
-        → Holds (IsSmall (1 + (d + tree_total ns))) (method_by o source place a xs)
+        → Holds (IsSmall (1 + (d + total ns))) (method_by o source place a xs)
     any_small None k = method_small k
     any_small (Some l) k = kind_small l k
 

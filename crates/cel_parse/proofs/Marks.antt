@@ -1,11 +1,11 @@
 -- The wrong macros of each node, and of one tree after another.
 use Rattle.std.proofs.Common.{◌≡◌, ℕ, List, map, Option, Some, None, refl, sym, ap, ◌∙◌, arith}
 use Rattle.std.specs.Prelude.{not, ◌&&◌}
-use Rattle.cel_grammar.specs.declared.tree.Tree.{Tree, roll-Tree, Call as call, Method as method}
-use Rattle.cel_grammar.specs.declared.tree.Tree.TheOpen.{Tree-F}
-use Rattle.cel_grammar.specs.declared.tree.Tree.TheVariants.{rolls-Call, rolls-Method}
-use Rattle.cel_grammar.specs.declared.tree.Tree.TheFolds.{map-Tree, fold-roll-Tree}
-use Rattle.cel_grammar.specs.Words.{is_has, word_at}
+use Rattle.cel_parse.specs.declared.tree.Tree.{Tree, roll-Tree, Call as call, Method as method}
+use Rattle.cel_parse.specs.declared.tree.Tree.TheOpen.{Tree-F}
+use Rattle.cel_parse.specs.declared.tree.Tree.TheVariants.{rolls-Call, rolls-Method}
+use Rattle.cel_parse.specs.declared.tree.Tree.TheFolds.{map-Tree, fold-roll-Tree}
+use Rattle.cel_parse.specs.Words.{is_has, word_at}
 use Rattle.cel_parse.specs.Macros.{loop_of, Mark, lesser, wrong_if, suits_has, wrong_method, least, wrong_at, shape_at, mark, first_wrong}
 
 abbrev mark_at : List ℕ → Tree-F Mark → Mark

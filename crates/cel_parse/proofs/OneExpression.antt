@@ -2,27 +2,27 @@
 use Rattle.std.proofs.Common.{◌≡◌, ◌≤◌, ℕ, List, [], length, refl, sym, ap, subst, ◌∙◌, arith}
 use Rattle.cel_lex.specs.declared.token.Token.{Token}
 use Rattle.cel_lex.specs.declared.fault.LexFault.{LexFault}
-use Rattle.cel_tree.specs.declared.expr.Expr.{Expr}
-use Rattle.cel_grammar.specs.declared.fault.ParseFault.{ParseFault}
-use Rattle.cel_grammar.specs.declared.fault.ParseFault.TheVariants.{Lex, Unexpected, BadMacro}
-use Rattle.cel_grammar.specs.declared.tree.Tree.{Tree}
+use Rattle.cel_value.specs.declared.expr.Expr.{Expr}
+use Rattle.cel_parse.specs.declared.fault.ParseFault.{ParseFault}
+use Rattle.cel_parse.specs.declared.fault.ParseFault.TheVariants.{Lex, Unexpected, BadMacro}
+use Rattle.cel_parse.specs.declared.tree.Tree.{Tree}
 use Rattle.cel_lex.specs.Lexis.{IsCut}
-use Rattle.cel_grammar.specs.Limits.{depth}
-use Rattle.cel_tree.specs.Sizes.{depth_of, nodes_of}
+use Rattle.cel_parse.specs.Limits.{depth}
+use Rattle.cel_value.specs.Sizes.{depth_of, nodes_of}
 use Rattle.cel_parse.specs.Macros.{first_wrong}
 use Rattle.cel_parse.specs.Expansion.{expanded}
 use Rattle.cel_parse.proofs.FewTokens.{few_tokens}
-use Rattle.cel_grammar.specs.Trees.{IsTree, IsUnexpected, HasNoTree, unexpected, too_deep}
+use Rattle.cel_parse.specs.Trees.{IsTree, IsUnexpected, HasNoTree, unexpected, too_deep}
 use Rattle.cel_parse.specs.Parsing.{IsAsDeep, IsParsed, IsRefused, no_cut, no_tree, bad_macro, no_expression}
 use Rattle.cel_lex.proofs.Cutting.{one_cut, one_refusal, no_refusal}
-use Rattle.cel_grammar.specs.Grammar.{Derives, Expression}
-use Rattle.cel_grammar.proofs.Stages.{agrees_self}
+use Rattle.cel_parse.specs.Grammar.{Derives, Expression}
+use Rattle.cel_parse.proofs.Stages.{agrees_self}
 use Rattle.cel_parse.proofs.Ranges.{expanded_lexical}
 use Rattle.cel_parse.proofs.ExpandedDepths.{expanded_depth}
 use Rattle.cel_parse.proofs.ExpandedSizes.{expanded_size}
-use Rattle.cel_grammar.proofs.Sizes.{sized}
-use Rattle.cel_grammar.proofs.OnePlace.{one_place}
-use Rattle.cel_grammar.proofs.Answered.{one_tree}
+use Rattle.cel_parse.proofs.Sizes.{sized}
+use Rattle.cel_parse.proofs.OnePlace.{one_place}
+use Rattle.cel_parse.proofs.Answered.{one_tree}
 
 same_tokens : {text : List ℕ} {ts us : List Token} → IsCut text ts → IsCut text us → ts ≡ us
 same_tokens p q = one_cut p.cut q.cut
@@ -84,7 +84,7 @@ unexpected_of : {text : List ℕ} {ts : List Token} (f : ParseFault) (p : ℕ) �
 unexpected_of {text} {ts} f p (unexpected {place} u) h = subst (λ x. IsUnexpected (length text) ts x) (cc) u
 unexpected_of f p (too_deep d) h = absurd cc
 
--- where no token is expected, it is one place
+-- if a text is refused for an unexpected token, the token is at one place
 unexpected_place : (text : List ℕ) (f g : ParseFault) (p q : ℕ) → IsRefused text f → IsRefused text g → f ≡ Unexpected p
     → g ≡ Unexpected q → p ≡ q
 unexpected_place text f g p q (no_cut r) s h i = absurd cc

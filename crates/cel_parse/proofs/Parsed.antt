@@ -6,24 +6,24 @@ use Rattle.cel_lex.specs.declared.fault.LexFault.{LexFault}
 use Rattle.cel_lex.specs.Lexis.{IsCut, Refuses}
 use Rattle.cel_lex.specs.Answer.{Answer, answer_of}
 use Rattle.cel_lex.proofs.Answering.{answer_cut, answer_fault, is_the_cut, is_the_fault}
-use Rattle.cel_grammar.specs.declared.fault.ParseFault.{ParseFault}
-use Rattle.cel_grammar.specs.declared.fault.ParseFault.TheVariants.{Lex, BadMacro}
-use Rattle.failing.specs.declared.failed.Failed.{Failed}
-use Rattle.failing.specs.declared.failed.Failed.TheVariants as failed
-use Rattle.failing.specs.Failures.{Widens}
-use Rattle.cel_grammar.specs.declared.tree.Tree.{Tree}
-use Rattle.cel_grammar.specs.Descent.{◌>>=◌, all_of}
-use Rattle.cel_grammar.specs.Trees.{IsTree}
-use Rattle.cel_grammar.specs.Views.{same, Fails, Gives}
-use Rattle.cel_grammar.proofs.Answered.{answered_tree, answered_fault}
-use Rattle.cel_tree.specs.declared.expr.Expr.{Expr}
+use Rattle.cel_parse.specs.declared.fault.ParseFault.{ParseFault}
+use Rattle.cel_parse.specs.declared.fault.ParseFault.TheVariants.{Lex, BadMacro}
+use Rattle.base_containers.specs.declared.failed.Failed.{Failed}
+use Rattle.base_containers.specs.declared.failed.Failed.TheVariants as failed
+use Rattle.base_containers.specs.Failures.{Widens}
+use Rattle.cel_parse.specs.declared.tree.Tree.{Tree}
+use Rattle.cel_parse.specs.Descent.{◌>>=◌, all_of}
+use Rattle.cel_parse.specs.Trees.{IsTree}
+use Rattle.cel_parse.specs.Views.{same, Fails, Gives}
+use Rattle.cel_parse.proofs.Answered.{answered_tree, answered_fault}
+use Rattle.cel_value.specs.declared.expr.Expr.{Expr}
 use Rattle.cel_parse.specs.Macros.{first_wrong}
 use Rattle.cel_parse.specs.Expansion.{Expanded, expanded}
 use Rattle.cel_parse.specs.Parsed.{lexed, unless_wrong, parsed_tree, parsed}
 use Rattle.cel_parse.specs.Parsing.{IsAsDeep, IsParsed, IsRefused, no_cut, no_tree, bad_macro, no_expression}
 use Rattle.cel_parse.specs.Total.{IsAnswered, is_parsed, is_refused}
 use Rattle.cel_parse.proofs.FewTokens.{few_tokens}
-use Rattle.cel_tree.specs.Sizes.{depth_of, nodes_of}
+use Rattle.cel_value.specs.Sizes.{depth_of, nodes_of}
 use Rattle.cel_parse.proofs.OneExpression.{same_expression, not_both, parsed_depth, parsed_shallow, parsed_small}
 
 -- a text spells this expression, or is refused for this fault
@@ -101,7 +101,7 @@ cut_fails text failed.OutOfMemory (failed.Fault f) h x = absurd h
 cut_fails text (failed.Fault g) failed.OutOfMemory h x = absurd h
 cut_fails text (failed.Fault g) (failed.Fault f) h x = of_fault text g (x g refl) ∙ ap Err (sym h)
 
--- the lexer's failure, told one level up
+-- the lexer's failure, reported one level up
 pub cut_told : {X : Type 0} (text : List ℕ) (r : Result X (Failed LexFault)) (told : Result X (Failed ParseFault))
     → MatchResult r (λ x. told ≡ Ok x) (λ l. IsErrAnd told (Widens (λ g f. f ≡ Lex g) l))
     → ((g : LexFault) → IsErrOf r (failed.Fault g) → Refuses text g) → IfErr told (λ e. Fails e (parsed text))

@@ -3,19 +3,19 @@ use Rattle.std.proofs.Common.{◌≡◌, ℕ, Bool, true, false, cond, List, [],
 use Rattle.std.proofs.Common.{Option, Some, None, Result, Ok, Err, refl, sym, subst}
 use Rattle.std.specs.Prelude.{map}
 use Rattle.cel_lex.specs.declared.fault.LexFault.{LexFault}
-use Rattle.cel_tree.specs.declared.expr.Expr.{Expr}
-use Rattle.cel_tree.specs.declared.expr.Entry.{Entry}
-use Rattle.cel_tree.specs.declared.expr.Loop.{Loop}
-use Rattle.cel_tree.specs.declared.expr.Loop.TheVariants as loop
-use Rattle.cel_grammar.specs.declared.fault.ParseFault.{ParseFault}
-use Rattle.cel_grammar.specs.declared.fault.ParseFault.TheVariants.{Lex}
-use Rattle.cel_grammar.specs.declared.tree.Tree.{Tree, roll-Tree}
-use Rattle.cel_grammar.specs.declared.tree.Tree.TheOpen.{Tree-F}
-use Rattle.cel_grammar.specs.declared.tree.Tree.TheFolds.{map-Tree}
-use Rattle.cel_grammar.specs.Words.{is_has, word_at}
+use Rattle.cel_value.specs.declared.expr.Expr.{Expr}
+use Rattle.cel_value.specs.declared.expr.Entry.{Entry}
+use Rattle.cel_value.specs.declared.expr.Loop.{Loop}
+use Rattle.cel_value.specs.declared.expr.Loop.TheVariants as loop
+use Rattle.cel_parse.specs.declared.fault.ParseFault.{ParseFault}
+use Rattle.cel_parse.specs.declared.fault.ParseFault.TheVariants.{Lex}
+use Rattle.cel_parse.specs.declared.tree.Tree.{Tree, roll-Tree}
+use Rattle.cel_parse.specs.declared.tree.Tree.TheOpen.{Tree-F}
+use Rattle.cel_parse.specs.declared.tree.Tree.TheFolds.{map-Tree}
+use Rattle.cel_parse.specs.Words.{is_has, word_at}
 use Rattle.cel_parse.specs.Macros.{loop_of}
-use Rattle.cel_grammar.specs.Descent.{◌>>=◌}
-use Rattle.cel_grammar.proofs.Levels.{Such, fold_level, every_tree}
+use Rattle.cel_parse.specs.Descent.{◌>>=◌}
+use Rattle.cel_parse.proofs.Levels.{Such, fold_level, every_tree}
 use Rattle.cel_parse.specs.Expansion.{Expanded, Role, names, selects, other, Expansion, each}
 use Rattle.cel_parse.specs.Expansion.{each_entry, plain_call, has_by, has_of, plain_method, loop_by, where_by}
 use Rattle.cel_parse.specs.Expansion.{loop_of_kind, method_by, is_in_range, expanded_at, role_at, expansion, expanded}

@@ -2,9 +2,9 @@
 use Rattle.std.proofs.Common.{◌≡◌, true, false, [], ◌∷◌, Some, None, Ok, Err, refl}
 use Rattle.std.specs.Prelude.{pos, negsuc, codes}
 use Rattle.cel_lex.specs.declared.fault.LexFaultKind.TheVariants as fault
-use Rattle.cel_grammar.specs.declared.fault.ParseFault.TheVariants.{Lex}
-use Rattle.cel_tree.specs.declared.expr.Loop.TheVariants as loop
-use Rattle.cel_tree.specs.declared.expr.Syntax.TheVariants as syntax
+use Rattle.cel_parse.specs.declared.fault.ParseFault.TheVariants.{Lex}
+use Rattle.cel_value.specs.declared.expr.Loop.TheVariants as loop
+use Rattle.cel_value.specs.declared.expr.Syntax.TheVariants as syntax
 use Rattle.cel_parse.specs.declared.macros.Shape.TheVariants as shape
 use Rattle.cel_parse.specs.Macros.{loop_of, Mark, suits_has, suits_loop, lesser}
 use Rattle.cel_parse.specs.Expansion.{expr, number_of}

@@ -3,22 +3,22 @@ use Rattle.std.specs.Prelude.{ℕ, ◌^◌, ℤ, pos, negsuc, zero, suc, Bool, t
 use Rattle.std.specs.Prelude.{◌∷◌, map, Option, Some, None, Result, Ok, Err, nat_le, nat_lt, if◌then◌else◌}
 use Rattle.cel_lex.specs.declared.token.Infix.TheVariants as op
 use Rattle.cel_lex.specs.declared.fault.LexFaultKind.TheVariants.{IntRange}
-use Rattle.cel_tree.specs.declared.expr.BinaryOperator.TheVariants as binary
-use Rattle.cel_tree.specs.declared.expr.Loop.{Loop}
-use Rattle.cel_tree.specs.declared.expr.Loop.TheVariants as loop
-use Rattle.cel_tree.specs.declared.expr.Entry.{Entry}
-use Rattle.cel_tree.specs.declared.expr.Syntax.{Syntax}
-use Rattle.cel_tree.specs.declared.expr.Syntax.TheVariants as syntax
-use Rattle.cel_tree.specs.declared.expr.Expr.{Expr, roll-Expr}
-use Rattle.cel_grammar.specs.declared.fault.ParseFault.{ParseFault}
-use Rattle.cel_grammar.specs.declared.fault.ParseFault.TheVariants.{Lex}
-use Rattle.cel_grammar.specs.declared.tree.Joint.{Joint}
-use Rattle.cel_grammar.specs.declared.tree.Joint.TheVariants as joint
-use Rattle.cel_grammar.specs.declared.tree.Tree.{Tree, fold-Tree}
-use Rattle.cel_grammar.specs.declared.tree.Tree.TheOpen.{Tree-F}
-use Rattle.cel_grammar.specs.Words.{word_at, is_has}
+use Rattle.cel_value.specs.declared.expr.BinaryOperator.TheVariants as binary
+use Rattle.cel_value.specs.declared.expr.Loop.{Loop}
+use Rattle.cel_value.specs.declared.expr.Loop.TheVariants as loop
+use Rattle.cel_value.specs.declared.expr.Entry.{Entry}
+use Rattle.cel_value.specs.declared.expr.Syntax.{Syntax}
+use Rattle.cel_value.specs.declared.expr.Syntax.TheVariants as syntax
+use Rattle.cel_value.specs.declared.expr.Expr.{Expr, roll-Expr}
+use Rattle.cel_parse.specs.declared.fault.ParseFault.{ParseFault}
+use Rattle.cel_parse.specs.declared.fault.ParseFault.TheVariants.{Lex}
+use Rattle.cel_parse.specs.declared.tree.Joint.{Joint}
+use Rattle.cel_parse.specs.declared.tree.Joint.TheVariants as joint
+use Rattle.cel_parse.specs.declared.tree.Tree.{Tree, fold-Tree}
+use Rattle.cel_parse.specs.declared.tree.Tree.TheOpen.{Tree-F}
+use Rattle.cel_parse.specs.Words.{word_at, is_has}
 use Rattle.cel_parse.specs.Macros.{loop_of}
-use Rattle.cel_grammar.specs.Descent.{◌>>=◌}
+use Rattle.cel_parse.specs.Descent.{◌>>=◌}
 
 -- an expression at a place
 abbrev pub expr : ℕ → Syntax Expr → Expr
@@ -103,7 +103,7 @@ has_of source place [] = plain_call source place []
 has_of source place (x ∷ []) = has_by source place (x ∷ []) x.role
 has_of source place (x ∷ y ∷ xs) = plain_call source place (x ∷ y ∷ xs)
 
--- a call: the test for a field where it is one
+-- a call: the test for a field, if it is one
 abbrev pub call_of : List ℕ → ℕ → List Expansion → Expanded
 call_of source place xs = if is_has source place then has_of source place xs else plain_call source place xs
 
@@ -111,7 +111,7 @@ call_of source place xs = if is_has source place then has_of source place xs els
 abbrev pub plain_method : List ℕ → ℕ → Expanded → List Expansion → Expanded
 plain_method source place a xs = a >>= λ e. each xs >>= λ es. Ok (expr place (syntax.Method e (word_at source place) es))
 
--- where a tree is a name, its place
+-- the place of a tree, if it is a name
 abbrev pub name_in : Role → Option ℕ
 name_in (names n) = Some n
 name_in (selects field a) = None

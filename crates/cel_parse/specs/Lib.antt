@@ -1,3 +1,10 @@
+pub mod Words
+pub mod Grammar
+pub mod Limits
+pub mod Descent
+pub mod Trees
+pub mod Views
+pub mod Names
 pub mod Macros
 pub mod Expansion
 pub mod Parsing

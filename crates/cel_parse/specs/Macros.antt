@@ -2,14 +2,14 @@
 use Rattle.std.specs.Prelude.{ℕ, min, Bool, true, false, ◌&&◌, not, List}
 use Rattle.std.specs.Prelude.{[], ◌∷◌, map, Option, Some, None, if◌then◌else◌, codes}
 use Rattle.std.specs.Str.{bytes_eq}
-use Rattle.cel_tree.specs.declared.expr.Loop.{Loop}
-use Rattle.cel_tree.specs.declared.expr.Loop.TheVariants as loop
-use Rattle.cel_tree.specs.declared.expr.Entry.{Entry}
+use Rattle.cel_value.specs.declared.expr.Loop.{Loop}
+use Rattle.cel_value.specs.declared.expr.Loop.TheVariants as loop
+use Rattle.cel_value.specs.declared.expr.Entry.{Entry}
 use Rattle.cel_parse.specs.declared.macros.Shape.{Shape}
 use Rattle.cel_parse.specs.declared.macros.Shape.TheVariants as shape
-use Rattle.cel_grammar.specs.declared.tree.Tree.{Tree, fold-Tree}
-use Rattle.cel_grammar.specs.declared.tree.Tree.TheOpen.{Tree-F}
-use Rattle.cel_grammar.specs.Words.{word_at, is_has}
+use Rattle.cel_parse.specs.declared.tree.Tree.{Tree, fold-Tree}
+use Rattle.cel_parse.specs.declared.tree.Tree.TheOpen.{Tree-F}
+use Rattle.cel_parse.specs.Words.{word_at, is_has}
 
 -- the macros on a list or map (cel-spec, "Macros")
 unfoldable pub loop_of : List ℕ → Option Loop
@@ -21,7 +21,7 @@ loop_of word =
     else (if bytes_eq word (codes "map") then Some loop.Map
     else None))))
 
--- what a macro wants to know of a tree, and the least place of a wrong macro in it
+-- what a macro needs to know about a tree, and the least place of a wrong macro in it
 pub record Mark : Type 0 where
   pub shape : Shape
   pub wrong : Option ℕ
@@ -89,7 +89,7 @@ wrong_at source (Tree-F.Unary place o a) = a.wrong
 wrong_at source (Tree-F.Binary place o a b) = lesser a.wrong b.wrong
 wrong_at source (Tree-F.Conditional place c a b) = lesser c.wrong (lesser a.wrong b.wrong)
 
--- what a macro wants to know of one level
+-- what a macro needs to know about one level
 abbrev pub shape_at : Tree-F Mark → Shape
 shape_at (Tree-F.Name place) = shape.Name
 shape_at (Tree-F.Select place a) = shape.Select

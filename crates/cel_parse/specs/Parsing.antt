@@ -2,15 +2,15 @@
 use Rattle.std.specs.Prelude.{◌≡◌, ℕ, List, Some, None, Ok, Err}
 use Rattle.cel_lex.specs.declared.token.Token.{Token}
 use Rattle.cel_lex.specs.declared.fault.LexFault.{LexFault}
-use Rattle.cel_tree.specs.declared.expr.Expr.{Expr}
-use Rattle.cel_grammar.specs.declared.fault.ParseFault.{ParseFault}
-use Rattle.cel_grammar.specs.declared.fault.ParseFault.TheVariants.{Lex, BadMacro}
-use Rattle.cel_grammar.specs.declared.tree.Tree.{Tree}
+use Rattle.cel_value.specs.declared.expr.Expr.{Expr}
+use Rattle.cel_parse.specs.declared.fault.ParseFault.{ParseFault}
+use Rattle.cel_parse.specs.declared.fault.ParseFault.TheVariants.{Lex, BadMacro}
+use Rattle.cel_parse.specs.declared.tree.Tree.{Tree}
 use Rattle.cel_lex.specs.Lexis.{IsCut, Refuses}
-use Rattle.cel_grammar.specs.Limits.{depth}
-use Rattle.cel_grammar.specs.Trees.{IsTree, HasNoTree}
+use Rattle.cel_parse.specs.Limits.{depth}
+use Rattle.cel_parse.specs.Trees.{IsTree, HasNoTree}
 use Rattle.cel_parse.specs.Macros.{first_wrong}
-use Rattle.cel_tree.specs.Sizes.{depth_of}
+use Rattle.cel_value.specs.Sizes.{depth_of}
 use Rattle.cel_parse.specs.Expansion.{expanded}
 
 -- the expression that a text spells

@@ -1,7 +1,7 @@
 -- That a text has an answer.
 use Rattle.std.specs.Prelude.{ℕ, List}
-use Rattle.cel_grammar.specs.declared.fault.ParseFault.{ParseFault}
-use Rattle.cel_tree.specs.declared.expr.Expr.{Expr}
+use Rattle.cel_parse.specs.declared.fault.ParseFault.{ParseFault}
+use Rattle.cel_value.specs.declared.expr.Expr.{Expr}
 use Rattle.cel_parse.specs.Parsing.{IsParsed, IsRefused}
 
 -- a text spells an expression, or is refused

@@ -1,18 +1,20 @@
 //! The expression of a tree, with its macros expanded.
 
 ghost use Rattle.std.specs.Prelude.{◌≡◌, ℕ, List, IfOk, Ok};
-ghost use Rattle.cel_tree.specs.declared.expr.Expr.{Expr};
-ghost use Rattle.cel_grammar.specs.Views.{same, Gives, Carries};
-ghost use Rattle.cel_grammar.specs.Words.{word_at};
+ghost use Rattle.cel_value.specs.declared.expr.Expr.{Expr};
+ghost use Rattle.cel_parse.specs.Views.{same, Gives, Carries};
+ghost use Rattle.cel_parse.specs.Words.{word_at};
 ghost use Rattle.cel_parse.specs.Expansion.{expr, number_of, form_of, each, each_entry, plain_call, has_of, call_of};
 ghost use Rattle.cel_parse.specs.Expansion.{name_in, loop_name, plain_method, loop_of_kind, method_of};
 ghost use Rattle.cel_parse.specs.Expansion.{expansion, expansions, entry_expansions, expanded};
 
+use crate::fault::{ParseError, ParseFault};
 use crate::macros::loop_at;
-use cel_grammar::{Joint, ParseError, ParseFault, Tree, is_has, word_at};
+use crate::tree::{Joint, Tree};
+use crate::word::{is_has, word_at};
+use base_containers::{Boxed, Items, Text};
 use cel_lex::{Infix, LexFault, LexFaultKind};
-use cel_tree::{BinaryOperator, Entry, Expr, Loop, Syntax, UnaryOperator};
-use plain::{Boxed, Items, Text};
+use cel_value::{BinaryOperator, Entry, Expr, Loop, Syntax, UnaryOperator};
 use std::alloc::{AllocError, Global};
 
 // An expression at a place. It is held in a box, so that letting it go is one call.

@@ -3,10 +3,11 @@
 ghost use Rattle.std.specs.Prelude.{◌≡◌, ℕ, List, map, not, ◌&&◌};
 ghost use Rattle.cel_parse.specs.Macros.{loop_of, lesser, mark, marks, least, least_entry};
 ghost use Rattle.cel_parse.specs.Macros.{wrong_if, suits_has, suits_loop, wrong_method, first_wrong};
-ghost use Rattle.cel_grammar.specs.Words.{is_has, word_at};
+ghost use Rattle.cel_parse.specs.Words.{is_has, word_at};
 
-use cel_grammar::{Tree, is_has, word_at};
-use cel_tree::{Entry, Loop};
+use crate::tree::Tree;
+use crate::word::{is_has, word_at};
+use cel_value::{Entry, Loop};
 
 /// The loop that the word at a place is the macro of, if there is one.
 #[tactic(auto, unfolding(crate::specs::Macros::loop_of))]
@@ -29,7 +30,7 @@ pub fn loop_at(text: &str, place: usize) -> Option<Loop>
     }
 }
 
-/// What a macro wants to know of an argument.
+/// What a macro needs to know about an argument.
 #[derive(Clone, Copy, PartialEq, Eq)]
 pub enum Shape {
     Name,

@@ -3,22 +3,23 @@
 ghost use Rattle.std.specs.Prelude.{◌≡◌, ◌≤◌, ◌↔◌, ℕ, List, Ok, Err, IfOk, IfErr, IsErrOf};
 ghost use Rattle.cel_lex.specs.declared.fault.LexFault.{LexFault};
 ghost use Rattle.cel_lex.specs.Lexis.{IsCut};
-ghost use Rattle.cel_tree.specs.declared.expr.Expr.{Expr};
-ghost use Rattle.cel_grammar.specs.declared.fault.ParseFault.{ParseFault};
-ghost use Rattle.cel_grammar.specs.declared.fault.ParseFault.TheVariants.{Lex, Unexpected, BadMacro};
-ghost use Rattle.failing.specs.declared.failed.Failed.TheVariants as failed;
-ghost use Rattle.cel_grammar.specs.Views.{same, Fails, Gives};
-ghost use Rattle.cel_tree.specs.Sizes.{depth_of, nodes_of};
+ghost use Rattle.cel_value.specs.declared.expr.Expr.{Expr};
+ghost use Rattle.cel_parse.specs.declared.fault.ParseFault.{ParseFault};
+ghost use Rattle.cel_parse.specs.declared.fault.ParseFault.TheVariants.{Lex, Unexpected, BadMacro};
+ghost use Rattle.base_containers.specs.declared.failed.Failed.TheVariants as failed;
+ghost use Rattle.cel_parse.specs.Views.{same, Fails, Gives};
+ghost use Rattle.cel_value.specs.Sizes.{depth_of, nodes_of};
 ghost use Rattle.cel_parse.specs.Parsed.{parsed};
 ghost use Rattle.cel_parse.specs.Parsing.{IsParsed, IsRefused, IsAsDeep};
 ghost use Rattle.cel_parse.specs.Total.{IsAnswered};
 
+use crate::descent::tree_of;
 use crate::expansion::expand;
+use crate::fault::{ParseError, ParseFault};
 use crate::macros::first_wrong;
-use cel_grammar::{ParseError, ParseFault, tree_of};
+use base_containers::Failed;
 use cel_lex::{Token, tokens};
-use cel_tree::Expr;
-use failing::Failed;
+use cel_value::Expr;
 use std::alloc::Global;
 
 // The tokens of a text, or why it has no expression.
@@ -48,7 +49,7 @@ pub fn parse(alloc: Global, text: &str) -> Result<Expr, ParseError>
     ensures parsed { IfOk result (λ e. IsParsed text.now e) }
     // A text is refused only for the fault that is answered.
     ensures refused { (f : ParseFault) → IsErrOf result (failed.Fault f) → IsRefused text.now f }
-    // The answer is a function of the text, so that its fault is one where the grammar leaves a choice, too.
+    // The answer is a function of the text, so its fault is one, even where the grammar leaves a choice.
     ensures read { Gives same result (parsed text.now) }
     // The expression is as deep as the text's tree is counted, which is 100 at most.
     ensures depth { IfOk result (λ e. IsAsDeep text.now e) }
@@ -59,8 +60,8 @@ pub fn parse(alloc: Global, text: &str) -> Result<Expr, ParseError>
     read(alloc, text)
 }
 
-/// A text spells one expression or is refused, and not both. Where a character, a number or a macro refuses it, nothing
-/// else does, and no token is unexpected but one. What [`parse`] answers as a function of the text is the expression
+/// A text spells one expression or is refused, and not both. If a character, a number or a macro refuses it, nothing
+/// else does, and no token is unexpected except one. What [`parse`] answers as a function of the text is the expression
 /// that the text spells, or a fault for which it is refused.
 pub fn one_expression()
     ensures expressions { (text : List ℕ) (a b : Expr) → IsParsed text a → IsParsed text b → a ≡ b }

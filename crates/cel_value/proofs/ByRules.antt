@@ -5,7 +5,7 @@ use Rattle.std.specs.Option.{option_map}
 use Rattle.std.specs.Str.{bytes_eq}
 use Rattle.std.proofs.lemmas.Bool.{cases_Bool}
 use Rattle.std.proofs.lemmas.Slice.Eq.{bytes_eq-Decides}
-use Rattle.plain.specs.declared.text.Keyed.{Keyed}
+use Rattle.base_containers.specs.declared.text.Keyed.{Keyed}
 use Rattle.cel_value.specs.declared.cel_type.Field.{Field}
 use Rattle.cel_value.specs.declared.cel_type.CelType as T
 use Rattle.cel_value.specs.declared.cel_type.CelType.{CelType, roll-CelType, out-CelType, the_lemmas}

@@ -2,7 +2,7 @@
 use Rattle.std.specs.Prelude.{◌&&◌, max, List, [], ◌∷◌, Option, Some, None, option_and_then, if◌then◌else◌}
 use Rattle.std.specs.Option.{option_map}
 use Rattle.std.specs.Str.{bytes_eq}
-use Rattle.plain.specs.declared.text.Keyed.{Keyed}
+use Rattle.base_containers.specs.declared.text.Keyed.{Keyed}
 use Rattle.cel_value.specs.declared.cel_type.Field.{Field}
 use Rattle.cel_value.specs.declared.cel_type.CelType as T
 use Rattle.cel_value.specs.declared.cel_type.CelType.{CelType, fold-CelType, out-CelType, roll-CelType}
@@ -14,11 +14,11 @@ use Rattle.cel_value.specs.Join.{Fields, joined_field}
 abbrev pub Joiner : Type 0
 Joiner = CelType × (CelType → Option CelType)
 
--- the type of one level, whose inner types stand with what they are joined with
+-- the type of one level, whose inner types are paired with their joins
 abbrev pub itself : CelType-F Joiner → CelType
 itself s = roll-CelType (map-CelType _ _ (λ j. j.0) s)
 
--- the fields of two objects joined one by one; none where names differ, or types under a name have no join
+-- the fields of two objects joined one by one; none if names differ, or if types under a name have no join
 abbrev pub joined_fields_by : {A : Type 0} → (A → CelType → Option CelType) → List (Keyed (Field A)) → Fields → Option Fields
 joined_fields_by join [] [] = Some []
 joined_fields_by join (f ∷ fs) (g ∷ gs) =
@@ -46,7 +46,7 @@ join_kinds _ _ = None
 abbrev pub Joined : Type 0
 Joined = CelType × Option CelType
 
--- s, which is none of Never, Null and Nullable, with the type of one level, whose inner types stand with s's join with them
+-- s, which is none of Never, Null and Nullable, with the type of one level, whose inner types are paired with s's join with them
 abbrev pub join_into : CelType-F Joiner → CelType-F Joined → Option CelType
 join_into s CelType-F.Never = Some (itself s)
 join_into s CelType-F.Null = Some (T.Nullable (itself s))

@@ -1,6 +1,6 @@
 ghost use Rattle.std.specs.Prelude.{◌≡◌, ◌↔◌, ◌⊎◌, ◌&&◌, ℕ, max, Bool, Some, None, IsTrue, IfOk, IfSome};
 ghost use Rattle.std.specs.Option.{option_map};
-ghost use Rattle.plain.specs.Keys.{keys_in};
+ghost use Rattle.base_containers.specs.Keys.{keys_in};
 ghost use Rattle.cel_value.specs.declared.cel_type.CelType as T;
 ghost use Rattle.cel_value.specs.declared.cel_type.CelType.{CelType};
 ghost use Rattle.cel_value.specs.declared.value.Value.{Value};
@@ -15,11 +15,11 @@ ghost use Rattle.cel_value.specs.Joining.{IsInside, join_same_kind, wrapped};
 use crate::assignment::assignable;
 use crate::cel_type::{CelType, Field};
 use crate::value::keyed;
-use plain::{Shared, TextMap};
+use base_containers::{Shared, TextMap};
 use std::alloc::{AllocError, Global};
 
-/// The type of what has one of two types, where the rules give one: each of the two may stand where it is asked, what
-/// fits one of them fits it, and it allows as much as each.
+/// The type of what has one of two types, if the rules give one: each of the two may be used where it is expected,
+/// what fits one of them fits it, and it allows as much as each.
 pub fn join(alloc: Global, left: &CelType, right: &CelType) -> Result<Option<CelType>, AllocError>
     ensures by_rules { IfOk result (λ joined. (t : CelType) → joined ≡ Some t ↔ Joins left.now right.now t) }
     ensures exact { IfOk result (λ joined. joined ≡ join left.now right.now) }
@@ -59,7 +59,7 @@ pub fn join_rules()
     ensures other_kinds { (s t : CelType) → IsBare s → IsBare t → ¬ IsTrue (are_of_one_kind s t) → join s t ≡ None }
 {}
 
-/// The join. Where the left type takes the right one it is the left one, which is shared and not made anew.
+/// The join. If the left type takes the right one, it is the left one, which is shared and not made anew.
 fn join_or_share(
     alloc: Global,
     left: &CelType,
@@ -249,7 +249,7 @@ fn join_objects(
     }
 }
 
-/// Joins field by field, where both objects have the same names.
+/// Joins field by field, if both objects have the same names.
 #[cycle(join_types)]
 fn join_fields(
     alloc: Global,

@@ -3,7 +3,7 @@
 ghost use Rattle.std.specs.Prelude.{◌≡◌, ◌↔◌, IsTrue};
 
 use crate::cel_type::{CelType, Field};
-use plain::TextMap;
+use base_containers::TextMap;
 
 /// Whether two types are the same, with all their limits.
 #[cycle(same_type)]

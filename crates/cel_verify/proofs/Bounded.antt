@@ -8,7 +8,7 @@ use Rattle.std.proofs.lemmas.Option.{slice_get_within, same_Some}
 use Rattle.cel_value.specs.declared.cel_type.CelType.{CelType}
 use Rattle.cel_value.specs.declared.cel_type.CelType as type
 use Rattle.cel_value.specs.CelType.{assignable}
-use Rattle.cel_tree.specs.declared.expr.Loop.{Loop}
+use Rattle.cel_value.specs.declared.expr.Loop.{Loop}
 use Rattle.cel_code.specs.declared.instr.Instr.{Instr}
 use Rattle.cel_code.specs.declared.instr.Instr.TheVariants.{Const, Op, WithText, AndTest, OrTest, And, Or, Cond}
 use Rattle.cel_code.specs.declared.instr.Instr.TheVariants.{Jump, End, Slot, Local, Item, When, Next}
@@ -179,7 +179,7 @@ module _ (image : Image) (sound : IsWalked image) where
   abbrev Before : ℕ → Type 0
   Before n = (at : ℕ) → at < n → at < length image.code → Within at
 
-  -- behind an instruction that goes on
+  -- after an instruction that goes on
   within_next : (k : ℕ) (i : Instr) (ns ts : StackTypes) → slice_get image.code k ≡ Some i
       → Parts image k i (types_at image k) (opens_at image k) (Some ns) → entry_or (entry_in image.targets (suc k)) (Some ns) ≡ Some ts
       → types_at image (suc k) ≡ Some ts → Within (suc k)
@@ -199,7 +199,7 @@ module _ (image : Image) (sound : IsWalked image) where
       let own : operands_of (types_at image (suc k)) ≡ length ts = ap operands_of e in
       (omega (arith, deep.0, still.0), omega (arith, deep.1, still.1))
 
-  -- where jumps arrive alone
+  -- where only jumps arrive
   within_jump : (to : ℕ) (ts : StackTypes) → to < length image.code → Before to → entry_in image.targets to ≡ Some ts
       → types_at image to ≡ Some ts → Within to
   within_jump to ts inside before there e =

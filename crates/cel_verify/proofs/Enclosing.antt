@@ -1,4 +1,4 @@
--- In whose body the next instruction stands, found from the instruction outwards.
+-- In which loop's body the next instruction is, found from the instruction outwards.
 use Rattle.std.proofs.Common.{◌≡◌, ℕ, zero, suc, ◌+◌, ◌<◌, ◌≤◌, Bool, true, false, ◌&&◌, cond, List, [], ◌∷◌, ◌++◌, length}
 use Rattle.std.proofs.Common.{Option, Some, None, get_or, refl, sym, ap, ◌∙◌, subst, ⊎_elim, arith, length-append}
 use Rattle.std.specs.Prelude.{slice_get, slice_index_or, nat_eq, nat_lt}
@@ -13,7 +13,7 @@ use Rattle.cel_verify.specs.Bodies.{leads_behind, last_behind, innermost, same_l
 use Rattle.cel_verify.specs.Sound.{every}
 use Rattle.cel_verify.specs.Arrivals.{AreBodies}
 
--- what does not lead behind an instruction does not lead behind a later one
+-- what does not lead past an instruction does not lead past a later one
 not_later : (o : Option Instr) (at later : ℕ) → at ≤ later → leads_behind o at ≡ false → leads_behind o later ≡ false
 not_later None at later le h = refl
 not_later (Some (Loop l exit)) at later le h = le-ltb later exit (let e = ltb-false at exit h in omega arith)
@@ -34,7 +34,7 @@ none_by : (code : List Instr) (at later s : ℕ) (b : Bool) → at ≤ later →
 none_by code at later s true le e h r = absurd (none-some s (sym h))
 none_by code at later s false le e h r = outwards code later s (not_later (slice_get code s) at later le e) ∙ r h
 
--- where none of the first leads behind an instruction, none leads behind a later one
+-- if none of the first leads past an instruction, none leads past a later one
 none_later : (code : List Instr) (at later : ℕ) → at ≤ later → (s : ℕ) → last_behind code at s ≡ None
     → last_behind code later s ≡ None
 none_later code at later le zero h = refl
@@ -94,7 +94,7 @@ one_body code at bodies body h e =
           (cases_lt j at);
     }
 
--- instructions of one body, by the loops that are told for them
+-- instructions of one body, by the loops that are found for them
 pub near_is : (code : List Instr) (bodies : List (Option ℕ)) (at : ℕ) (ts : List ℕ) → AreBodies code (length code) bodies
     → at < length code → AllByRecursion (λ to. to < length code) ts
     → every (λ to. same_loop (slice_index_or bodies at None) (slice_index_or bodies to None)) ts ≡ every (same_body code at) ts

@@ -11,7 +11,7 @@ use Rattle.cel_verify.specs.Accepted.{IsCounted, IsAccepted, IsDeclared, IsRefus
 use Rattle.cel_verify.specs.Accepted.{Misplaced, TooDear, DeclaresLess, DeclaresMore}
 use Rattle.cel_verify.specs.Accepted.{misplaced_entry, fault, budget, is_over}
 use Rattle.cel_verify.specs.declared.fault.VerifyFault.{VerifyFault}
-use Rattle.failing.specs.declared.failed.Failed.TheVariants.{Fault}
+use Rattle.base_containers.specs.declared.failed.Failed.TheVariants.{Fault}
 use Rattle.cel_verify.specs.declared.fault.VerifyRule.TheVariants.{BadTarget, OverBudget}
 use Rattle.cel_verify.specs.Walked.{ceiling}
 use Rattle.cel_verify.proofs.Bounded.{greatest_within}
@@ -25,7 +25,7 @@ below n m cap e h = omega arith
 under : (n m most cap : ℕ) → m ≡ min n cap → m ≤ most → most < cap → n ≤ most
 under n m most cap e h k = omega arith
 
--- a cost that is over nothing is that of the dearest route, which is within what is declared
+-- a cost that is over no limit is that of the dearest route, which is within what is declared
 module _ (image : Image) (b : Bounds) (k : AreCapped image b) where
   dearest : (most : ℕ) → b.cost ≤ most → most ≤ budget → (charge : ℕ) → IsRouteCharge image charge → charge ≤ most
   dearest most h within charge r =
@@ -78,7 +78,7 @@ pub out_of_place : (image : Image) (f : VerifyFault) → IsCounted image → IsS
     → f.rule ≡ BadTarget → IsRefused image (Fault f)
 out_of_place image f counted sound placed is = (Misplaced counted sound placed is, λ a. let none = a.placed in cc)
 
--- bounds over the budget, or over what is declared, tell a route that charges too much
+-- if bounds are over the budget, or over what is declared, there is a route that charges too much
 pub too_dear : (image : Image) (b : Bounds) (f : VerifyFault) → IsCounted image → IsSound image → misplaced_entry image ≡ None
     → AreCapped image b → is_over b.cost image.declared ≡ true → f ≡ fault OverBudget (length image.code - 1) → IsRefused image (Fault f)
 too_dear image b f counted sound placed k h is = at image.declared refl h

@@ -1,4 +1,4 @@
--- What goes on where a rule holds.
+-- What goes on if a rule holds.
 use Rattle.std.proofs.Common.{◌≡◌, ℕ, zero, suc, ◌<◌, Bool, true, false, ◌&&◌, List, [], ◌∷◌, length}
 use Rattle.std.proofs.Common.{Option, Some, None, refl, sym, arith, true≢false}
 use Rattle.std.specs.Prelude.{Ok, Err, slice_get}

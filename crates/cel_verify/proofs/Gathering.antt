@@ -1,4 +1,4 @@
--- What a loop gathers from its items: its result may always stand where the loop leads, and it has room for each item.
+-- What a loop gathers from its items: its result may always be used where the loop leads, and it has room for each item.
 use Rattle.std.proofs.Common.{◌≡◌, ℕ, ◌+◌, ◌≤◌, Bool, true, false, [], ◌∷◌, ◌++◌, length, Option, Some, None}
 use Rattle.std.proofs.Common.{refl, sym, ap, subst, arith, length-append}
 use Rattle.std.specs.Prelude.{Result, Ok, Err}
@@ -11,17 +11,17 @@ use Rattle.cel_value.specs.declared.cel_type.CelType.{CelType}
 use Rattle.cel_value.specs.declared.cel_type.CelType as type
 use Rattle.cel_value.specs.declared.cel_error.CelError.{CelError}
 use Rattle.cel_value.specs.CelType.{fits, assignable}
-use Rattle.cel_tree.specs.declared.expr.Loop.{Loop}
-use Rattle.cel_tree.specs.declared.expr.Loop.TheVariants.{All, Exists, ExistsOne, Filter, Map}
+use Rattle.cel_value.specs.declared.expr.Loop.{Loop}
+use Rattle.cel_value.specs.declared.expr.Loop.TheVariants.{All, Exists, ExistsOne, Filter, Map}
 use Rattle.cel_operators.specs.declared.type_rule.TypeRule.{TypeRule}
-use Rattle.cel_loops.specs.declared.accumulator.Accumulator.{Accumulator}
+use Rattle.cel_operators.specs.declared.accumulator.Accumulator.{Accumulator}
 use Rattle.cel_operators.specs.declared.operands.Want.TheVariants.{Truth}
 use Rattle.cel_operators.specs.Outcomes.{Outcome, Side}
 use Rattle.cel_operators.specs.Wants.{Limit, limit_of, is_there}
 use Rattle.cel_operators.specs.declared.limit.Span.{Span}
-use Rattle.cel_loops.specs.Loops.{is_one, one_more, nothing_yet, first_error, Turn, Closes, GoesOn}
-use Rattle.cel_loops.specs.Loops.{turn_all, turn_exists, turn_exists_one, turn_filter, turn_map}
-use Rattle.cel_loops.specs.Loops.{turn, error_or, result_of, by_predicate, loop_type}
+use Rattle.cel_operators.specs.Loops.{is_one, one_more, nothing_yet, first_error, Turn, Closes, GoesOn}
+use Rattle.cel_operators.specs.Loops.{turn_all, turn_exists, turn_exists_one, turn_filter, turn_map}
+use Rattle.cel_operators.specs.Loops.{turn, error_or, result_of, by_predicate, loop_type}
 use Rattle.cel_operators.proofs.Opened.{bool_fits, list_fits}
 use Rattle.cel_operators.proofs.Rows.{wider}
 use Rattle.cel_verify.specs.StackTypes.{Fits}
@@ -53,7 +53,7 @@ empty_fits Map s e =
     let is = same_ok (loop_type Map no_items type.Never) (type.List 0 true type.Never) s refl e in
     subst (Fits (Ok (value.List []))) is (list_fits [] 0 true type.Never (omega arith) refl)
 
--- a turn ends with what may stand where the loop leads, or goes on with such a result and at most so many items
+-- a turn ends with what may be used where the loop leads, or goes on with such a result and at most so many items
 abbrev pub TurnFits : Loop → CelType → ℕ → Turn → Type 0
 TurnFits l top n (Closes x) = Fits x top
 TurnFits l top n (GoesOn a) = Fits (result_of l a) top × (length a.items ≤ n)
@@ -69,7 +69,7 @@ error_fits o e b top = let z = error_is o e b in subst (λ x. Fits x top) (sym z
 any_bool : (s top : CelType) (b : Bool) → type.Bool ≡ s → assignable s top ≡ true → Fits (Ok (value.Bool b)) top
 any_bool s top b e h = wider s top (Some (Ok (value.Bool b))) h (subst (Fits (Ok (value.Bool b))) e (bool_fits b))
 
--- one item more, where a list of so many of its type may go
+-- one item more, if a list of so many of its type is assignable
 item_more : (a : Accumulator) (v : Value) (max : ℕ) (t s top : CelType) → type.List max true t ≡ s → assignable s top ≡ true
     → fits v t ≡ true → Fits (Ok (value.List a.items)) top → length a.items + 1 ≤ max
     → Fits (Ok (value.List (a.items ++ v ∷ []))) top × (length (a.items ++ v ∷ []) ≤ length a.items + 1)

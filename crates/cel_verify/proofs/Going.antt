@@ -1,14 +1,14 @@
 -- How the machine goes on in a sound image from a state that fits: to the next instruction, to a jump's target, to the next
--- turn of a loop, or behind a loop.
+-- turn of a loop, or after a loop.
 use Rattle.std.proofs.Common.{◌≡◌, ◌≢◌, ◌⊎◌, ℕ, zero, suc, ◌+◌, ◌<◌, ◌≤◌, Bool, true, false, List, [], ◌∷◌, ◌++◌, length}
 use Rattle.std.proofs.Common.{Option, Some, None, refl, sym, ap, ◌∙◌, subst, inl, inr, ⊎_elim, arith, add-one, true≢false}
 use Rattle.std.specs.Prelude.{Ok, slice_get}
 use Rattle.std.proofs.lemmas.Bool.{and_parts}
 use Rattle.cel_value.specs.declared.value.Value.{Value}
 use Rattle.cel_value.specs.CelType.{assignable}
-use Rattle.cel_loops.specs.declared.accumulator.Accumulator.{Accumulator}
+use Rattle.cel_operators.specs.declared.accumulator.Accumulator.{Accumulator}
 use Rattle.cel_operators.specs.Outcomes.{Outcome}
-use Rattle.cel_loops.specs.Loops.{result_of}
+use Rattle.cel_operators.specs.Loops.{result_of}
 use Rattle.cel_operators.proofs.Rows.{wider}
 use Rattle.cel_code.specs.declared.instr.Instr.{Instr}
 use Rattle.cel_code.specs.declared.instr.Instr.TheVariants.{End, Item, Next}
@@ -149,7 +149,7 @@ module _ (image : Image) (sound : IsWalked image) where
               omega arith,
         )
 
-    -- the same, where the loops are as they were
+    -- the same, if the loops are as they were
     pub plain_falls : (c : ℕ) (ns : StackTypes) (s : List Outcome) → c ≤ charge_of image.constants i ts
         → typed_rule image i (opens_at image at) ts ≡ Ok (Some ns) → waits (Some i) ≡ 1 → keeps i ≡ true
         → IsIn (at + 1) (goes_to i at) → AllFit s (ns ++ below_all (opens_at image at))

@@ -1,4 +1,4 @@
--- A list that fits a type still fits it with more items, where a list of them may go.
+-- A list that fits a type still fits it with more items, if a list of them is assignable to it.
 use Rattle.std.proofs.Common.{◌≡◌, ℕ, ◌+◌, ◌≤◌, Bool, true, ◌&&◌, ◌||◌, not, nat_le, List, [], ◌∷◌, ◌++◌, length}
 use Rattle.std.proofs.Common.{ap, sym, ◌∙◌, subst, refl, arith, true≢false, length-append}
 use Rattle.std.specs.List.{list_all}
@@ -27,7 +27,7 @@ all_append : {X : Type 0} (p : X → Bool) (xs ys : List X) → list_all p xs �
 all_append p [] ys h k = k
 all_append p (x ∷ xs) ys h k = let r = and_parts (p x) (list_all p xs) h in and_from _ _ r.0 (all_append p xs ys r.1 k)
 
--- more items that fit, where a list of so many of their type may go
+-- more items that fit, if a list of so many of their type is assignable
 abbrev Grows : CelType → Type 0
 Grows r =
     (vs ws : List Value) (max : ℕ) (t : CelType) → assignable (roll-CelType (CelType-F.List max true t)) r ≡ true
@@ -78,7 +78,7 @@ step y = λ vs ws max t a f g h.
 grows : (r : CelType) → Grows r
 grows = ind-CelType Grows (λ x y is. subst (λ z. Grows (roll-CelType z)) is (step y))
 
--- a list that fits still fits with more items, where a list of them may go
+-- a list that fits still fits with more items, if a list of them is assignable
 pub list_grows : (r : CelType) (vs ws : List Value) (max : ℕ) (t : CelType) → assignable (type.List max true t) r ≡ true
     → fits (value.List vs) r ≡ true → list_all (λ v. fits v t) ws ≡ true → length vs + length ws ≤ max
     → fits (value.List (vs ++ ws)) r ≡ true

@@ -1,4 +1,4 @@
--- An image is sound exactly where each instruction keeps its rule at its label of the walk.
+-- An image is sound exactly if each instruction keeps its rule at its label of the walk.
 use Rattle.std.proofs.Common.{◌≡◌, ℕ, zero, suc, ◌+◌, ◌<◌, [], length, Option}
 use Rattle.std.proofs.Common.{Some, None, refl, sym, ap, ◌∙◌, arith, add-one}
 use Rattle.std.specs.Prelude.{Ok, slice_get}
@@ -86,6 +86,6 @@ module _ (image : Image) (s : IsWalked image) where
 pub walks : (image : Image) → IsSound image → IsWalked image
 walks image h = labelled_walked image h.label h.is h.ends
 
--- where the walk finds no fault
+-- if the walk finds no fault
 pub sound_by : (image : Image) → EndsOnce image.code → AllHold image → IsSound image
 sound_by image ends each = is_sound image (record { ends = ends; each = each })

@@ -7,8 +7,8 @@ use Rattle.cel_operators.specs.Outcomes.{Outcome}
 use Rattle.cel_operators.specs.Lists.{in_front, each_there, list_made, list_where, items_type}
 use Rattle.cel_operators.specs.Maps.{map_made, map_where, entries_type, entries_greatest}
 use Rattle.cel_operators.proofs.Rows.{MadeRight}
-use Rattle.cel_loops.proofs.Literals.{EachFits, literal_made}
-use Rattle.cel_loops.proofs.MapLiterals.{Paired, literal_map_made}
+use Rattle.cel_operators.proofs.Literals.{EachFits, literal_made}
+use Rattle.cel_operators.proofs.MapLiterals.{Paired, literal_map_made}
 use Rattle.cel_code.specs.Machine.{taken_off}
 use Rattle.cel_verify.specs.StackTypes.{StackTypes, AllFit}
 

@@ -10,13 +10,13 @@ use Rattle.cel_value.specs.declared.cel_type.CelType.{CelType}
 use Rattle.cel_value.specs.declared.cel_type.CelType as type
 use Rattle.cel_value.specs.declared.cel_error.CelError.{CelError}
 use Rattle.cel_value.specs.CelType.{fits, assignable}
-use Rattle.cel_tree.specs.declared.expr.Loop.{Loop}
-use Rattle.cel_tree.specs.declared.expr.Loop.TheVariants as loop
+use Rattle.cel_value.specs.declared.expr.Loop.{Loop}
+use Rattle.cel_value.specs.declared.expr.Loop.TheVariants as loop
 use Rattle.cel_operators.specs.declared.type_rule.TypeRule.{TypeRule}
 use Rattle.cel_operators.specs.Outcomes.{Outcome, Side}
 use Rattle.cel_operators.specs.Wants.{taken, limit_of, is_truth}
 use Rattle.cel_operators.specs.declared.operands.Want.TheVariants.{Ranged}
-use Rattle.cel_loops.specs.Loops.{loop_type, nothing_yet, turn, result_of, Turn, Closes, GoesOn as TurnsOn}
+use Rattle.cel_operators.specs.Loops.{loop_type, nothing_yet, turn, result_of, Turn, Closes, GoesOn as TurnsOn}
 use Rattle.cel_operators.proofs.Rows.{wider}
 use Rattle.cel_operators.proofs.Taking.{Taken, taken_fits}
 use Rattle.cel_code.specs.declared.instr.Instr.TheVariants.{Local, Item, When, Next}
@@ -218,7 +218,7 @@ module _ (image : Image) (sound : IsWalked image) where
   next_goes inputs at (t ∷ []) (x ∷ stack) [] (o ∷ os) m h eo k b e = absurd k
   next_goes inputs at (t ∷ []) (x ∷ stack) (f ∷ fs) (o ∷ os) m h eo k b e = next_on at t x stack f fs o os m h eo k.0 k.1 e
 
-  -- LOOP: the range's error or the result of no items behind the loop, or the first item
+  -- LOOP: the range's error or the result of no items after the loop, or the first item
   module _ (at l exit : ℕ) (t : CelType) (us : StackTypes) (x : Outcome) (stack : List Outcome) (frames : List Frame)
       (h : Here image at (instr.Loop l exit) (t ∷ us) (x ∷ stack) frames) (r : Looped image at l exit)
       (top_is : r.top ≡ t) (rest_is : r.rest ≡ us) where
@@ -268,7 +268,7 @@ module _ (image : Image) (sound : IsWalked image) where
           empty = λ u e. subst (λ v. assignable v s.0 ≡ true) (same_ok (loop_type r.kind no_items type.Never) r.empty u r.empty_is e) s.3;
         }
 
-    -- behind the loop, with its result
+    -- after the loop, with its result
     led : (y : Outcome) → Fits y r.empty
         → GoesOn image (on at (x ∷ stack) frames) (Goes 1 (on exit (y ∷ stack) frames))
     led y fy =

@@ -46,7 +46,7 @@ its_last_two xs s t h p q =
 pub fewer : (all below : StackTypes) (s t : CelType) → all ≡ below ++ s ∷ t ∷ [] → length below < length all
 fewer all below s t e = omega (arith, ap (length {A = CelType}) e, length-append below (s ∷ t ∷ []))
 
--- of less than two types none is a key or a value
+-- of fewer than two types none is a key or a value
 no_keys : (xs : StackTypes) → length xs < 2 → keys_by_turns (reverse xs) ≡ []
 no_keys [] h = refl
 no_keys (x ∷ []) h = refl

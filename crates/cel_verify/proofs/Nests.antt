@@ -1,4 +1,4 @@
--- The open loops along the code of a sound image are those in whose bodies the instructions stand.
+-- The open loops at each instruction of a sound image are those whose bodies contain it.
 use Rattle.std.proofs.Common.{◌≡◌, ◌≢◌, ℕ, zero, suc, ◌+◌, ◌-◌, ◌<◌, ◌≤◌, Bool, true, false, ◌&&◌, cond, List}
 use Rattle.std.proofs.Common.{[], ◌∷◌, length, Option, Some, None, refl, sym, ap, ◌∙◌, subst, inl, ⊎_elim, arith, true≢false}
 use Rattle.std.specs.Prelude.{Result, Ok, Err, slice_get, nat_lt, nat_eq}
@@ -6,12 +6,12 @@ use Rattle.std.proofs.lemmas.Bool.{and_parts, eqb-true, lt-ltb, le-ltb, ltb-true
 use Rattle.std.proofs.lemmas.Option.{none-some, same_Some, slice_get_within}
 use Rattle.cel_value.specs.declared.cel_type.CelType.{CelType}
 use Rattle.cel_value.specs.declared.cel_type.CelType as type
-use Rattle.cel_tree.specs.declared.expr.Loop.{Loop}
+use Rattle.cel_value.specs.declared.expr.Loop.{Loop}
 use Rattle.cel_operators.specs.declared.type_rule.TypeRule.{TypeRule}
 use Rattle.cel_operators.specs.Wants.{limit_of}
 use Rattle.cel_operators.specs.declared.limit.Span.{Span}
 use Rattle.cel_operators.specs.declared.operands.Want.TheVariants.{Ranged}
-use Rattle.cel_loops.specs.Loops.{loop_type}
+use Rattle.cel_operators.specs.Loops.{loop_type}
 use Rattle.cel_code.specs.declared.instr.Instr.{Instr}
 use Rattle.cel_code.specs.declared.instr.Instr.TheVariants.{Item, Next}
 use Rattle.cel_code.specs.declared.instr.Instr.TheVariants as instr
@@ -26,8 +26,9 @@ use Rattle.cel_verify.specs.Typed.{types_at, opens_at, waits, waits_at}
 use Rattle.cel_verify.proofs.Falling.{one_needs, entered_ok, enters_is, get_some, cons_parts}
 use Rattle.cel_verify.proofs.RuleParts.{parts_at}
 use Rattle.cel_verify.proofs.PathSums.{every_in, is_ahead}
+use Rattle.cel_verify.proofs.Openings.{opening_plain}
 
--- a loop that does not lead behind an instruction does not lead behind the next one
+-- a loop that does not lead past an instruction does not lead past the next one
 leads_less : (o : Option Instr) (at : ℕ) → leads_behind o at ≡ false → leads_behind o (suc at) ≡ false
 leads_less (Some (instr.Loop l exit)) at h = let le = ltb-false at exit h in le-ltb (suc at) exit (omega arith)
 leads_less _ at h = refl
@@ -39,7 +40,7 @@ none_by code at n true h e r = absurd (none-some n (sym e))
 none_by code at n false h e r =
     ap (λ b. cond b (Some n) (last_behind code (suc at) n)) (leads_less (slice_get code n) at h) ∙ r e
 
--- where none leads behind an instruction, none leads behind the next one
+-- if none leads past an instruction, none leads past the next one
 none_later : (code : List Instr) (at n : ℕ) → last_behind code at n ≡ None → last_behind code (suc at) n ≡ None
 none_later code at zero e = refl
 none_later code at (suc n) e =
@@ -55,14 +56,14 @@ some_by code at n s true h e leads r =
 some_by code at n s false h e leads r =
     ap (λ b. cond b (Some n) (last_behind code (suc at) n)) (leads_less (slice_get code n) at h) ∙ r e
 
--- the last that leads behind an instruction is the last that leads behind the next one, where it does
+-- the last that leads past an instruction is the last that leads past the next one, if it leads past that one
 some_later : (code : List Instr) (at n s : ℕ) → last_behind code at n ≡ Some s → leads_behind (slice_get code s) (suc at) ≡ true
     → last_behind code (suc at) n ≡ Some s
 some_later code at zero s e leads = absurd (none-some s e)
 some_later code at (suc n) s e leads =
     some_by code at n s (leads_behind (slice_get code n) at) refl e leads (λ q. some_later code at n s q leads)
 
--- one of the first instructions is a loop that leads behind another instruction
+-- one of the first instructions is a loop that leads past another instruction
 record Leads (code : List Instr) (at n s : ℕ) : Type 0 where
   before : s < n
   leads : leads_behind (slice_get code s) at ≡ true
@@ -225,11 +226,6 @@ opened_is image s n exit h hi os =
     ∙ ap (λ r. with_loop s exit (Some h.kind) h.rest r (entry_in image.targets exit) os) h.ranged
     ∙ ap (λ a. with_loop s exit (Some h.kind) h.rest (Some h.span) a os) h.after_is
 
-no_loop_opens : (image : Image) (at : ℕ) (i : Instr) (ts : Option StackTypes) (os : List Open) → is_loop i ≡ false
-    → opening image at (Some i) ts os ≡ os
-no_loop_opens image at (instr.Loop l exit) ts os h = absurd (true≢false h)
-no_loop_opens image at _ ts os h = refl
-
 no_loop_leads : (i : Instr) (at : ℕ) → is_loop i ≡ false → leads_behind (Some i) at ≡ false
 no_loop_leads (instr.Loop l exit) at h = absurd (true≢false h)
 no_loop_leads _ at h = refl
@@ -281,7 +277,7 @@ module _ (image : Image) (sound : IsWalked image) where
   abbrev Known : ℕ → Type 0
   Known at = (k : ℕ) → k ≤ at → ByBody k
 
-  -- behind a LOOP its own loop is the innermost
+  -- after a LOOP its own loop is the innermost
   leads_next : (at l exit : ℕ) → slice_get image.code at ≡ Some (instr.Loop l exit)
       → leads_behind (slice_get image.code at) (suc at) ≡ true
   leads_next at l exit hi =
@@ -298,7 +294,7 @@ module _ (image : Image) (sound : IsWalked image) where
       ap (λ b. cond b (Some at) (last_behind image.code (suc at) at)) (leads_next at l exit hi) in
       opens_behind at l exit hi ∙ ap (opens_in image) (sym own)
 
-  -- in a loop's body, where the loop goes on or ends here
+  -- in a loop's body, whether the loop goes on or ends here
   in_body : (at s : ℕ) → innermost image.code at ≡ Some s → Known at
       → innermost image.code (suc at) ≡ last_behind image.code (suc at) at
       → still_open (suc at) (opens_at image at) ≡ opens_in image (innermost image.code (suc at))
@@ -330,7 +326,7 @@ module _ (image : Image) (sound : IsWalked image) where
       ap (λ b. cond b (Some at) (last_behind image.code (suc at) at)) leads in
       let here : opens_at image (suc at) ≡ still_open (suc at) (opens_at image at) =
       ap (λ o. still_open (suc at) (opening image at o (types_at image at) (opens_at image at))) hi
-      ∙ ap (still_open (suc at)) (no_loop_opens image at i (types_at image at) (opens_at image at) plain) in
+      ∙ ap (still_open (suc at)) (opening_plain image at i (types_at image at) (opens_at image at) plain) in
       here ∙ by own (innermost image.code at) refl
     where
       by : innermost image.code (suc at) ≡ last_behind image.code (suc at) at → (q : Option ℕ) → innermost image.code at ≡ q
@@ -381,7 +377,7 @@ module _ (image : Image) (sound : IsWalked image) where
           subst (λ p. OpenAt image at p os) (sym same.0)
           (record { number = w.0; begins = w.2; after = b.before; before = w.3; next = r.next; outer = same.1 })
 
-  -- where no NEXT stands, all loops stay open
+  -- at an instruction that is no NEXT, all loops stay open
   pub still_all : (at : ℕ) → at ≤ length image.code → slice_get image.code at ≢ Some Next
       → still_open (suc at) (opens_at image at) ≡ opens_at image at
   still_all at le none = by (opens_at image at) refl
@@ -394,7 +390,7 @@ module _ (image : Image) (sound : IsWalked image) where
           λ q. let z : o.exit - 1 ≡ at = omega arith in none (ap (slice_get image.code) (sym z) ∙ a.next) in
           ap (λ b. cond b (o ∷ os) (still_open (suc at) os)) (lt-ltb (suc at) o.exit (omega (arith, a.before, other)))
 
-  -- no ITEM stands where another instruction goes on in its own body
+  -- an instruction to which another one goes on in its own body is no ITEM
   pub no_item : (at to : ℕ) → at < to → to < length image.code → opens_at image to ≡ opens_at image at → waits_at image to ≡ 1
   no_item at to lt inside same = by (slice_get image.code to) refl
     where

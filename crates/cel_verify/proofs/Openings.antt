@@ -8,12 +8,12 @@ use Rattle.std.specs.Slice.{IsItemAt}
 use Rattle.std.proofs.lemmas.Bool.{cases_lt, lt-leb, le-leb, le-ltb, lt-ltb, eqb-true, leb-true, leb-false, not-false, and_parts}
 use Rattle.std.proofs.lemmas.List.{reverse-append, length-reverse, get_or-reverse}
 use Rattle.std.proofs.lemmas.Option.{slice_get-get_or, slice_get_past}
-use Rattle.failing.specs.Failures.{Fails}
+use Rattle.base_containers.specs.Failures.{Fails}
 use Rattle.cel_value.specs.declared.cel_type.CelType.{CelType}
 use Rattle.cel_value.specs.declared.cel_type.CelType as type
-use Rattle.cel_tree.specs.declared.expr.Loop.{Loop}
+use Rattle.cel_value.specs.declared.expr.Loop.{Loop}
 use Rattle.cel_operators.specs.declared.type_rule.TypeRule.{TypeRule}
-use Rattle.cel_loops.specs.Loops.{loop_type}
+use Rattle.cel_operators.specs.Loops.{loop_type}
 use Rattle.cel_operators.specs.Wants.{limit_of}
 use Rattle.cel_operators.specs.declared.limit.Span.{Span}
 use Rattle.cel_operators.specs.declared.operands.Want.TheVariants.{Ranged}
@@ -24,8 +24,8 @@ use Rattle.cel_code.specs.LoopNumbers.{loop_kind}
 use Rattle.cel_verify.specs.declared.fault.VerifyRule.{VerifyRule}
 use Rattle.cel_verify.specs.declared.fault.VerifyRule.TheVariants.{WrongKind, TooDeep, OverBudget}
 use Rattle.cel_verify.specs.declared.open_loop.Open.{Open}
-use Rattle.failing.specs.declared.failed.Failed.{Failed}
-use Rattle.failing.specs.declared.failed.Failed.TheVariants.{Fault, OutOfMemory}
+use Rattle.base_containers.specs.declared.failed.Failed.{Failed}
+use Rattle.base_containers.specs.declared.failed.Failed.TheVariants.{Fault, OutOfMemory}
 use Rattle.cel_verify.specs.StackTypes.{StackTypes, all_assignable}
 use Rattle.cel_verify.specs.Sound.{Falls, needs, below_all, typed_rule, entry_in, entry_or, opening, with_loop}
 use Rattle.cel_verify.specs.Sound.{enters, empty_rule, range_rule, loop_rule, kind_rule, next_rule, no_items, still_open, in_innermost}
@@ -49,13 +49,13 @@ pub met : (b : Bool) (k : VerifyRule) (r : Falls) → b ≡ true → needs b k r
 met true k r e = refl
 met false k r e = cc
 
--- a rule that is broken is told as it is, unless a limit is past the greatest
+-- a rule that is broken is reported as it is, unless a limit is past the greatest
 pub told_alike : (entry : Option StackTypes) (k : VerifyRule) → k ≢ OverBudget → entered entry (Err k) ≡ Err k
 told_alike None k h = refl
 told_alike (Some es) OverBudget h = absurd (h refl)
 told_alike (Some es) _ h = refl
 
--- a broken rule by what is told of it at the next instruction
+-- a broken rule by what is reported of it at the next instruction
 pub told_typed : (image : Image) (at : ℕ) (i : Instr) (ts : StackTypes) (opens : List Open) (k told : VerifyRule)
     → typed_rule image i opens ts ≡ Err k → entered (entry_in image.targets (at + 1)) (Err k) ≡ Err told
     → typed_here image at i ts opens ≡ Err told
@@ -63,7 +63,7 @@ told_typed image at i ts opens k told h e =
     let behind = opening image at (Some i) (Some ts) opens in
     ap (arrived image (at + 1) behind) h ∙ ap (shallow behind) e
 
--- where a loop begins there is no limit past the greatest
+-- at the beginning of a loop there is no limit past the greatest
 one_told : (b : Bool) (k : VerifyRule) → needs b WrongKind (Ok (Some [])) ≡ Err k → k ≢ OverBudget
 one_told true k e = λ q. cc
 one_told false k e = λ q. cc
@@ -112,7 +112,7 @@ module _ (image : Image) (at : ℕ) (i : Instr) (ts : StackTypes) (opens behind 
   passes (Ok there) left h = record { next = next; holds = here_is ∙ h.0.0; entry = h.0.1; opened = eo ∙ sym h.1 }
   passes (Err r) left h = refused_there r h
 
--- the same, where no loop is opened
+-- the same, if no loop is opened
 pub passes_on : (image : Image) (at : ℕ) (i : Instr) (ts : StackTypes) (opens : List Open) (next : Option StackTypes)
     → is_loop i ≡ false → typed_rule image i opens ts ≡ Ok next → (result : Result (Option StackTypes) (Failed VerifyRule))
     → MatchResult result (λ there. Arrives image (at + 1) opens next there) (λ r. Fails r (arrived image (at + 1) opens (Ok next)))
@@ -122,7 +122,7 @@ passes_on image at i ts opens next plain et (Ok there) h =
 passes_on image at i ts opens next plain et (Err r) h =
     passes image at i ts opens opens next (opening_plain image at i (Some ts) opens plain) et (Err r) opens h
 
--- the same, where a loop is opened
+-- the same, if a loop is opened
 pub passes_in : (image : Image) (at n exit : ℕ) (ts : StackTypes) (opens left : List Open) (o : Open)
     → Begins image at n exit ts o → (result : Result (Option StackTypes) (Failed VerifyRule))
     → MatchResult result (λ there. Arrives image (at + 1) (o ∷ opens) (Some []) there × (left ≡ o ∷ opens))
@@ -177,7 +177,7 @@ pub next_outside : (t : CelType) (ts : StackTypes) → next_rule [] (t ∷ ts) �
 next_outside t [] = refl
 next_outside t (s ∷ ts) = refl
 
--- where a loop leads there is no entry, its result of no items has no type, or may or may not stand there
+-- where a loop leads there is no entry, its result of no items has no type, or may or may not be used there
 pub no_entry : (below : StackTypes) (r : Result CelType TypeRule) → empty_rule None below r ≡ Err WrongKind
 no_entry below (Ok s) = refl
 no_entry below (Err k) = refl
@@ -345,7 +345,7 @@ of_innermost p opens outside o e = ap (in_innermost p) e
 pub of_none : (p : Open → Bool) (opens : List Open) → opens ≡ [] → in_innermost p opens ≡ false
 of_none p opens e = ap (in_innermost p) e
 
--- open loops of which the innermost ends, or does not
+-- open loops; the innermost ends, or does not
 pub ended : (at : ℕ) (o : Open) (os : List Open) → nat_le o.exit at ≡ true → still_open at (o ∷ os) ≡ still_open at os
 ended at o os h = ap (λ b. cond b (o ∷ os) (still_open at os)) (le-ltb at o.exit (leb-true o.exit at h))
 
@@ -353,7 +353,7 @@ pub not_ended : (at : ℕ) (os : List Open) → in_innermost (λ o. nat_le o.exi
 not_ended at [] h = refl
 not_ended at (o ∷ os) h = ap (λ b. cond b (o ∷ os) (still_open at os)) (lt-ltb at o.exit (leb-false o.exit at h))
 
--- the innermost is taken off where it ends
+-- the innermost is taken off if it ends
 pub one_ended : (at : ℕ) (old new : List Open) (popped : Option Open) → in_innermost (λ o. nat_le o.exit at) old ≡ true
     → MatchOption popped ((old ≡ []) × (new ≡ [])) (λ o. old ≡ o ∷ new)
     → (still_open at new ≡ still_open at old) × (length new < length old)

@@ -57,7 +57,7 @@ charge_with Has text (s ∷ ts) = refl
 charge_with Matches text [] = refl
 charge_with Matches text (s ∷ ts) = refl
 
--- the most items of a range, or none where there is none
+-- the most items of a range, or none if there is none
 pub most_is : (span : Option Span) → unwrap_or (option_map (λ s. s.max) span) 0 ≡ most_items span
 most_is None = refl
 most_is (Some s) = refl

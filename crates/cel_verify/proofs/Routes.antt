@@ -47,7 +47,7 @@ module _ (image : Image) (sound : IsWalked image) (w : ℕ → ℕ) where
       let z : times_at image at * body ≤ times_at image at * path_from image w (at + 1) = mul-le-mul (omega arith) x in
       omega arith
 
-  -- the next instruction is there, but behind END
+  -- the next instruction is there, except after END
   next_inside : (at : ℕ) (i : Instr) → slice_get image.code at ≡ Some i → i ≢ End → at + 1 < length image.code
   next_inside at i h ne =
       let inside = slice_get_within image.code at i h in
@@ -84,7 +84,7 @@ module _ (image : Image) (sound : IsWalked image) (w : ℕ → ℕ) where
   targets_inside at When h t m = next at t When h (λ q. cc) m
   targets_inside at Next h t m = absurd m
 
-  -- routes from an instruction, where those further on have theirs
+  -- routes from an instruction, if those further on have theirs
   abbrev Further : ℕ → Type 0
   Further at = (t : ℕ) → at < t → t < length image.code → R t (path_from image w t)
 

@@ -1,4 +1,4 @@
--- The longest route has no more instructions than the code has for each charge of the dearest route, and one charge more.
+-- The longest route has no more instructions than the code has for each charge of the dearest route, and for one charge more.
 use Rattle.std.proofs.Common.{◌≡◌, ℕ, zero, suc, ◌+◌, ◌*◌, ◌<◌, ◌≤◌, List, [], ◌∷◌, length, Some}
 use Rattle.std.proofs.Common.{refl, ap, ◌∙◌, subst, inl, inr, arith, mul-le-mul_left}
 use Rattle.std.specs.Prelude.{slice_get}

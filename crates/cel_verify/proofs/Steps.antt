@@ -40,7 +40,7 @@ use Rattle.cel_verify.proofs.Routes.{greatest_path}
 use Rattle.cel_operators.proofs.Rows.{MadeRight, row_right, one_operand, two_operands, wider}
 use Rattle.cel_operators.proofs.RightRows.{RowRight}
 use Rattle.cel_operators.proofs.FieldRows.{row_with_right}
-use Rattle.cel_loops.proofs.Slots.{slot_fits}
+use Rattle.cel_operators.proofs.Slots.{slot_fits}
 use Rattle.cel_verify.proofs.Sides.{constant_fits, truth_side, false_side, true_side, and_fits, or_fits}
 use Rattle.cel_verify.proofs.Falling.{one_needs, two_needs, enters_is, entered_ok, no_end}
 use Rattle.cel_verify.proofs.RuleParts.{parts_at}

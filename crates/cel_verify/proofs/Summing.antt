@@ -48,7 +48,7 @@ ones_weigh n = (length-replicate n 1, λ i lt. get_or-replicate n i 1 0 lt ∙ l
     least : 1 ≡ min 1 ceiling
     least = omega arith
 
--- an instruction's sum by those behind it
+-- an instruction's sum by those after it
 sum_is : (image : Image) (sound : IsWalked image) (weigh : ℕ → ℕ) (sums : List ℕ) (at : ℕ) (i : Instr)
     → AreSums image weigh (at + 1) sums → slice_get image.code at ≡ Some i
     → min (slice_index sums at + rounds_of i (times_at image at) * slice_index sums (at + 1)

@@ -9,11 +9,11 @@ use Rattle.cel_verify.specs.Paths.{goes_to, times_at, charge_at}
 use Rattle.cel_verify.specs.Typed.{waits_at, Typed}
 use Rattle.cel_verify.specs.Walked.{ceiling, rounds_of, greatest}
 
--- from one instruction, where f tells those behind it
+-- from one instruction; f gives what is to go from those after it
 abbrev pub from_one : (ℕ → ℕ) → (ℕ → ℕ) → Instr → ℕ → (ℕ → ℕ) → ℕ
 from_one weigh times i at f = weigh at + (rounds_of i (times at) * f (at + 1) + greatest f (goes_to i at))
 
--- from each of these instructions to the end of its body, where the first has this number
+-- from each of these instructions to the end of its body; the first has this number
 abbrev pub to_go : (ℕ → ℕ) → (ℕ → ℕ) → List Instr → ℕ → List ℕ
 to_go weigh times [] at = []
 to_go weigh times (i ∷ is) at =
@@ -42,7 +42,7 @@ abbrev pub rounds : List Value → ℕ → ℕ
 rounds [] n = 0
 rounds (v ∷ vs) n = n + rounds vs n
 
--- what the open loops have still to go, where g tells what there is to go from an instruction to the end of its body
+-- what the open loops have still to go, where g gives what there is to go from an instruction to the end of its body
 abbrev pub owed : (ℕ → ℕ) → ℕ → List Frame → ℕ
 owed g waiting [] = 0
 owed g waiting (f ∷ fs) = rounds (to_come waiting f.left) (g (f.start + 1)) + g f.exit + owed g 1 fs

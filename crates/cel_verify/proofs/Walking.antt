@@ -1,5 +1,5 @@
 -- The verifier's walk over the instructions.
-use Rattle.std.proofs.Common.{◌≡◌, ℕ, zero, suc, ◌+◌, ◌<◌, ◌≤◌, true, ◌&&◌, List, ◌∷◌, [], length}
+use Rattle.std.proofs.Common.{◌≡◌, ℕ, suc, ◌+◌, ◌<◌, ◌≤◌, true, ◌&&◌, List, [], length}
 use Rattle.std.proofs.Common.{Option, Some, None, sym, ap, ◌∙◌, subst, ⊎_elim, arith, add-one}
 use Rattle.std.specs.Prelude.{slice_get}
 use Rattle.std.proofs.lemmas.Bool.{cases_lt}
@@ -7,9 +7,9 @@ use Rattle.std.proofs.lemmas.Option.{slice_get_cases}
 use Rattle.cel_code.specs.declared.instr.Instr.{Instr}
 use Rattle.cel_code.specs.declared.image.Image.{Image}
 use Rattle.cel_verify.specs.declared.fault.VerifyRule.TheVariants.{BadConstant, BadTarget, BadNesting}
-use Rattle.failing.specs.declared.failed.Failed.{Failed}
+use Rattle.base_containers.specs.declared.failed.Failed.{Failed}
 use Rattle.cel_verify.specs.declared.fault.VerifyFault.{VerifyFault}
-use Rattle.failing.specs.declared.failed.Failed.TheVariants.{OutOfMemory, Fault}
+use Rattle.base_containers.specs.declared.failed.Failed.TheVariants.{OutOfMemory, Fault}
 use Rattle.cel_verify.specs.declared.measures.Measures.{Measures}
 use Rattle.cel_verify.specs.declared.open_loop.Open.{Open}
 use Rattle.cel_verify.specs.Accepted.{IsCounted, IsRefused, Breaks}
@@ -57,7 +57,7 @@ module _ (image : Image) (at : ℕ) (here there : Label) (b : IsBefore image at 
         inside = omega arith;
       }
 
--- behind the last instruction
+-- after the last instruction
 pub past : (image : Image) (at : ℕ) → slice_get image.code at ≡ None → at ≤ length image.code → at ≡ length image.code
 past image at h le =
     let behind : length image.code ≤ at =
@@ -71,19 +71,14 @@ pub measured : (image : Image) (at : ℕ) (here : Label) (m : Measures) → slic
     → AreMeasures image at m → AreMeasures image (length image.code) m
 measured image at here m h b k = subst (λ n. AreMeasures image n m) (past image at h b.inside) k
 
-pub no_end : {X : Type 0} (xs : List X) (i : ℕ) → i < length xs → slice_get xs i ≡ None → ⊥
-no_end [] i h e = omega arith
-no_end (x ∷ xs) zero h e = cc
-no_end (x ∷ xs) (suc i) h e = no_end xs i (omega arith) e
-
--- an instruction that breaks its rule, where the counts are within their limits and END is last and alone
+-- an instruction that breaks its rule, if the counts are within their limits and END is last and alone
 pub walk_refused : (image : Image) (e : Failed VerifyFault) → IsCounted image → EndsOnce image.code → IsWalkFault image e
     → IsRefused image e
 walk_refused image OutOfMemory k n h = tt
 walk_refused image (Fault f) k n h =
     (Breaks k n h, λ a. let holds = ((walks image a.sound).each f.at h.inside).is in let broken = h.is in cc)
 
--- an instruction whose constants and jumps are there and which stands where it may
+-- an instruction whose constants and jumps are there and which is where it may be
 module _ (image : Image) (at : ℕ) (i : Instr) (ts : StackTypes) (opens : List Open) (is : slice_get image.code at ≡ Some i)
     (named : is_named image i ≡ true) (aims : (is_wanted image at && every (is_target image at) (jumps_of i)) ≡ true)
     (nested : is_nested image at i opens ≡ true) where

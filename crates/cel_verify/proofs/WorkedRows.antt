@@ -71,7 +71,7 @@ sum_cost = refl
 sum_steps : path_steps (whole (Const 0 ∷ Const 0 ∷ Op 2 ∷ End ∷ [])) ≡ 4
 sum_steps = refl
 
--- `true && true`: the left's jump joins behind the conjunction
+-- `true && true`: the left's jump joins after the conjunction
 abbrev both : Image
 both =
     record {
@@ -126,7 +126,7 @@ loop_cost = rw (assignable-refl type.Bool) refl
 into_body : is_nested (whole (Jump 3 ∷ instr.Loop 0 5 ∷ instr.Item ∷ Const 1 ∷ instr.Next ∷ End ∷ [])) 0 (Jump 3) [] ≡ false
 into_body = refl
 
--- an inner loop that ends behind the outer one
+-- an inner loop that ends after the outer one
 abbrev across : List Instr
 across =
     Const 0 ∷ instr.Loop 3 6 ∷ instr.Item ∷ instr.Loop 3 7 ∷ instr.Item ∷ instr.Next ∷ instr.Next ∷ End ∷ []
@@ -151,7 +151,7 @@ before_target : rule_at (long_side 5 (End ∷ [])) 4 (Some (Op 4)) (label_at (lo
 unfolding value.out-Value denote.Hole.Carrier.out type.out-CelType
 before_target = rw (assignable-refl type.Bool) refl
 
--- in front of another instruction it is told by itself
+-- in front of another instruction it is reported by itself
 before_other : rule_at (long_side 6 (And ∷ End ∷ [])) 4 (Some (Op 4)) (label_at (long_side 6 (And ∷ End ∷ [])) 4) ≡ Err OverBudget
 unfolding value.out-Value denote.Hole.Carrier.out type.out-CelType
 before_other = rw (assignable-refl type.Bool) refl

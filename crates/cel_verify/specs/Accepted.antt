@@ -8,8 +8,8 @@ use Rattle.cel_code.specs.declared.image.Target.{Target}
 use Rattle.cel_verify.specs.declared.fault.VerifyRule.{VerifyRule}
 use Rattle.cel_verify.specs.declared.fault.VerifyRule.TheVariants.{BadTarget, TooDeep, OverBudget}
 use Rattle.cel_verify.specs.declared.fault.VerifyFault.{VerifyFault}
-use Rattle.failing.specs.declared.failed.Failed.{Failed}
-use Rattle.failing.specs.declared.failed.Failed.TheVariants.{OutOfMemory, Fault}
+use Rattle.base_containers.specs.declared.failed.Failed.{Failed}
+use Rattle.base_containers.specs.declared.failed.Failed.TheVariants.{OutOfMemory, Fault}
 use Rattle.cel_verify.specs.Sound.{EndsOnce, IsSound, IsFirstFault}
 use Rattle.cel_verify.specs.Paths.{IsRouteCharge, IsRouteLength, IsPathCost, IsPathSteps}
 use Rattle.cel_verify.specs.Depths.{greatest_depth, greatest_nesting}
@@ -37,7 +37,7 @@ pub record IsEarlyEnd (code : List Instr) (at : ℕ) : Type 0 where
   pub early : at + 1 < length code
   pub first : (i : ℕ) → i < at → slice_get code i ≢ Some End
 
--- there is no END; it is missed at the last instruction, or at 0 where there is none
+-- there is no END; it is missed at the last instruction, or at 0 if there is none
 pub record IsMissingEnd (code : List Instr) (at : ℕ) : Type 0 where
   pub none : (i : ℕ) → slice_get code i ≢ Some End
   pub last : at ≡ length code - 1
@@ -46,8 +46,8 @@ pub record IsMissingEnd (code : List Instr) (at : ℕ) : Type 0 where
 abbrev pub IsWrongEnd : List Instr → ℕ → Type 0
 IsWrongEnd code at = IsEarlyEnd code at ⊎ IsMissingEnd code at
 
--- the number of the first entry that is no instruction's, or not above that of the entry before it, where there are so
--- many instructions and this is the least number that may come
+-- the number of the first entry that is no instruction's, or not above that of the entry before it, given so
+-- many instructions and this as the least number that may come
 abbrev pub misplaced : ℕ → ℕ → List Target → Option ℕ
 misplaced count least [] = None
 misplaced count least (e ∷ es) = if nat_le least e.at && nat_lt e.at count then misplaced count (e.at + 1) es else Some e.at
@@ -107,7 +107,7 @@ pub data IsFault (image : Image) (f : VerifyFault) : Type 0 where
   DeclaresMore : IsCounted image → IsSound image → misplaced_entry image ≡ None
       → (most : ℕ) → image.declared ≡ Some most → budget < most → f ≡ fault OverBudget (length image.code - 1) → IsFault image f
 
--- a refusal: for want of memory, or for the image's fault, with which it is not accepted
+-- a refusal: for lack of memory, or for the image's fault, with which it is not accepted
 abbrev pub IsRefused : Image → Failed VerifyFault → Type 0
 IsRefused image OutOfMemory = Unit {0}
 IsRefused image (Fault f) = IsFault image f × ¬ IsAccepted image

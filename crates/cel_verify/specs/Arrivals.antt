@@ -1,4 +1,4 @@
--- Where jumps arrive, and in which loops' bodies instructions stand, found once for the whole code.
+-- Where jumps arrive, and in which loops' bodies instructions are, found once for the whole code.
 use Rattle.std.specs.Prelude.{◌≡◌, ℕ, ◌+◌, ◌<◌, Bool, false, ◌||◌, nat_eq, List}
 use Rattle.std.specs.Prelude.{length, reverse, slice_get, slice_index, slice_index_or, Option, Some, None}
 use Rattle.cel_code.specs.declared.instr.Instr.{Instr}
@@ -24,12 +24,12 @@ pub record AreJumped (code : List Instr) (count : ℕ) (jumped : List Bool) : Ty
   pub long : length jumped ≡ count
   pub each : (at : ℕ) → at < count → slice_index_or jumped at false ≡ is_jumped code at
 
--- for each of so many instructions, the loop in whose body it stands
+-- for each of so many instructions, the loop whose body it is in
 pub record AreBodies (code : List Instr) (count : ℕ) (bodies : List (Option ℕ)) : Type 0 where
   pub long : length bodies ≡ count
   pub each : (at : ℕ) → at < count → slice_index_or bodies at None ≡ innermost code at
 
--- what is told of an image
+-- what is found of an image
 pub record AreArrivals (image : Image) (arrivals : Arrivals) : Type 0 where
   pub firsts : AreFirsts image.targets image.targets (length image.code + 1) arrivals.firsts.items
   pub jumped : AreJumped image.code (length image.code) arrivals.jumped.items

@@ -39,7 +39,7 @@ abbrev pub text_charge : TextOperator → Option (List ℕ) → StackTypes → �
 text_charge op None ts = 0
 text_charge op (Some text) ts = row_charge (row_with op text) ts
 
--- the greatest charge of an instruction at these types, where these are the constants
+-- the greatest charge of an instruction at these types, with these constants
 abbrev pub charge_of : List Value → Instr → StackTypes → ℕ
 charge_of constants (Slot n) ts = 1
 charge_of constants (Local d) ts = 1
@@ -54,12 +54,12 @@ charge_of constants (instr.Loop n exit) ts = 1
 charge_of constants Item ts = 1
 charge_of constants _ ts = 0
 
--- the greatest charge of an instruction at its types; nothing where it is not reached
+-- the greatest charge of an instruction at its types; nothing if it is not reached
 abbrev pub charge_in : List Value → Option Instr → Option StackTypes → ℕ
 charge_in constants (Some i) (Some ts) = charge_of constants i ts
 charge_in constants _ _ = 0
 
--- where an instruction may go on in the body in which it stands; a loop goes on where it leads
+-- where an instruction may go on in the body that it is in; a loop goes on where it leads
 abbrev pub goes_to : Instr → ℕ → List ℕ
 goes_to (AndTest to) at = to ∷ (at + 1) ∷ []
 goes_to (OrTest to) at = to ∷ (at + 1) ∷ []
@@ -112,7 +112,7 @@ pub data Route (weigh times : ℕ → ℕ) (code : List Instr) : ℕ → ℕ →
 abbrev pub IsRouteSum : Image → (ℕ → ℕ) → ℕ → Type 0
 IsRouteSum image weigh sum = Route weigh (times_at image) image.code 0 sum
 
--- a forward route charges this, where each instruction charges the most that it may at its label
+-- a forward route charges this, if each instruction charges the most that it may at its label
 abbrev pub IsRouteCharge : Image → ℕ → Type 0
 IsRouteCharge image charge = IsRouteSum image (charge_at image) charge
 

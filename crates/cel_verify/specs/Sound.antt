@@ -5,12 +5,12 @@ use Rattle.std.specs.Prelude.{slice_get, if◌then◌else◌, Option, Some, None
 use Rattle.cel_value.specs.declared.cel_type.CelType.{CelType}
 use Rattle.cel_value.specs.declared.cel_type.CelType as type
 use Rattle.cel_value.specs.CelType.{assignable}
-use Rattle.cel_tree.specs.declared.expr.Loop.{Loop}
-use Rattle.cel_tree.specs.declared.expr.Loop.TheVariants as loop
+use Rattle.cel_value.specs.declared.expr.Loop.{Loop}
+use Rattle.cel_value.specs.declared.expr.Loop.TheVariants as loop
 use Rattle.cel_operators.specs.Wants.{limit_of, is_there, is_truth}
 use Rattle.cel_operators.specs.declared.limit.Span.{Span}
 use Rattle.cel_operators.specs.declared.operands.Want.TheVariants.{Ranged}
-use Rattle.cel_loops.specs.Loops.{loop_type}
+use Rattle.cel_operators.specs.Loops.{loop_type}
 pub use Rattle.cel_verify.specs.declared.open_loop.Open.{Open}
 use Rattle.cel_verify.specs.Bodies.{same_body, is_item, is_next}
 use Rattle.cel_operators.specs.declared.type_rule.TypeRule.{TypeRule}
@@ -39,7 +39,7 @@ abbrev pub below_all : List Open → StackTypes
 below_all [] = []
 below_all (o ∷ os) = o.below ++ below_all os
 
--- the types above the innermost frame, where the instruction is reached, and the open loops, the innermost first
+-- the types above the innermost frame, if the instruction is reached, and the open loops, the innermost first
 pub record Label : Type 0 where
   pub types : Option StackTypes
   pub opens : List Open
@@ -99,7 +99,7 @@ is_jumped (i ∷ is) to = some_of (λ t. nat_eq t to) (jumps_of i) || is_jumped 
 abbrev pub is_wanted : Image → ℕ → Bool
 is_wanted image at = not (is_there (entry_in image.targets at)) || is_jumped image.code at
 
--- whether something holds of the innermost loop, where there is one
+-- whether there is an innermost loop and something holds of it
 abbrev pub in_innermost : (Open → Bool) → List Open → Bool
 in_innermost p [] = false
 in_innermost p (o ∷ os) = p o
@@ -109,7 +109,7 @@ abbrev pub is_map : Loop → Bool
 is_map loop.Map = true
 is_map _ = false
 
--- where an instruction of loops may stand: LOOP in front of ITEM, and it leads behind NEXT, with something between; ITEM and
+-- where an instruction of loops may be: LOOP in front of ITEM, leading to the place after NEXT, which is after ITEM; ITEM and
 -- NEXT in the body that they begin and end; WHEN in a `map`
 abbrev pub is_placed : Image → ℕ → Instr → List Open → Bool
 is_placed image at (instr.Loop n exit) opens =
@@ -119,11 +119,11 @@ is_placed image at When opens = in_innermost (λ o. is_map o.mode) opens
 is_placed image at Next opens = in_innermost (λ o. nat_eq o.exit (at + 1)) opens
 is_placed image at _ opens = true
 
--- an instruction stands where it may, and its jumps stay in the body in which it stands
+-- an instruction is where it may be, and its jumps stay in the body that it is in
 abbrev pub is_nested : Image → ℕ → Instr → List Open → Bool
 is_nested image at i opens = is_placed image at i opens && every (same_body image.code at) (jumps_of i)
 
--- the type that an operator gives, on top of those below its operands; a limit of it past the greatest is told by itself
+-- the type that an operator gives, on top of those below its operands; a limit of it past the greatest is reported by itself
 abbrev pub given : Result CelType TypeRule → StackTypes → Falls
 given (Err TooLarge) ts = Err OverBudget
 given (Err rule) ts = Err WrongKind
@@ -155,17 +155,17 @@ abbrev pub mapped_rule : Option (StackTypes × StackTypes) → Falls
 mapped_rule None = Err Underflow
 mapped_rule (Some p) = given (entries_type p.0) p.1
 
--- an operator with a text, where there is one
+-- an operator with a text, if there is one
 abbrev pub text_rule : TextOperator → Option (List ℕ) → StackTypes → Falls
 text_rule op None ts = Err BadConstant
 text_rule op (Some text) ts = row_rule (row_with op text) ts
 
--- these types may stand at an entry
+-- these types are assignable to an entry
 abbrev pub enters : Option StackTypes → StackTypes → Bool
 enters None ts = false
 enters (Some es) ts = all_assignable ts es
 
--- a side, which is a truth value where it ends the operator
+-- a side, which is a truth value if it ends the operator
 abbrev pub test_rule : Option StackTypes → StackTypes → Falls
 test_rule es [] = Err Underflow
 test_rule es (t ∷ ts) = needs (is_truth t && enters es (type.Bool ∷ ts)) WrongKind (Ok (Some (t ∷ ts)))
@@ -175,12 +175,12 @@ abbrev pub join_rule : StackTypes → Falls
 join_rule (t ∷ s ∷ ts) = needs (is_truth s && is_truth t) WrongKind (Ok (Some (type.Bool ∷ ts)))
 join_rule _ = Err Underflow
 
--- a condition, whose error goes behind both branches
+-- a condition, whose error goes after both branches
 abbrev pub cond_rule : Option StackTypes → Option StackTypes → StackTypes → Falls
 cond_rule fs es [] = Err Underflow
 cond_rule fs es (t ∷ ts) = needs (is_truth t && (enters fs ts && enters es (type.Never ∷ ts))) WrongKind (Ok (Some ts))
 
--- a jump, where all types may stand
+-- a jump, to whose entry all types are assignable
 abbrev pub jump_rule : Option StackTypes → StackTypes → Falls
 jump_rule es ts = needs (enters es ts) WrongKind (Ok None)
 
@@ -195,7 +195,7 @@ abbrev pub local_rule : Option Open → StackTypes → Falls
 local_rule None ts = Err Underflow
 local_rule (Some o) ts = Ok (Some (o.item ∷ ts))
 
--- the result of no items may stand where a loop leads; a body begins with nothing above its frame
+-- the result of no items may be used where a loop leads; a body begins with nothing above its frame
 abbrev pub empty_rule : Option StackTypes → StackTypes → Result CelType TypeRule → Falls
 empty_rule es ts (Err broken) = Err WrongKind
 empty_rule es ts (Ok s) = needs (enters es (s ∷ ts)) WrongKind (Ok (Some []))
@@ -234,7 +234,7 @@ when_rule _ = Err WrongKind
 abbrev pub span_of : Open → Span
 span_of o = record { max = o.max; item = o.item }
 
--- a loop's result may stand where it leads
+-- a loop's result may be used where it leads
 abbrev pub closing_rule : Open → Result CelType TypeRule → Falls
 closing_rule o (Err broken) = Err WrongKind
 closing_rule o (Ok s) = needs (all_assignable (s ∷ o.below) o.after) WrongKind (Ok None)
@@ -280,7 +280,7 @@ with_loop start exit (Some l) below (Some span) (Some after) opens =
     record { start = start; exit = exit; mode = l; item = span.item; max = span.max; below = below; after = after } ∷ opens
 with_loop start exit l below _ _ opens = opens
 
--- the open loops behind an instruction, before any of them ends
+-- the open loops after an instruction, before any of them ends
 abbrev pub opening : Image → ℕ → Option Instr → Option StackTypes → List Open → List Open
 opening image at (Some (instr.Loop n exit)) (Some (t ∷ ts)) opens =
     with_loop at exit (loop_kind n) ts (limit_of Ranged t) (entry_in image.targets exit) opens
@@ -291,12 +291,12 @@ abbrev pub still_open : ℕ → List Open → List Open
 still_open at [] = []
 still_open at (o ∷ os) = if nat_lt at o.exit then o ∷ os else still_open at os
 
--- what a rule makes of the types, where there are some
+-- what a rule makes of the types, if there are some
 abbrev pub on_types : Option StackTypes → (StackTypes → Falls) → Falls
 on_types None f = Err BadTarget
 on_types (Some ts) f = f ts
 
--- what an instruction makes of the types at its label, where it is reached
+-- what an instruction makes of the types at its label, if it is reached
 abbrev pub made : Image → Instr → Label → Falls
 made image i l = on_types l.types (typed_rule image i l.opens)
 
@@ -311,7 +311,7 @@ untyped (Some es) (Err OverBudget) = Some WrongKind
 untyped entry (Err broken) = Some broken
 untyped entry (Ok next) = None
 
--- what goes on may stand at the next instruction's entry, if there is one
+-- what goes on is assignable to the next instruction's entry, if there is one
 abbrev pub may_stand : Option StackTypes → Falls → Bool
 may_stand (Some es) (Ok (Some ts)) = all_assignable ts es
 may_stand _ _ = true
@@ -334,13 +334,13 @@ faults image at i l =
     ∷ unless (is_shallow (opening image at (Some i) l.types l.opens) (made image i l)) TooDeep
     ∷ []
 
--- the first fault of these, or what goes on where there is none
+-- the first fault of these, or what goes on if there is none
 abbrev pub first_of : List (Option VerifyRule) → Option StackTypes → Falls
 first_of [] next = Ok next
 first_of (None ∷ fs) next = first_of fs next
 first_of (Some broken ∷ fs) next = Err broken
 
--- what goes on, where there is no fault
+-- what goes on, if there is no fault
 abbrev pub fallen : Falls → Option StackTypes
 fallen (Ok next) = next
 fallen (Err broken) = None
@@ -363,7 +363,7 @@ entry_or None o = o
 abbrev pub opens_after : Image → ℕ → Option Instr → Label → List Open
 opens_after image at o l = still_open (suc at) (opening image at o l.types l.opens)
 
--- END is the last instruction and stands nowhere else
+-- END is the last instruction and is nowhere else
 pub record EndsOnce (code : List Instr) : Type 0 where
   pub last : ℕ
   pub long : length code ≡ last + 1
@@ -386,12 +386,12 @@ pub record Leads (image : Image) (at : ℕ) (here there : Reached) : Type 0 wher
   pub types : at + 1 < length image.code → entry_or (entry_in image.targets (at + 1)) next ≡ Some there.types
   pub opens : opens_after image at (slice_get image.code at) (reached_label here) ≡ there.opens
 
--- a label for each instruction, where each leads to the next
+-- a label for each instruction; each leads to the next
 pub record IsLabelling (image : Image) (label : ℕ → Reached) : Type 0 where
   pub first : label 0 ≡ record { types = []; opens = [] }
   pub each : (at : ℕ) → at < length image.code → Leads image at (label at) (label (at + 1))
 
--- a sound image: END is last and alone, and there is a label for each instruction, where each leads to the next
+-- a sound image: END is last and alone, and there is a label for each instruction; each leads to the next
 pub record IsSound (image : Image) : Type 0 where
   pub ends : EndsOnce image.code
   pub label : ℕ → Reached

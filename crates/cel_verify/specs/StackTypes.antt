@@ -12,7 +12,7 @@ use Rattle.cel_operators.specs.Outcomes.{Outcome, outcome_fits}
 abbrev pub StackTypes : Type 0
 StackTypes = List CelType
 
--- whether what has the first types may stand where the second are asked
+-- whether what has the first types may be used where the second are required
 abbrev pub all_assignable : StackTypes → StackTypes → Bool
 all_assignable [] [] = true
 all_assignable (s ∷ ss) (t ∷ ts) = assignable s t && all_assignable ss ts
@@ -41,7 +41,7 @@ constant_type_at (Value-F.Uint n) = Some type.Uint
 constant_type_at (Value-F.Text bytes) = text_type bytes
 constant_type_at _ = None
 
--- the type of a constant, where there is one and its value may be one
+-- the type of a constant, if there is one and its value may be one
 abbrev pub constant_type : Option Value → Option CelType
 constant_type None = None
 constant_type (Some v) = constant_type_at (out-Value v)

@@ -4,7 +4,7 @@ use Rattle.std.specs.List.{list_all}
 use Rattle.cel_value.specs.declared.cel_type.CelType.{CelType}
 use Rattle.cel_value.specs.declared.cel_type.CelType as type
 use Rattle.cel_value.specs.CelType.{fits, assignable}
-use Rattle.cel_loops.specs.Loops.{loop_type, result_of}
+use Rattle.cel_operators.specs.Loops.{loop_type, result_of}
 use Rattle.cel_code.specs.declared.instr.Instr.{Instr}
 use Rattle.cel_code.specs.declared.instr.Instr.TheVariants.{Item}
 use Rattle.cel_code.specs.declared.image.Image.{Image}
@@ -23,7 +23,7 @@ types_at image at = (label_at image at).types
 abbrev pub opens_at : Image → ℕ → List Open
 opens_at image at = (label_at image at).opens
 
--- 0 where the present item is still to be taken, and else 1
+-- 0 if the present item is still to be taken, otherwise 1
 abbrev pub waits : Option Instr → ℕ
 waits (Some Item) = 0
 waits _ = 1
@@ -50,7 +50,7 @@ pub record LoopStands (image : Image) (o : Open) (os : List Open) : Type 0 where
   pub empty : (s : CelType) → loop_type o.mode no_items type.Never ≡ Ok s → assignable s top ≡ true
 
 -- a frame that fits an open loop: its items are of the loop's type, no more than it may have, and the result of what is
--- gathered may stand where the loop leads
+-- gathered may be used where the loop leads
 pub record FrameFits (image : Image) (waiting : ℕ) (f : Frame) (o : Open) (os : List Open) : Type 0 where
   pub start : f.start ≡ o.start
   pub exit : f.exit ≡ o.exit

@@ -5,11 +5,11 @@ use Rattle.std.specs.Prelude.{slice_get, slice_index, reverse, ◌∷◌, Option
 use Rattle.cel_value.specs.declared.cel_type.CelType.{CelType}
 use Rattle.cel_value.specs.declared.cel_type.CelType as type
 use Rattle.cel_value.specs.declared.value.Value.{Value}
-use Rattle.cel_tree.specs.declared.expr.Loop.{Loop}
+use Rattle.cel_value.specs.declared.expr.Loop.{Loop}
 use Rattle.cel_operators.specs.Wants.{limit_of}
 use Rattle.cel_operators.specs.declared.limit.Span.{Span}
 use Rattle.cel_operators.specs.declared.operands.Want.TheVariants.{Ranged}
-use Rattle.cel_loops.specs.Loops.{loop_type}
+use Rattle.cel_operators.specs.Loops.{loop_type}
 use Rattle.cel_code.specs.declared.instr.Instr.{Instr}
 use Rattle.cel_code.specs.declared.instr.Instr.TheVariants as instr
 use Rattle.cel_code.specs.declared.instr.Instr.TheVariants.{End}
@@ -18,10 +18,10 @@ use Rattle.cel_code.specs.LoopNumbers.{loop_kind}
 use Rattle.cel_operators.specs.Operators.{Row, type_of_one, type_of_two, greatest_of_one, greatest_of_two}
 use Rattle.cel_verify.specs.declared.fault.VerifyRule.{VerifyRule}
 use Rattle.cel_verify.specs.declared.fault.VerifyRule.TheVariants.{Underflow, WrongKind, TooDeep, OverBudget}
-use Rattle.failing.specs.declared.failed.Failed.{Failed}
-use Rattle.failing.specs.Failures.{Fails}
+use Rattle.base_containers.specs.declared.failed.Failed.{Failed}
+use Rattle.base_containers.specs.Failures.{Fails}
 use Rattle.cel_verify.specs.declared.fault.VerifyFault.{VerifyFault}
-use Rattle.failing.specs.declared.failed.Failed.TheVariants.{OutOfMemory, Fault}
+use Rattle.base_containers.specs.declared.failed.Failed.TheVariants.{OutOfMemory, Fault}
 use Rattle.cel_verify.specs.StackTypes.{StackTypes, all_assignable}
 use Rattle.cel_verify.specs.declared.open_loop.Open.{Open}
 use Rattle.cel_verify.specs.declared.measures.Measures.{Measures}
@@ -74,19 +74,19 @@ pub record Advances (image : Image) (at : ℕ) (here there : Label) : Type 0 whe
   pub entry : entry_or (entry_in image.targets (at + 1)) next ≡ there.types
   pub opens : still_open (at + 1) (opening image at (slice_get image.code at) here.types here.opens) ≡ there.opens
 
--- what goes on, where it may stand at an entry; what has a limit past the greatest is assignable to no entry
+-- what goes on, if it is assignable to an entry; what has a limit past the greatest is assignable to no entry
 abbrev pub entered : Option StackTypes → Falls → Falls
 entered (Some es) (Ok (Some ts)) = needs (all_assignable ts es) WrongKind (Ok (Some ts))
 entered (Some es) (Err OverBudget) = Err WrongKind
 entered _ r = r
 
--- what goes on, where it is no deeper than the stack may be and no more loops are open than may be
+-- what goes on, if it is no deeper than the stack may be and no more loops are open than may be
 abbrev pub shallow : List Open → Falls → Falls
 shallow opens (Ok (Some ts)) =
     needs (nat_le (length ts + length (below_all opens)) max_depth && nat_le (length opens) max_loops) TooDeep (Ok (Some ts))
 shallow opens r = r
 
--- what goes on to an instruction among these open loops, where it may stand there and is no deeper than the stack may be
+-- what goes on to an instruction among these open loops, if it may arrive there and is no deeper than the stack may be
 abbrev pub arrived : Image → ℕ → List Open → Falls → Falls
 arrived image to opens falls = shallow opens (entered (entry_in image.targets to) falls)
 
@@ -95,7 +95,7 @@ abbrev pub Arrives : Image → ℕ → List Open → Option StackTypes → Optio
 Arrives image to opens falls there =
     (arrived image to opens (Ok falls) ≡ Ok falls) × (entry_or (entry_in image.targets to) falls ≡ there)
 
--- no types may stand at an entry, and are what is there then
+-- a stack of no types may arrive at an entry, and is what is there then
 pub record TakesNone (entry : Option StackTypes) : Type 0 where
   pub stand : entered entry (Ok (Some [])) ≡ Ok (Some [])
   pub there : entry_or entry (Some []) ≡ Some []
@@ -119,12 +119,12 @@ pub record IsRange (ts : StackTypes) (span : Span) (below : StackTypes) : Type 0
   pub is : ts ≡ top ∷ below
   pub ranged : limit_of Ranged top ≡ Some span
 
--- the types where a loop leads, where its result of no items, on top of these types, may stand there
+-- the types where a loop leads, if its result of no items, on top of these types, may be used there
 pub record Awaits (image : Image) (l : Loop) (exit : ℕ) (below after : StackTypes) : Type 0 where
   pub entry : entry_in image.targets exit ≡ Some after
   pub holds : empty_rule (Some after) below (loop_type l no_items type.Never) ≡ Ok (Some [])
 
--- the loop that begins at an instruction, where its rule holds at these types
+-- the loop that begins at an instruction, if its rule holds at these types
 pub record Begins (image : Image) (at n exit : ℕ) (ts : StackTypes) (o : Open) : Type 0 where
   pub holds : kind_rule (loop_kind n) (entry_in image.targets exit) ts ≡ Ok (Some [])
   pub opens : (opens : List Open) → opening image at (Some (instr.Loop n exit)) (Some ts) opens ≡ o ∷ opens
@@ -178,17 +178,17 @@ IsWalkFault image (Fault f) = IsFirstFault image f.at f.rule
 abbrev pub NoEndBefore : List Instr → ℕ → Type 0
 NoEndBefore code n = (i : ℕ) → i < n → slice_get code i ≡ Some End → ⊥
 
--- the greatest of what f tells of these; nothing where there are none
+-- the greatest of what f gives for these; 0 if there are none
 abbrev pub greatest : (ℕ → ℕ) → List ℕ → ℕ
 greatest f [] = 0
 greatest f (t ∷ ts) = max (f t) (greatest f ts)
 
--- how often the instructions behind an instruction count, as the body of a loop that begins there
+-- how often the instructions after an instruction count, as the body of a loop that begins there
 abbrev pub rounds_of : Instr → ℕ → ℕ
 rounds_of (instr.Loop n exit) times = times
 rounds_of _ times = 0
 
--- the greatest sum of what comes behind an instruction, by the sums from each: its body so many times, and where it goes
+-- the greatest sum of what comes after an instruction, by the sums from each: its body so many times, and where it goes
 abbrev pub behind : List ℕ → ℕ → Instr → ℕ → ℕ
 behind sums times i at = rounds_of i times * slice_index sums (at + 1) + greatest (λ t. slice_index sums t) (goes_to i at)
 

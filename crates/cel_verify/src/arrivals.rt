@@ -6,20 +6,20 @@ use crate::bodies::bodies;
 use cel_code::{Image, Instr, Target};
 use std::alloc::{AllocError, Global};
 
-/// Where jumps arrive, and in which loops' bodies instructions stand, found once for the whole code.
+/// Where jumps arrive, and in which loops' bodies instructions are, found once for the whole code.
 #[derive(Drop)]
 pub struct Arrivals {
-    /// For each instruction, and for one place behind them, which target is its first; where it has none, how many
+    /// For each instruction, and for one place after them, which target is its first; if it has none, how many
     /// targets there are.
     pub firsts: Vec<usize>,
     /// For each instruction, whether another jumps to it.
     pub jumped: Vec<bool>,
-    /// For each instruction, the number of the loop in whose body it stands.
+    /// For each instruction, the number of the loop whose body it is in.
     pub bodies: Vec<Option<usize>>,
 }
 
 impl Arrivals {
-    /// Where jumps arrive in an image, and in which loops' bodies its instructions stand.
+    /// Where jumps arrive in an image, and in which loops' bodies its instructions are.
     pub fn new(alloc: Global, image: &Image) -> Result<Arrivals, AllocError>
         ensures { IfOk result (λ arrivals. AreArrivals image.now arrivals) }
     {

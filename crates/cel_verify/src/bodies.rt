@@ -1,4 +1,4 @@
-//! In which loops' bodies instructions stand.
+//! In which loops' bodies instructions are.
 
 ghost use Rattle.std.specs.Prelude.{◌≡◌, ◌+◌, ◌<◌, ◌^◌, None, length, slice_get, slice_index_or, IfOk};
 ghost use Rattle.cel_verify.specs.Bodies.{innermost, leads_behind as is_behind};
@@ -7,7 +7,7 @@ ghost use Rattle.cel_verify.specs.Arrivals.{AreBodies};
 use cel_code::Instr;
 use std::alloc::{AllocError, Global};
 
-/// For each instruction, the number of the loop in whose body it stands: the last one before it that leads behind it.
+/// For each instruction, the number of the loop whose body it is in: the last one before it that leads past it.
 pub fn bodies(alloc: Global, code: &[Instr]) -> Result<Vec<Option<usize>>, AllocError>
     ensures { IfOk result (λ bodies. AreBodies code.now (length code.now) bodies.items) }
 {
@@ -20,7 +20,7 @@ pub fn bodies(alloc: Global, code: &[Instr]) -> Result<Vec<Option<usize>>, Alloc
     Ok(bodies)
 }
 
-// The loop in whose body the instruction behind one stands. It is that one itself, or the first that leads so far of the
+// The loop whose body the instruction after one is in. It is that one itself, or the first that leads so far of the
 // loops around it: what ends between an instruction and a loop around it ends before the next instruction too.
 fn next_body(code: &[Instr], bodies: &[Option<usize>], at: usize) -> Option<usize>
     requires room { at + 1 < 2 ^ 64 }
@@ -37,7 +37,7 @@ fn next_body(code: &[Instr], bodies: &[Option<usize>], at: usize) -> Option<usiz
     Some(start)
 }
 
-// Whether an instruction begins a loop that leads behind another.
+// Whether an instruction begins a loop that leads past another.
 fn leads_behind(code: &[Instr], start: usize, at: usize) -> bool
     ensures { result ≡ is_behind (slice_get code.now start) at }
 {
@@ -47,7 +47,7 @@ fn leads_behind(code: &[Instr], start: usize, at: usize) -> bool
     }
 }
 
-/// The loop that is told for an instruction, if there is one.
+/// The loop that is found for an instruction, if there is one.
 pub fn body_at(bodies: &[Option<usize>], at: usize) -> Option<usize>
     ensures { result ≡ slice_index_or bodies.now at None }
 {

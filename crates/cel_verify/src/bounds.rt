@@ -1,4 +1,4 @@
-//! The bounds that are told of an accepted image.
+//! The bounds of an accepted image.
 
 /// What no run passes.
 #[derive(Clone, Copy)]

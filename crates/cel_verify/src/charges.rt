@@ -14,7 +14,7 @@ use cel_code::{Image, Instr};
 use cel_operators::{Operands, Operator, TextOperator, greatest_of_one, greatest_of_two};
 use cel_value::CelType;
 
-/// The greatest charge of an instruction at the types of the stack; nothing where it is not reached.
+/// The greatest charge of an instruction at the types of the stack; nothing if it is not reached.
 pub fn charge(image: &Image, instr: Instr, label: &Option<TypeStack>) -> u64
     ensures { result ≡ min (charge_in image.now.constants (Some instr) label.now) (2 ^ 64 - 1) }
 {

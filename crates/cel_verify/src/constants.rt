@@ -5,7 +5,7 @@ ghost use Rattle.cel_verify.specs.StackTypes.{constant_type, text_type};
 use cel_code::Image;
 use cel_value::{CelType, Value, code_points};
 
-/// The type of a constant, where there is one and its value may be one: null, a truth value, a number or a text.
+/// The type of a constant, if there is one and its value may be one: null, a truth value, a number or a text.
 pub fn constant_type(image: &Image, number: usize) -> Option<CelType>
     ensures { result ≡ constant_type (slice_get image.now.constants number) }
 {

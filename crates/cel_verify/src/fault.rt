@@ -1,4 +1,4 @@
-use failing::Failed;
+use base_containers::Failed;
 use std::fmt;
 
 /// Which rule of the verifier an image breaks.

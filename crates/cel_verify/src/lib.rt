@@ -1,4 +1,4 @@
-//! Tells which images run without a missing operand, an operand of a wrong kind or a charge past the budget.
+//! Decides which images run without a missing operand, an operand of a wrong kind or a charge past the budget.
 //!
 //! [`verify`] makes a [`Program`] of an image, or answers the first rule that the image breaks.
 #![tactic(auto)]

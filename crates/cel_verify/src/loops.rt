@@ -1,10 +1,10 @@
 //! The rules of the instructions of loops.
 
 ghost use Rattle.std.specs.Prelude.{◌≡◌, ◌<◌, ◌∷◌, [], true, Option, Some, Ok, MatchResult, length, reverse, slice_get};
-ghost use Rattle.failing.specs.Failures.{Fails};
+ghost use Rattle.base_containers.specs.Failures.{Fails};
 ghost use Rattle.cel_value.specs.declared.cel_type.CelType as type;
-ghost use Rattle.cel_tree.specs.declared.expr.Loop.{Loop as LoopKind};
-ghost use Rattle.cel_loops.specs.Loops.{loop_type as type_of_loop};
+ghost use Rattle.cel_value.specs.declared.expr.Loop.{Loop as LoopKind};
+ghost use Rattle.cel_operators.specs.Loops.{loop_type as type_of_loop};
 ghost use Rattle.cel_code.specs.LoopNumbers.{loop_kind as kind_of_loop};
 ghost use Rattle.cel_verify.specs.declared.fault.VerifyRule.TheVariants.{WrongKind};
 ghost use Rattle.cel_verify.specs.StackTypes.{StackTypes, all_assignable};
@@ -20,10 +20,8 @@ use crate::opens::Opens;
 use crate::targets::entry;
 use crate::type_stack::TypeStack;
 use cel_code::{Image, loop_kind};
-use cel_loops::loop_type;
-use cel_operators::{Span, Untyped, is_truth, span_of};
-use cel_tree::Loop;
-use cel_value::CelType;
+use cel_operators::{Span, Untyped, is_truth, loop_type, span_of};
+use cel_value::{CelType, Loop};
 use std::alloc::Global;
 
 /// The item of an open loop, on top.
@@ -97,7 +95,7 @@ fn closing(alloc: Global, around: &Open, body: &CelType) -> Result<Option<TypeSt
     }
 }
 
-// A loop's result may stand where it leads.
+// A loop's result may be used where it leads.
 fn leads_on(around: &Open, answer: &CelType) -> Result<Option<TypeStack>, Refusal>
     ensures { Follows result (closing_rule around.now (Ok answer.now)) }
 {
@@ -155,7 +153,7 @@ fn range_taken(alloc: Global, types: &mut TypeStack) -> Result<Span, Refusal>
     }
 }
 
-// The types where a loop leads, where its result of no items may stand there.
+// The types where a loop leads, if its result of no items may be used there.
 fn awaited(
     alloc: Global,
     image: &Image,
@@ -180,7 +178,7 @@ fn awaited(
     }
 }
 
-// The types of an entry, where a type on top of these may stand there.
+// The types of an entry, if these with a type on top are assignable to it.
 fn taken_in(
     alloc: Global,
     below: &TypeStack,

@@ -2,10 +2,8 @@
 
 ghost use Rattle.std.specs.Prelude.{◌≡◌, ◌+◌, ◌-◌, ◌^◌, ◌<◌, min, [], ◌∷◌, ◌++◌, length, reverse, IfOk, MatchOption};
 ghost use Rattle.cel_operators.specs.Lists.{join_all};
-ghost use Rattle.cel_operators.specs.Maps.{entries_type, key_limit, key_greatest, keys_by_turns, values_by_turns};
-ghost use Rattle.failing.specs.Failures.{Answers};
-ghost use Rattle.cel_operators.specs.declared.operands.Want.TheVariants.{Characters};
-ghost use Rattle.cel_operators.specs.Wants.{limit_of};
+ghost use Rattle.cel_operators.specs.Maps.{entries_type, key_limit, keys_by_turns, values_by_turns};
+ghost use Rattle.base_containers.specs.Failures.{Answers};
 ghost use Rattle.cel_code.specs.Machine.{taken_off};
 ghost use Rattle.cel_verify.specs.Sound.{mapped_rule, given as given_rule};
 ghost use Rattle.cel_verify.specs.Paths.{mapped_charge};
@@ -15,8 +13,8 @@ use crate::fault::{Refusal, VerifyRule};
 use crate::list_rule::taken_off;
 use crate::rules::given;
 use crate::type_stack::TypeStack;
-use cel_operators::{Untyped, greater_limit, join_next, map_type, text_limit};
-use cel_value::{CelType, tenths};
+use cel_operators::{Untyped, greater_limit, greatest_of_key, join_next, map_type, text_limit};
+use cel_value::CelType;
 use std::alloc::{AllocError, Global};
 
 /// The rule of a map of so many keys and values at the types of the stack.
@@ -59,7 +57,7 @@ fn entries_type(alloc: Global, entries: &[CelType]) -> Result<CelType, Untyped>
     map_type(alloc, entries.len() / 2, key_limit(entries), joined)
 }
 
-// The most code points of a key, where all keys are texts.
+// The most code points of a key, if all keys are texts.
 fn key_limit(entries: &[CelType]) -> Option<u32>
     ensures { result ≡ key_limit (keys_by_turns (reverse entries.now)) }
 {
@@ -96,21 +94,11 @@ pub fn map_charge(count: usize, types: &[CelType]) -> u64
         let Some((below, key, _)) = last_two(rest) else {
             return 0;
         };
-        charge = charge.saturating_add(key_charge(key));
+        charge = charge.saturating_add(greatest_of_key(key));
         rest = below;
         left -= 1;
     }
     charge
-}
-
-// The greatest charge for a key of a type.
-fn key_charge(key: &CelType) -> u64
-    ensures { result ≡ key_greatest (limit_of Characters key.now) }
-{
-    match text_limit(key) {
-        Some(max) => 1 + tenths(u64::from(max)),
-        None => 0,
-    }
 }
 
 // The last two of several types, and those before them.

@@ -61,7 +61,7 @@ impl Measures {
     }
 }
 
-// How many operands there are above the innermost frame, where the instruction is reached.
+// How many operands there are above the innermost frame, if the instruction is reached.
 fn operands(label: &Option<TypeStack>) -> usize
     ensures { result ≡ operands_of label.now }
 {
@@ -71,7 +71,7 @@ fn operands(label: &Option<TypeStack>) -> usize
     }
 }
 
-// The most items of the range on top; nothing where there is none, or the instruction is not reached.
+// The most items of the range on top; nothing if there is none, or the instruction is not reached.
 fn times(label: &Option<TypeStack>) -> u32
     ensures { result ≡ items_on_top label.now }
 {

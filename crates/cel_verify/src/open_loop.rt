@@ -1,7 +1,6 @@
 use crate::type_stack::TypeStack;
-use cel_tree::Loop;
-use cel_value::CelType;
-use plain::Shared;
+use base_containers::Shared;
+use cel_value::{CelType, Loop};
 
 /// A loop that is open at an instruction.
 #[derive(Drop)]

@@ -12,7 +12,7 @@ use std::marker::Model;
 #[derive(Drop)]
 pub struct Opens {
     items: Vec<Open>,
-    // How many operands stand below them, down to the bottom of the stack.
+    // How many operands are below them, down to the bottom of the stack.
     below: usize,
 }
 
@@ -72,7 +72,7 @@ impl Opens {
         self.items.len()
     }
 
-    /// How many operands stand below them, down to the bottom of the stack.
+    /// How many operands are below them, down to the bottom of the stack.
     pub fn below(&self) -> usize
         ensures { result ≡ length (below_all self.now) }
     {

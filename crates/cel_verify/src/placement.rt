@@ -1,4 +1,4 @@
-//! Where instructions of loops may stand, and how far jumps may go among loops.
+//! Where instructions of loops may be, and how far jumps may go among loops.
 
 ghost use Rattle.std.specs.Prelude.{◌≡◌, ◌+◌, ◌-◌, ◌<◌, ◌^◌, ◌&&◌, None, length, nat_eq, nat_lt, slice_get, slice_index_or};
 ghost use Rattle.std.specs.List.{AllByRecursion};
@@ -10,9 +10,9 @@ use crate::arrivals::Arrivals;
 use crate::bodies::{body_at, instr_at};
 use crate::opens::Opens;
 use cel_code::{Image, Instr};
-use cel_tree::Loop;
+use cel_value::Loop;
 
-/// Whether an instruction stands where it may, and its jumps stay in the body in which it stands.
+/// Whether an instruction is where it may be, and its jumps stay in the body that it is in.
 pub fn is_nested(image: &Image, arrivals: &Arrivals, at: usize, instr: Instr, opens: &Opens) -> bool
     requires known { AreArrivals image.now arrivals.now }
     requires inside { at < length image.now.code }
@@ -26,7 +26,7 @@ pub fn is_nested(image: &Image, arrivals: &Arrivals, at: usize, instr: Instr, op
     has_near_jumps(arrivals.bodies.as_slice(), at, instr)
 }
 
-// Whether an instruction's jumps stay in the body in which it stands.
+// Whether an instruction's jumps stay in the body that it is in.
 fn has_near_jumps(bodies: &[Option<usize>], at: usize, instr: Instr) -> bool
     ensures { result ≡ every (λ to. same_loop (slice_index_or bodies.now at None) (slice_index_or bodies.now to None)) (jumps_of instr) }
 {
@@ -57,7 +57,7 @@ fn is_same_loop(left: Option<usize>, right: Option<usize>) -> bool
     }
 }
 
-// Whether an instruction of loops stands where it may.
+// Whether an instruction of loops is where it may be.
 fn is_placed(image: &Image, at: usize, instr: Instr, opens: &Opens) -> bool
     requires room { at + 1 < 2 ^ 64 }
     ensures { result ≡ is_placed image.now at instr opens.now }
@@ -71,7 +71,7 @@ fn is_placed(image: &Image, at: usize, instr: Instr, opens: &Opens) -> bool
     }
 }
 
-// Whether a loop's ITEM stands behind it, and its NEXT where it ends, with something between.
+// Whether a loop's ITEM is right after it, and its NEXT where it ends, which is after ITEM.
 fn is_framed(code: &[Instr], at: usize, exit: usize) -> bool
     requires room { at + 1 < 2 ^ 64 }
     ensures { result ≡ (begins_body (slice_get code.now (at + 1)) && (ends_body (slice_get code.now (exit - 1)) && nat_lt (at + 2) exit)) }
@@ -92,7 +92,7 @@ fn is_next(instr: Option<Instr>) -> bool
     matches!(instr, Some(Instr::Next))
 }
 
-// Whether two instructions stand between.
+// Whether there are at least two instructions between.
 fn is_room(at: usize, exit: usize) -> bool
     ensures { result ≡ nat_lt (at + 2) exit }
 {

@@ -1,5 +1,5 @@
 ghost use Rattle.std.specs.Prelude.{◌≡◌, ◌↔◌, ◌≤◌, ℕ, true, List, IsTrue, Some, Err, IfOk, IfErr, MatchOption, MatchResult, length};
-ghost use Rattle.failing.specs.declared.failed.Failed.TheVariants as failed;
+ghost use Rattle.base_containers.specs.declared.failed.Failed.TheVariants as failed;
 ghost use Rattle.cel_operators.specs.Outcomes.{Outcome, slots_fit};
 ghost use Rattle.cel_verify.specs.Sound.{EndsOnce, IsSound, IsWalked, max_depth as most_operands, max_loops as most_loops};
 ghost use Rattle.cel_verify.specs.Paths.{HasGreatest, IsRouteCharge, IsRouteLength, IsPathCost, IsPathSteps};
@@ -96,7 +96,7 @@ impl Program {
     }
 }
 
-/// The program of an image, exactly where the image is accepted; else the first fault, and the image.
+/// The program of an image, exactly if the image is accepted; otherwise the first fault, and the image.
 ///
 /// An accepted image is labelled by the types of its stack and its open loops, its dearest route charges no more than the
 /// budget, nor than the image declares, which is within the budget, and the machine is never stuck in it: each run ends within as
@@ -184,7 +184,7 @@ fn is_counted(image: &Image) -> bool
         && image.targets.len() <= MAX_COUNT
 }
 
-// Where an END stands that is not the last instruction, or is missed.
+// Where an END is that is not the last instruction, or where it is missed.
 fn wrong_end(code: &[Instr]) -> Option<usize>
     ensures { MatchOption result (EndsOnce code.now) (λ at. IsWrongEnd code.now at) }
 {

@@ -121,7 +121,7 @@ fn operation_on_two(
     given_of_two(alloc, op, &s, &t, types)
 }
 
-// An operator with a text, where there is one.
+// An operator with a text, if there is one.
 fn with_text(
     image: &Image,
     op: TextOperator,
@@ -186,7 +186,7 @@ pub fn given(
     }
 }
 
-// Whether these types may stand where a jump arrives.
+// Whether these types may be used where a jump arrives.
 fn enters(image: &Image, arrivals: &Arrivals, to: usize, types: &TypeStack) -> bool
     requires known { AreArrivals image.now arrivals.now }
     requires inside { to < length image.now.code }

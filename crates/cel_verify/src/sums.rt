@@ -7,8 +7,8 @@ ghost use Rattle.cel_verify.specs.Walked.{AreTimes, AreWeights, IsCapped, behind
 
 use cel_code::{Image, Instr};
 
-/// The greatest sum of the weights of a route from the first instruction on, where a loop's body counts so many times, or
-/// the greatest number where it is more.
+/// The greatest sum of the weights of a route from the first instruction on, with a loop's body counted so many times, or
+/// the greatest number if it is more.
 pub fn path_sum(image: &Image, weights: Vec<u64>, times: &[u32]) -> u64
     requires sound { IsSound image.now }
     requires weighed { length weights.items ≡ length image.now.code }
@@ -29,7 +29,7 @@ pub fn path_sum(image: &Image, weights: Vec<u64>, times: &[u32]) -> u64
     sum_at(sums.as_slice(), 0)
 }
 
-// The greatest sum of what comes behind an instruction: the rounds of its body, if it begins a loop, and where it goes then.
+// The greatest sum of what comes after an instruction: the rounds of its body, if it begins a loop, and where it goes then.
 fn sum_behind(sums: &[u64], times: u32, instr: Instr, at: usize) -> u64
     requires { at + 1 < 2 ^ 64 }
     ensures { result ≡ min (behind sums.now times instr at) (2 ^ 64 - 1) }
@@ -38,7 +38,7 @@ fn sum_behind(sums: &[u64], times: u32, instr: Instr, at: usize) -> u64
     body.saturating_add(greatest_at(sums, instr, at))
 }
 
-// How often what comes behind an instruction counts as the body of a loop.
+// How often what comes after an instruction counts as the body of a loop.
 fn rounds(instr: Instr, times: u32) -> u64
     ensures { result ≡ rounds_of instr times }
 {
@@ -48,7 +48,7 @@ fn rounds(instr: Instr, times: u32) -> u64
     }
 }
 
-// The greatest sum of where an instruction may go in the body in which it stands.
+// The greatest sum of where an instruction may go in the body that it is in.
 fn greatest_at(sums: &[u64], instr: Instr, at: usize) -> u64
     requires { at + 1 < 2 ^ 64 }
     ensures { result ≡ greatest (λ t. slice_index sums.now t) (goes_to instr at) }

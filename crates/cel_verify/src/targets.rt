@@ -11,7 +11,7 @@ use cel_code::{Image, Instr, loop_kind};
 use cel_operators::Operator;
 use cel_value::CelType;
 
-/// The types where jumps arrive at an instruction, or behind the last one, the bottom first.
+/// The types where jumps arrive at an instruction, or after the last one, the bottom first.
 pub fn entry<'a>(image: &'a Image, arrivals: &Arrivals, at: usize) -> Option<&'a [CelType]>
     requires known { AreArrivals image.now arrivals.now }
     requires inside { at ≤ length image.now.code }

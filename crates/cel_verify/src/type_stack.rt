@@ -68,7 +68,7 @@ impl TypeStack {
         self.items.as_slice()
     }
 
-    /// Whether what has these types may stand where the others are asked, which are given with the bottom first.
+    /// Whether what has these types may be used where the others are required, which are given with the bottom first.
     pub fn fits(&self, entry: &[CelType]) -> bool
         ensures { result ≡ all_assignable self.now (reverse entry.now) }
     {

@@ -1,7 +1,7 @@
 ghost use Rattle.std.specs.Prelude.{◌≡◌, ◌+◌, ◌<◌, ◌≤◌, ◌^◌, ◌||◌, ◌∷◌, [], Some, Ok, Err, false, IsTrue, IfOk, MatchResult};
 ghost use Rattle.std.specs.Prelude.{length, nat_lt, slice_get};
 ghost use Rattle.std.specs.List.{AllByRecursion};
-ghost use Rattle.failing.specs.Failures.{Fails};
+ghost use Rattle.base_containers.specs.Failures.{Fails};
 ghost use Rattle.cel_verify.specs.Sound.{entry_in, jumps_of, max_depth as most_operands, max_loops as most_loops};
 ghost use Rattle.cel_verify.specs.Arrivals.{AreArrivals};
 ghost use Rattle.cel_verify.specs.Walked.{Advances, AllHold, AreMeasures, IsWalkFault, Arrives, Passes, TakesNone};
@@ -116,7 +116,8 @@ fn pass(
     }
 }
 
-// The rule that is told in front of an instruction, where one is broken. What has a limit past the greatest may stand at no entry.
+// The rule that is reported in front of an instruction, if one is broken.
+// What has a limit past the greatest is assignable to no entry.
 fn told_at(image: &Image, arrivals: &Arrivals, to: usize, broken: VerifyRule) -> VerifyRule
     requires known { AreArrivals image.now arrivals.now }
     requires inside { to ≤ length image.now.code }
@@ -131,7 +132,7 @@ fn told_at(image: &Image, arrivals: &Arrivals, to: usize, broken: VerifyRule) ->
     }
 }
 
-// The types at the first instruction of a loop's body, of which there are none. The loop is open then.
+// The types at the first instruction of a loop's body: there are none. The loop is open then.
 fn enter(
     alloc: Global,
     image: &Image,
@@ -157,7 +158,7 @@ fn enter(
     Ok(Some(TypeStack::new(alloc)))
 }
 
-// Whether no types may stand at an instruction.
+// Whether a stack of no types may arrive at an instruction.
 fn takes_none(image: &Image, arrivals: &Arrivals, to: usize) -> bool
     requires known { AreArrivals image.now arrivals.now }
     requires inside { to ≤ length image.now.code }
@@ -170,7 +171,7 @@ fn takes_none(image: &Image, arrivals: &Arrivals, to: usize) -> bool
     }
 }
 
-// The types at an instruction, where these go on to it.
+// The types at an instruction, if these go on to it.
 fn go_on(
     alloc: Global,
     image: &Image,

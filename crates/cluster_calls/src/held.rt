@@ -1,16 +1,16 @@
 //! What the names of a policy's expressions hold at a request.
 
 use crate::matching::take_line;
+use base_containers::Part;
 use calls_notation::{Asked, json, put, request_in, shown, shown_type, type_of, unknown};
 use cel_value::{CelError, CelType, Value};
 use json::Scratch;
-use json_documents::Part;
 use serde_json::Value as Json;
 use std::alloc::{AllocError, Global};
-use vap_objects::Objects;
+use vap_match::{OpenRequest, Request, ReviewError};
+use vap_policy_programs::{FixedTypes, Held, held_at, request_type, request_value};
 use vap_read::Object;
-use vap_request::{OpenRequest, Request, ReviewError};
-use vap_slots::{FixedTypes, Held, held_at, request_type, request_value};
+use vap_read_objects::Objects;
 
 /// The answer to a call of what is held.
 pub fn answer(alloc: Global, asked: &Asked) -> Result<String, AllocError> {
@@ -53,7 +53,7 @@ const NEEDED: [(&str, &str); 4] = [
     ("operation", "\"CREATE\""),
 ];
 
-/// The text of a review whose request has these members, and those that it needs but for the one of this name.
+/// The text of a review whose request has these members, and those that it needs except the one of this name.
 fn review_with(alloc: Global, name: &str, members: &str) -> Result<String, AllocError> {
     let mut text = String::from_str(alloc, "{\"request\":{\"options\":null")?;
     for (needed, least) in &NEEDED {
@@ -80,7 +80,7 @@ fn shown_member_of(alloc: Global, request: &Request, name: &str) -> Result<Strin
     shown_member(alloc, &value, name)
 }
 
-/// What `request` holds under a name, where the review's request has these members, each behind a comma.
+/// What `request` holds under a name, if the review's request has these members, each after a comma.
 fn member(alloc: Global, name: &str, members: &str) -> Result<String, AllocError> {
     let review = review_with(alloc, name, members)?;
     match request_in(alloc, review.as_str()) {
@@ -177,7 +177,7 @@ fn held_of(
     }
 }
 
-/// What a name holds at a request whose members are these behind commas, all of them but `uid`, `kind` and `resource`.
+/// What a name holds at a request whose members are these, each after a comma, all of them except `uid`, `kind` and `resource`.
 fn held_with(
     alloc: Global,
     objects: &Objects,
@@ -199,7 +199,7 @@ fn objects(alloc: Global, members: &str) -> Result<String, AllocError> {
     held_with(alloc, &none, &cel_type, members, Slot::Objects)
 }
 
-/// What `namespaceObject` holds where there are the objects of a List, and the objects are of an unknown kind.
+/// What `namespaceObject` holds if there are the objects of a List, and the objects are of an unknown kind.
 fn namespace(alloc: Global, list: &str, members: &str) -> Result<String, AllocError> {
     let mut objects = Objects::new(alloc);
     take_line(alloc, &mut objects, json(alloc, list)?)?;
@@ -213,7 +213,7 @@ fn namespace(alloc: Global, list: &str, members: &str) -> Result<String, AllocEr
     )
 }
 
-/// What `request` holds under a name at a request whose members are these, each behind a comma.
+/// What `request` holds under a name at a request whose members are these, each after a comma.
 fn request(alloc: Global, name: &str, members: &str) -> Result<String, AllocError> {
     let none = Objects::new(alloc);
     held_with(alloc, &none, &CelType::Opaque, members, Slot::Request(name))

@@ -1,5 +1,5 @@
 //! Makes the calls on a cluster's objects that lines ask for, and prints what each answers: requests, selectors, rules, policies,
-//! bindings, events, kinds, what names hold at a request, and verdicts.
+//! bindings, events, kinds, what names hold at a request, equality, and verdicts.
 #![tactic(auto)]
 
 mod held;

@@ -1,15 +1,11 @@
 //! Which selectors, rules, policies, bindings, documents, objects, events and types are the same.
 
+use base_containers::{Same, Text};
 use calls_notation::{Asked, typed, unknown};
-use json_members::text_in;
-use plain::Text;
 use serde_json::Value as Json;
 use std::alloc::{AllocError, Global};
-use vap_bindings::Binding;
-use vap_match::{Rules, Selector};
-use vap_policies::{Policy, PolicyError};
-use vap_read::{Content, Document, Event, EventError, Key, Object};
-use vap_same::Same;
+use vap_match::{Rules, Selector, text_in};
+use vap_read::{Binding, Content, Document, Event, EventError, Key, Object, Policy, PolicyError};
 
 /// The answer to a call of what is the same.
 pub fn answer(alloc: Global, asked: &Asked) -> Result<String, AllocError> {
@@ -30,7 +26,7 @@ enum Read {
     Policy,
     Binding,
     Document,
-    /// An object of two texts: its key with what it was read as, and behind a semicolon its document.
+    /// An object of two texts: its key with what it was read as, and after a semicolon its document.
     Object,
     Event,
     Type,
@@ -49,7 +45,7 @@ fn read_as(word: &str) -> Read {
     }
 }
 
-/// A JSON text's value, null where it is none.
+/// A JSON text's value, null if it is none.
 fn json(alloc: Global, text: &str) -> Json {
     match Json::from_str(alloc, text) {
         Ok(json) => json,
@@ -154,7 +150,7 @@ fn word_of(alloc: Global, read: Read, left: &str, right: &str) -> &'static str {
     }
 }
 
-/// Whether the texts before and behind a bar are the same.
+/// Whether the texts before and after a bar are the same.
 fn both(alloc: Global, read: Read, row: &str) -> Result<String, AllocError> {
     match row.split_once(" | ") {
         Some((left, right)) => String::from_str(alloc, word_of(alloc, read, left, right)),
@@ -162,7 +158,7 @@ fn both(alloc: Global, read: Read, row: &str) -> Result<String, AllocError> {
     }
 }
 
-/// The text with what stands behind an arrow in place of what stands before it.
+/// The text with what is after an arrow in place of what is before it.
 fn with_change(alloc: Global, text: &str, change: &str) -> Result<String, AllocError> {
     let (old, new) = change.split_once(" -> ").unwrap_or((change, change));
     match text.split_once(old) {

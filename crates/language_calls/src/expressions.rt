@@ -1,4 +1,4 @@
-//! What stands on expressions: trees, types, estimates, images and their bytes, programs, `eval` and `check`.
+//! What rests on expressions: trees, types, estimates, images and their bytes, programs, `eval` and `check`.
 
 pub mod bytes;
 pub mod commands;

@@ -1,23 +1,23 @@
--- How the program ends where it prints no answer.
+-- How the program ends if it prints no answer.
 use Rattle.std.specs.Prelude.{if◌then◌else◌}
-use Rattle.vap_command_line.specs.Mistake.{is_answered}
-use Rattle.vap_command_line.specs.declared.mistake.Mistake.{Mistake}
-use Rattle.vap_command_line.specs.declared.mistake.Mistake.TheVariants as mistake
+use Rattle.vap_cli.specs.Mistake.{is_answered}
+use Rattle.vap_cli.specs.declared.mistake.Mistake.{Mistake}
+use Rattle.vap_cli.specs.declared.mistake.Mistake.TheVariants as mistake
 use Rattle.vap_cli.specs.declared.status.Status.{Status}
 use Rattle.vap_cli.specs.declared.status.Status.TheVariants.{Done, Fault, BadCommandLine, Stream, OutOfMemory}
 use Rattle.vap_cli.specs.Status.{status_without}
-use Rattle.vap_check.specs.Report.{status_without as status_unchecked}
-use Rattle.vap_replay.specs.declared.fault.ReplayError.{ReplayError}
-use Rattle.vap_replay.specs.declared.fault.ReplayError.TheVariants as replay
+use Rattle.vap_cli.specs.Report.{status_without as status_unchecked}
+use Rattle.vap_cli_replay.specs.declared.fault.ReplayError.{ReplayError}
+use Rattle.vap_cli_replay.specs.declared.fault.ReplayError.TheVariants as replay
 use Rattle.vap.specs.declared.problem.Problem.{Problem}
 use Rattle.vap.specs.declared.problem.Problem.TheVariants.{Mistaken, NotText, NotOpened, Unanswered, Unchecked, Unreplayed}
 
--- how the program ends where the words ask for no task
+-- how the program ends if the words ask for no task
 abbrev pub mistake_status : Mistake → Status
 mistake_status mistake.OutOfMemory = OutOfMemory
 mistake_status m = if is_answered m then Done else BadCommandLine
 
--- how the program ends where a replay ends before its input
+-- how the program ends if a replay ends before its input
 abbrev pub replay_status : ReplayError → Status
 replay_status (replay.Line line fault) = Fault
 replay_status replay.Read = Stream

@@ -1,7 +1,7 @@
 //! The program `vap`: what the words of its command line ask for, done by the commands of vap_cli,
-//! vap_check, vap_image, vap_replay, vap_report and vap_openapi.
+//! vap_cli_replay and vap_cli_report.
 //!
-//! [`problem::Problem::status`] tells how the program ends where it prints no answer.
+//! [`problem::Problem::status`] answers how the program ends if it prints no answer.
 #![tactic(auto)]
 
 ghost use Rattle.std.specs.Prelude.{◌≤◌};
@@ -19,13 +19,12 @@ use std::sync::Wait;
 use std::thread::Threads;
 use std::time::Clock;
 use std::{env, fs, io};
-use vap_check::check_to;
-use vap_cli::{Counted, EvalError, Status, eval_to, note_of};
-use vap_command_line::{Task, asked};
-use vap_image::{decode_to, encode_to};
-use vap_openapi::kinds_to;
-use vap_replay::replay_with;
-use vap_report::{Output, report_to};
+use vap_cli::{
+    Counted, EvalError, Status, Task, asked, check_to, decode_to, encode_to, eval_to, kinds_to,
+    note_of,
+};
+use vap_cli_replay::replay_with;
+use vap_cli_report::{Output, report_to};
 
 fn main(rt: HostRuntime) -> ExitCode {
     let is_watched = rt.stderr().is_terminal();
@@ -68,7 +67,7 @@ fn obey<R: Env + Files + Input + Clock + Print + Eprint + AllocGlobal + Threads 
     }
 }
 
-/// Prints what a file comes to, or standard input where the file is `-`.
+/// Prints what a file results in, or what standard input results in if the file is `-`.
 fn check_file<R: Files + Input + Print + Eprint + AllocGlobal>(
     rt: &R,
     file: &str,
@@ -82,7 +81,7 @@ fn check_file<R: Files + Input + Print + Eprint + AllocGlobal>(
     }
 }
 
-/// Prints what an expression comes to, and what that means where it is an error or a refusal.
+/// Prints what an expression results in, and what that means if it is an error or a refusal.
 fn eval<R: Print + Eprint + AllocGlobal>(rt: &R, text: &str) -> Result<Status, Problem> {
     let mut out = Counted::new(io::writer(rt));
     let status = eval_to(rt.alloc(), text, &mut out)?;
@@ -92,7 +91,7 @@ fn eval<R: Print + Eprint + AllocGlobal>(rt: &R, text: &str) -> Result<Status, P
     Ok(status)
 }
 
-/// Prints what a reader's bytes come to, and what that means where it is an error or a refusal.
+/// Prints what a reader's bytes result in, and what that means if it is an error or a refusal.
 fn check<R: Print + Eprint + AllocGlobal, F: Read + Drop>(
     rt: &R,
     file: F,
@@ -105,7 +104,7 @@ fn check<R: Print + Eprint + AllocGlobal, F: Read + Drop>(
     Ok(status)
 }
 
-/// Writes the bytes of the image that an expression compiles to, and what it means where there are none.
+/// Writes the bytes of the image that an expression compiles to, and what it means if there are none.
 fn encode<R: Print + Eprint + AllocGlobal>(rt: &R, text: &str) -> Result<Status, Problem> {
     let mut out = Counted::new(io::writer(rt));
     let status = encode_to(rt.alloc(), text, &mut out)?;
@@ -115,7 +114,7 @@ fn encode<R: Print + Eprint + AllocGlobal>(rt: &R, text: &str) -> Result<Status,
     Ok(status)
 }
 
-/// Prints what the image of a file holds, or of standard input where the file is `-`.
+/// Prints what the image of a file holds, or of standard input if the file is `-`.
 fn decode_file<R: Files + Input + Print + AllocGlobal>(
     rt: &R,
     file: &str,
@@ -136,7 +135,7 @@ fn decode<R: Print + AllocGlobal, F: Read + Drop>(rt: &R, file: F) -> Result<Sta
     Ok(decode_to(rt.alloc(), &mut file, &mut out)?)
 }
 
-/// Prints which policies of a file are accepted, or of standard input where the file is `-`.
+/// Prints which policies of a file are accepted, or of standard input if the file is `-`.
 fn report_file<R: Files + Input + Print + Eprint + AllocGlobal>(
     rt: &R,
     file: &str,
@@ -151,7 +150,7 @@ fn report_file<R: Files + Input + Print + Eprint + AllocGlobal>(
     }
 }
 
-/// Prints which policies of a reader's bytes are accepted, and what is wrong with the bytes where they are refused.
+/// Prints which policies of a reader's bytes are accepted, and what is wrong with the bytes if they are refused.
 fn report<R: Print + Eprint + AllocGlobal, F: Read + Drop>(
     rt: &R,
     file: F,
@@ -165,7 +164,7 @@ fn report<R: Print + Eprint + AllocGlobal, F: Read + Drop>(
     Ok(status)
 }
 
-/// Prints the definitions of the kinds in a file's document, or in that of standard input where the file is `-`.
+/// Prints the definitions of the kinds in a file's document, or in that of standard input if the file is `-`.
 fn kinds_file<R: Files + Input + Print + Eprint + AllocGlobal>(
     rt: &R,
     file: &str,
@@ -179,7 +178,7 @@ fn kinds_file<R: Files + Input + Print + Eprint + AllocGlobal>(
     }
 }
 
-/// Prints the definitions of the kinds in the document of a reader's bytes, and what is wrong with it where it is refused.
+/// Prints the definitions of the kinds in the document of a reader's bytes, and what is wrong with it if it is refused.
 fn kinds<R: Print + Eprint + AllocGlobal, F: Read + Drop>(
     rt: &R,
     file: F,
@@ -192,7 +191,7 @@ fn kinds<R: Print + Eprint + AllocGlobal, F: Read + Drop>(
     Ok(status)
 }
 
-/// Prints the answers to the reviews of a file, or of standard input where the file is `-`.
+/// Prints the answers to the reviews of a file, or of standard input if the file is `-`.
 fn replay_file<R: Files + Input + Clock + Print + Eprint + AllocGlobal + Threads + Wait + Sync>(
     rt: &R,
     file: &str,
@@ -211,7 +210,7 @@ fn replay_file<R: Files + Input + Clock + Print + Eprint + AllocGlobal + Threads
     }
 }
 
-/// Prints the answers to the reviews of a stream; the meter tells how far it is.
+/// Prints the answers to the reviews of a stream; the meter reports how far it is.
 fn replay_from<R: Clock + Print + Eprint + AllocGlobal + Threads + Wait + Sync, I: Read + Drop>(
     rt: &R,
     input: I,
@@ -238,7 +237,7 @@ fn replay_from<R: Clock + Print + Eprint + AllocGlobal + Threads + Wait + Sync, 
     }
 }
 
-/// Prints a note to standard error, where there is one. The status stays where that cannot be done.
+/// Prints a note to standard error, if there is one. If that cannot be done, the status stays.
 fn explain<R: Eprint>(rt: &R, note: Result<Option<String>, AllocError>) {
     if let Ok(Some(note)) = note {
         let _ = eprint!(rt; "{}", note.as_str());
@@ -250,7 +249,7 @@ fn words<R: Env + AllocGlobal>(rt: &R) -> Result<Vec<String>, Problem> {
     Ok(env::args(rt)?.collect(rt.alloc())?)
 }
 
-/// Prints help, the version or what went wrong. Where that cannot be written to standard error, the status stays.
+/// Prints help, the version or what went wrong. If that cannot be written to standard error, the status stays.
 fn tell<R: Print + Eprint>(rt: &R, problem: &Problem) -> Status {
     let status = problem.status();
     if problem.print(rt).is_ok() || status != Status::Done {

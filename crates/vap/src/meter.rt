@@ -1,14 +1,14 @@
-//! One line on a terminal that tells how far a replay is, and what it came to.
+//! One line on a terminal that reports how far a replay is, and what it resulted in.
 
 use std::time::{Clock, Duration, Instant};
 use vap_audit::History;
-use vap_replay::Progress;
-use vap_summary::summary_of;
+use vap_cli_replay::Progress;
+use vap_cli_report::summary_of;
 
-/// The least time between two tellings, in seconds.
+/// The least time between two updates, in seconds.
 const PAUSE: u64 = 1;
 
-/// Tells on standard error how far a replay is, once a second, where somebody watches, and at the end what it came to, where that is
+/// Reports on standard error how far a replay is, once a second, if somebody watches, and at the end what it resulted in, if that is
 /// asked for.
 #[derive(Drop)]
 pub struct Meter<'a, R> {
@@ -30,7 +30,7 @@ impl<'a, R: Clock + Eprint + AllocGlobal> Meter<'a, R> {
         }
     }
 
-    /// The time since the first telling, where it is time to tell again. Where there is no clock, it never is.
+    /// The time since the first update, if it is time for another. If there is no clock, it never is.
     fn due(&mut self) -> Option<Duration> {
         let now = Instant::now(self.rt).ok()?;
         if let Some(last) = self.last {
@@ -44,7 +44,7 @@ impl<'a, R: Clock + Eprint + AllocGlobal> Meter<'a, R> {
         Some(now.saturating_duration_since(begun))
     }
 
-    /// Ends the line, where one was begun. What cannot be told is left out.
+    /// Ends the line, if one was begun. What cannot be written is left out.
     fn end(&mut self) {
         if self.last.take().is_some() {
             let _ = eprintln!(self.rt; "");
@@ -63,7 +63,7 @@ impl<'a, R: Clock + Eprint + AllocGlobal> Meter<'a, R> {
     }
 }
 
-/// How many of these a second came, in so much time.
+/// How many of these came per second, in this much time.
 fn rate_of(count: usize, time: Duration) -> u64 {
     (count as u64).checked_div(time.as_secs()).unwrap_or(0)
 }

@@ -7,10 +7,8 @@ ghost use Rattle.vap.specs.declared.problem.Problem.TheVariants.{Mistaken, Unans
 
 use std::alloc::AllocError;
 use std::io;
-use vap_check::CheckFailure;
-use vap_cli::{EvalError, Status};
-use vap_command_line::Mistake;
-use vap_replay::ReplayError;
+use vap_cli::{CheckFailure, EvalError, Mistake, Status};
+use vap_cli_replay::ReplayError;
 
 /// Why the program prints no answer.
 #[derive(Drop)]
@@ -58,7 +56,7 @@ impl From<Mistake> for Problem {
     }
 }
 
-/// What is told of the words before they are read.
+/// What is reported of the words before they are read.
 impl From<io::Error> for Problem {
     fn from(error: io::Error) -> Problem {
         if error.kind() == io::ErrorKind::OutOfMemory {
@@ -72,7 +70,7 @@ impl From<io::Error> for Problem {
 impl Problem {
     ghost use Rattle.vap.specs.Problem.{status_of};
 
-    /// What is told of a file that does not open.
+    /// What is reported of a file that does not open.
     pub fn not_opened(error: &io::Error) -> Problem {
         if error.kind() == io::ErrorKind::OutOfMemory {
             Problem::Unanswered(EvalError::OutOfMemory)
@@ -119,7 +117,7 @@ impl Problem {
     }
 }
 
-/// How the program ends where the words ask for no task.
+/// How the program ends if the words ask for no task.
 fn mistake_status(mistake: &Mistake) -> Status
     ensures { result ≡ mistake_status mistake.now }
 {
@@ -130,7 +128,7 @@ fn mistake_status(mistake: &Mistake) -> Status
     }
 }
 
-/// How the program ends where a replay ends before its input.
+/// How the program ends if a replay ends before its input.
 fn replay_status(error: ReplayError) -> Status
     ensures { result ≡ replay_status error }
 {

@@ -1,11 +1,11 @@
 -- Histories may go to another thread, type by type: each search ends at what was shown before it.
 use denote.Param.Send.{IsSend, IsSync, sendable}
 use Rattle.std.proofs.Crossing.{crosses}
-use Rattle.json_documents.proofs.Crossing.{document_send, document_sync}
-use Rattle.vap_answer.proofs.Crossing.{verdict_send, verdict_sync}
+use Rattle.base_containers.proofs.Crossing.{document_send, document_sync}
+use Rattle.vap_policy.proofs.Crossing.{verdict_send, verdict_sync}
 use Rattle.vap_watch.proofs.Crossing.{log_send, log_sync}
-use Rattle.vap_request.specs.contracts.request.Admission as admission
-use Rattle.vap_request.specs.contracts.request.Request as request
+use Rattle.vap_match.specs.contracts.request.Admission as admission
+use Rattle.vap_match.specs.contracts.request.Request as request
 use Rattle.vap_audit.specs.contracts.entry.Entry as entry
 use Rattle.vap_audit.specs.contracts.history.History as history
 

@@ -8,7 +8,7 @@ use Rattle.vap_watch.proofs.Alike.{one_more}
 use Rattle.vap_audit.specs.declared.entry.Entry.{Entry}
 use Rattle.vap_audit.specs.Entries.{numbers_from}
 
--- the number n, where it is one of the worker's
+-- the number n, if it is one of the worker's
 abbrev pub if_mine : ℕ → ℕ → Entry → List ℕ
 if_mine n worker e = if e.worker == worker then n ∷ [] else []
 

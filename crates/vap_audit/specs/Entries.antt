@@ -28,7 +28,7 @@ pub record IsRightIn (log : List Logged) (e : Entry) : Type 0 where
 abbrev pub AreRightIn : List Logged → List Entry → Type 0
 AreRightIn log entries = (number : ℕ) (e : Entry) → slice_get entries number ≡ Some e → IsRightIn log e
 
--- the numbers of a worker's entries, where the first entry has this number
+-- the numbers of a worker's entries, if the first entry has this number
 abbrev pub numbers_from : ℕ → ℕ → List Entry → List ℕ
 numbers_from n worker [] = []
 numbers_from n worker (e ∷ es) = if e.worker == worker then n ∷ numbers_from (n + 1) worker es else numbers_from (n + 1) worker es
@@ -37,7 +37,7 @@ numbers_from n worker (e ∷ es) = if e.worker == worker then n ∷ numbers_from
 abbrev pub BeginWith : ℕ → List Entry → List Logged → Type 0
 BeginWith number entries log = (k : ℕ) (d : Entry) → k < number → slice_get entries k ≡ Some d → StartsWith log d.log
 
--- this is the first entry whose log is no beginning of the log, and the first place where they differ
+-- this is the first entry whose log is not a beginning of the log, and the first place where they differ
 pub record IsStray (entries : List Entry) (log : List Logged) (number at : ℕ) : Type 0 where
   pub entry : Entry
   pub there : slice_get entries number ≡ Some entry

@@ -1,8 +1,8 @@
 //! Entries.
 
-use plain::Shared;
-use vap_answer::Verdict;
-use vap_request::Request;
+use base_containers::Shared;
+use vap_match::Request;
+use vap_policy::Verdict;
 use vap_watch::Log;
 
 /// What was decided in one call, and at which log. Calls and workers are counted from 0.

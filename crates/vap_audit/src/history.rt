@@ -22,7 +22,7 @@ pub enum AuditFault {
     OutOfMemory,
 }
 
-/// An entry whose log is no beginning of a log, and the first place where they differ.
+/// An entry whose log is not a beginning of a log, and the first place where they differ.
 #[derive(Clone, Copy, Debug, PartialEq, Eq)]
 pub struct Stray {
     pub entry: usize,
@@ -73,7 +73,7 @@ impl History {
         self.entries.len()
     }
 
-    /// Puts an entry last, and answers its number. Where it is refused, it comes back and nothing has changed; a full history is
+    /// Puts an entry last, and answers its number. If it is refused, it comes back and nothing has changed; a full history is
     /// never reported as out of memory.
     #[tactic(auto, using(crate::proofs::Kept::kept_of))]
     pub fn append(&mut self, entry: Entry) -> Result<usize, (AuditFault, Entry)>
@@ -127,7 +127,7 @@ impl History {
     }
 
     /// Whether each entry's log is a beginning of the snapshot's, or the first entry whose log is not, with the first place
-    /// where an event or a choice is another.
+    /// where an event or a choice differs.
     pub fn check(&self, snapshot: &Snapshot) -> Result<(), Stray>
         ensures { MatchResult result (λ _. BeginWith (length self.now) self.now snapshot.now)
             (λ stray. IsStray self.now snapshot.now stray.entry stray.at) }

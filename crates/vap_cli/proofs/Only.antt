@@ -1,4 +1,4 @@
--- Faults of which there is one.
+-- Types of faults that have only one fault.
 use Rattle.std.proofs.Common.{◌≡◌, ℕ, refl}
 use Rattle.cel_machine.specs.declared.fault.RunFault.{RunFault}
 use Rattle.cel_machine.specs.declared.fault.RunFault.TheVariants.{Pattern}

@@ -1,7 +1,7 @@
--- A source comes to one value or error at most.
+-- A source evaluates to at most one value or error.
 use Rattle.std.proofs.Common.{◌≡◌, ◌++◌, ℕ, List, [], map, Option, Some, None, sym, ap, subst, ◌∙◌}
 use Rattle.std.specs.Prelude.{Result, Ok, Err, IfOk}
-use Rattle.plain.specs.declared.text.Keyed.{Keyed}
+use Rattle.base_containers.specs.declared.text.Keyed.{Keyed}
 use Rattle.cel_value.specs.declared.cel_type.CelType.{CelType}
 use Rattle.cel_operators.specs.Outcomes.{Outcome}
 use Rattle.cel_expression.specs.Source.{Source}
@@ -28,12 +28,12 @@ pub never_refused : (s : Source) (x : Outcome) (why : TextRefusal) → RunsTo s 
 unfolding run_of compiled_of
 never_refused s x why p q = not_run s (accepted_of s) [] _ why p.ran q
 
--- where nothing is lent and nothing was made, there are no slots
+-- if nothing is lent and nothing was made, there are no slots
 pub no_slots : {A : Type 0} {B : Type 0} (f : A → B) (lent : List A) (made slots : List B) → slots ≡ map f lent ++ made → lent ≡ []
     → made ≡ [] → slots ≡ []
 no_slots f lent made slots is none nothing = is ∙ ap (λ xs. map f xs ++ made) none ∙ nothing
 
--- what a run with no slots came to
+-- what a run with no slots resulted in
 pub runs_to : (s : Source) (slots : List Outcome) (x y : Outcome) (charged : ℕ) → slots ≡ []
     → run_of s slots ≡ Some (record { outcome = x; charged = charged }) → x ≡ y → RunsTo s y
 runs_to s slots x y charged none ran is = record {

@@ -3,11 +3,11 @@ use Rattle.std.proofs.Common.{◌≡◌, [], ◌∷◌, ◌++◌, codes, decimal
 use Rattle.cel_value.specs.declared.value.Value as value
 use Rattle.cel_value.specs.declared.cel_error.CelError.TheVariants as error
 use Rattle.cel_lex.specs.declared.fault.LexFaultKind.TheVariants as lexing
-use Rattle.cel_grammar.specs.declared.fault.ParseFault.TheVariants as parsing
+use Rattle.cel_parse.specs.declared.fault.ParseFault.TheVariants as parsing
 use Rattle.cel_expression.specs.declared.refusal.Refusal.TheVariants as text_refusal
 use Rattle.vap_cli.specs.declared.answer.Refusal.TheVariants as refusal
 use Rattle.vap_cli.specs.declared.answer.Answer.TheVariants as answer
-use Rattle.json_text.proofs.WorkedRows.{true_text, negative_text}
+use Rattle.cel_value.proofs.WorkedJson.{true_text, negative_text}
 use Rattle.vap_cli.specs.Answer.{answer_line}
 
 true_line : answer_line (answer.Value (value.Bool true)) ≡ codes "true" ++ 10 ∷ []

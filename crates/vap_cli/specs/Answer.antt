@@ -1,7 +1,7 @@
 -- What `eval` prints.
 use Rattle.std.specs.Prelude.{ℕ, List, [], ◌∷◌, ◌++◌, Option, Some, None, codes, decimal}
 use Rattle.cel_value.specs.Names.{error_name}
-use Rattle.json_text.specs.JsonText.{json_text}
+use Rattle.cel_value.specs.JsonText.{json_text}
 use Rattle.cel_expression.specs.Names.{refusal_name, refusal_place}
 use Rattle.cel_expression.specs.declared.refusal.Refusal.{Refusal as TextRefusal}
 use Rattle.cel_expression.specs.declared.refusal.Refusal.TheVariants as text_refusal
@@ -12,23 +12,23 @@ use Rattle.vap_cli.specs.declared.answer.Answer.TheVariants as answer
 use Rattle.vap_cli.specs.declared.status.Status.{Status}
 use Rattle.vap_cli.specs.declared.status.Status.TheVariants.{Done, Fault}
 
--- a name with its place, where it has one
+-- a name with its place, if it has one
 abbrev pub name_at : List ℕ → Option ℕ → List ℕ
 name_at name (Some place) = name ++ (codes " at " ++ decimal place)
 name_at name None = name
 
--- why a text may not be run, with its place or its estimate, where it has one
+-- why a text may not be run, with its place or its estimate, if it has one
 abbrev pub text_refusal_text : TextRefusal → List ℕ
 text_refusal_text (text_refusal.OverBudget estimate) = codes "OverBudget " ++ decimal estimate
 text_refusal_text why = name_at (refusal_name why) (refusal_place why)
 
--- a refusal with its place, where it has one
+-- a refusal with its place, if it has one
 abbrev pub refusal_text : Refusal → List ℕ
 refusal_text (refusal.Text why) = text_refusal_text why
 refusal_text (refusal.Unverified at) = name_at (codes "Unverified") (Some at)
 refusal_text refusal.Pattern = codes "Pattern"
 
--- what tells an answer, without its line feed
+-- what reports an answer, without its line feed
 abbrev pub answer_text : Answer → List ℕ
 answer_text (answer.Value value) = json_text value
 answer_text (answer.Error error) = codes "error: " ++ error_name error

@@ -2,3 +2,9 @@ pub mod Answer
 pub mod Eval
 pub mod Evaluation
 pub mod Status
+pub mod Documents
+pub mod Report
+pub mod Checks
+pub mod Told
+pub mod Mistake
+pub mod Task

@@ -13,7 +13,7 @@ code_of BadCommandLine = 2
 code_of Stream = 3
 code_of OutOfMemory = 4
 
--- how the program ends where an answer is not told
+-- how the program ends if an answer is not reported
 abbrev pub status_without : EvalError → Status
 status_without failure.Write = Stream
 status_without failure.OutOfMemory = OutOfMemory

@@ -1,13 +1,12 @@
-//! What `eval` answers, and how it is told.
+//! What `eval` answers, and how it is reported.
 
 ghost use Rattle.std.specs.Prelude.{◌≡◌, ◌++◌, ◌∷◌, [], IfOk, string_bytes};
-ghost use Rattle.json_text.specs.JsonText.{json_text};
+ghost use Rattle.cel_value.specs.JsonText.{json_text};
 ghost use Rattle.vap_cli.specs.Answer.{answer_line, status_of};
 
 use crate::status::Status;
 use cel_expression::Refusal as TextRefusal;
-use cel_value::{CelError, Value};
-use json_text::to_json;
+use cel_value::{CelError, Value, to_json};
 use std::alloc::{AllocError, Global};
 use std::fmt;
 
@@ -22,7 +21,7 @@ pub enum Refusal {
     Pattern,
 }
 
-/// What an expression comes to.
+/// What an expression results in.
 #[derive(Drop)]
 pub enum Answer {
     Value(Value),

@@ -1,18 +1,18 @@
 //! The command `eval`.
 
 ghost use Rattle.std.specs.Prelude.{◌≡◌, ◌+◌, ◌<◌, ◌^◌, ◌-◌, IfOk, OnOk, IsErrOf, string_bytes};
-ghost use Rattle.vap_lines.specs.Counted.{inner_of, failures_of};
+ghost use Rattle.base_containers.specs.Counted.{inner_of, failures_of};
 ghost use Rattle.vap_cli.specs.Eval.{Tells, TellsBy};
 ghost use Rattle.vap_cli.specs.declared.eval.EvalError.TheVariants.{OutOfMemory};
 
 use crate::evaluation::answer;
 use crate::status::Status;
+use base_containers::Counted;
 use std::alloc::{AllocError, Global};
 use std::io::Write;
 use thiserror::Error;
-use vap_lines::Counted;
 
-/// Why an expression's answer is not told.
+/// Why an expression's answer is not reported.
 #[derive(Clone, Copy, Debug, PartialEq, Eq, Error)]
 pub enum EvalError {
     #[error("the answer could not be written")]
@@ -25,7 +25,7 @@ impl EvalError {
     ghost use Rattle.std.specs.Prelude.{◌≡◌};
     ghost use Rattle.vap_cli.specs.Status.{status_without};
 
-    /// How the program ends where an answer is not told.
+    /// How the program ends if an answer is not reported.
     pub fn status(self) -> Status
         ensures { result ≡ status_without self }
     {
@@ -44,7 +44,7 @@ impl From<AllocError> for EvalError {
     }
 }
 
-/// Writes the line that `eval` prints for an expression, and tells how the program then ends.
+/// Writes the line that `eval` prints for an expression, and answers how the program then ends.
 pub fn eval_to<W: Write>(
     alloc: Global,
     text: &str,
@@ -63,7 +63,7 @@ pub fn eval_to<W: Write>(
     Ok(status)
 }
 
-/// The line that tells an expression's answer, and the status for it.
+/// The line that reports an expression's answer, and the status for it.
 fn line_and_status(alloc: Global, text: &str) -> Result<(String, Status), AllocError>
     ensures { IfOk result (λ told. TellsBy text.now (string_bytes told.0) told.1) }
 {

@@ -1,4 +1,4 @@
-//! From the text of an expression to what it comes to.
+//! From the text of an expression to what it results in.
 
 ghost use Rattle.std.specs.Prelude.{◌≡◌, ℕ, List, [], Err, IfOk};
 ghost use Rattle.cel_operators.specs.Outcomes.{Outcome};
@@ -7,15 +7,15 @@ ghost use Rattle.cel_expression.specs.declared.refusal.Refusal.{Refusal as TextR
 ghost use Rattle.vap_cli.specs.Evaluation.{Choice, ComesTo, IsAnswer, IsAnswerBy, IsAnswerOf, source_of};
 
 use crate::answer::{Answer, Refusal};
+use base_containers::{Items, Keyed, Shared, Text};
 use cel_expression::{CompileError, CompileFault, Compiled, ask_patterns, choice_of, compile_text};
+use cel_machine::evaluation::run;
 use cel_machine::{Matchers, RunError, RunFault, Slots};
-use cel_patterns::Patterns;
-use cel_run::run;
+use cel_operators::Patterns;
 use cel_value::{CelError, CelType, Value};
-use plain::{Items, Keyed, Shared, Text};
 use std::alloc::{AllocError, Global};
 
-/// By one choice of texts that are no patterns a text comes to one value or error at most, and then it is not refused.
+/// By one choice of texts that are no patterns, a text evaluates to at most one value or error, and then it is not refused.
 pub fn one_outcome()
     ensures outcomes { (choice : Choice) (text : List ℕ) (x y : Outcome) → ComesTo choice text x → ComesTo choice text y → x ≡ y }
     ensures refused { (choice : Choice) (text : List ℕ) (x : Outcome) (why : TextRefusal)
@@ -29,7 +29,7 @@ pub fn choice_for(alloc: Global, text: &str) -> Result<Shared<Items<Text>>, Allo
     choice_of(alloc, &patterns)
 }
 
-/// What an expression comes to, where no name is in scope.
+/// What an expression results in if no name is in scope.
 pub fn answer(alloc: Global, text: &str) -> Result<Answer, AllocError>
     ensures { IfOk result (IsAnswer text.now) }
 {
@@ -59,7 +59,7 @@ fn answer_by(
     }
 }
 
-// What an expression that may be run comes to.
+// What an expression that may be run results in.
 fn answer_of(alloc: Global, compiled: &Compiled) -> Result<Answer, AllocError>
     requires { compiled.now.names ≡ [] }
     ensures { IfOk result (IsAnswerOf compiled.now) }

@@ -1,4 +1,4 @@
-//! What stands on standard error behind a refusal or an error, for people.
+//! What is written to standard error after a refusal or an error, for people.
 
 use crate::answer::{Answer, Refusal};
 use crate::evaluation::answer;
@@ -9,7 +9,7 @@ use cel_parse::ParseFault;
 use cel_value::CelError;
 use std::alloc::{AllocError, Global};
 
-/// The note behind the answer of `eval` for an expression, where that is an error or a refusal.
+/// The note after the answer of `eval` for an expression, if that is an error or a refusal.
 pub fn note_of(alloc: Global, text: &str) -> Result<Option<String>, AllocError> {
     match answer(alloc, text)? {
         Answer::Value(_) => Ok(None),
@@ -39,7 +39,7 @@ fn place_of(refusal: &Refusal) -> Option<usize> {
     }
 }
 
-// The line of a text at a place. What a terminal would obey stands as a blank.
+// The line of a text at a place. What a terminal would obey is written as a blank.
 fn line_at(alloc: Global, text: &str, place: usize) -> Result<String, AllocError> {
     let mut line = String::new(alloc);
     for (at, character) in text.char_indices() {

@@ -4,7 +4,7 @@ use Rattle.std.specs.Prelude.{codes}
 use Rattle.serde_json.specs.Data.{null, object, no_members, member}
 use Rattle.vap_match.specs.Cover.{covers_resource}
 use Rattle.vap_match.specs.RuleForm.{least_fault}
-use Rattle.vap_select.specs.declared.match_fault.MatchFault.TheVariants.{BadOperator, EmptyRule}
+use Rattle.vap_match.specs.declared.match_fault.MatchFault.TheVariants.{BadOperator, EmptyRule}
 
 -- `*` is each resource and no subresource
 star : covers_resource (codes "pods") [] (codes "*") ≡ true

@@ -1,10 +1,10 @@
 -- Which requests rules choose by their selectors, and which they match.
 use Rattle.std.specs.Prelude.{Bool, true, false, ◌&&◌, ◌||◌, if◌then◌else◌, Option, Some, None}
 use Rattle.serde_json.specs.Data.{Data}
-use Rattle.vap_request.specs.Requests.{object_of, old_object_of}
-use Rattle.vap_request.specs.declared.request.Admission.{Admission}
-use Rattle.vap_select.specs.Select.{Labels, labels_of, selects}
-use Rattle.vap_select.specs.declared.selector.Selector.{Selector}
+use Rattle.vap_match.specs.Requests.{object_of, old_object_of}
+use Rattle.vap_match.specs.declared.request.Admission.{Admission}
+use Rattle.vap_match.specs.Select.{Labels, labels_of, selects}
+use Rattle.vap_match.specs.declared.selector.Selector.{Selector}
 use Rattle.vap_match.specs.Cover.{covers}
 use Rattle.vap_match.specs.Namespaces.{is_namespace, is_cluster, own_labels}
 use Rattle.vap_match.specs.declared.rules.Rules.{Rules}
@@ -14,7 +14,7 @@ abbrev pub passes : Option Selector → Labels → Bool
 passes None labels = true
 passes (Some s) labels = selects s labels
 
--- the namespace of a request is selected by the labels that are held of it, and a Namespace by its own; what else stands in no
+-- the namespace of a request is selected by the labels that are held for it, and a Namespace by its own; what else is in no
 -- namespace passes
 abbrev pub selects_namespace : Rules → Admission → Labels → Bool
 selects_namespace rules r held =
@@ -39,6 +39,6 @@ object_passes (Some s) r = selects_either s r
 abbrev pub selects_object : Rules → Admission → Bool
 selects_object rules r = object_passes rules.object_selector r
 
--- rules match a request that they cover, where its namespace and an object of it are selected
+-- rules match a request that they cover, if its namespace and an object of it are selected
 abbrev pub matches : Rules → Admission → Labels → Bool
 matches rules r held = covers rules r && selects_namespace rules r held && selects_object rules r

@@ -2,7 +2,7 @@
 use Rattle.std.specs.Prelude.{ℕ, nat_eq, Bool, true, ◌&&◌, ◌||◌, not, if◌then◌else◌, codes, List, [], ◌∷◌}
 use Rattle.std.specs.List.{list_any}
 use Rattle.std.specs.Str.{bytes_eq}
-use Rattle.vap_request.specs.declared.request.Admission.{Admission}
+use Rattle.vap_match.specs.declared.request.Admission.{Admission}
 use Rattle.vap_match.specs.Namespaces.{is_cluster}
 use Rattle.vap_match.specs.declared.rules.Operation.{Operation}
 use Rattle.vap_match.specs.declared.rules.Operation.TheVariants as operation
@@ -23,12 +23,12 @@ operation_name operation.Any = codes "*"
 abbrev pub is_word_or_any : List ℕ → List ℕ → Bool
 is_word_or_any wanted word = bytes_eq word wanted || bytes_eq word (codes "*")
 
--- the resource of a pattern: what stands before its first slash
+-- the resource of a pattern: what is before its first slash
 abbrev pub before_slash : List ℕ → List ℕ
 before_slash [] = []
 before_slash (b ∷ bs) = if nat_eq b 47 then [] else b ∷ before_slash bs
 
--- the subresource of a pattern: what stands behind its first slash, or none
+-- the subresource of a pattern: what is after its first slash, or none
 abbrev pub behind_slash : List ℕ → List ℕ
 behind_slash [] = []
 behind_slash (b ∷ bs) = if nat_eq b 47 then bs else behind_slash bs
@@ -38,7 +38,7 @@ behind_slash (b ∷ bs) = if nat_eq b 47 then bs else behind_slash bs
 abbrev pub covers_resource : List ℕ → List ℕ → List ℕ → Bool
 covers_resource resource sub pattern = is_word_or_any resource (before_slash pattern) && is_word_or_any sub (behind_slash pattern)
 
--- whether a scope has requests on what stands in no namespace, or the others
+-- whether a scope has requests on what is in no namespace, or the others
 abbrev pub is_within : Scope → Bool → Bool
 is_within scope.Any cluster = true
 is_within scope.Cluster cluster = cluster
@@ -49,7 +49,7 @@ abbrev pub is_named : List (List ℕ) → List ℕ → Bool
 is_named [] name = true
 is_named (n ∷ ns) name = list_any (bytes_eq name) (n ∷ ns)
 
--- a rule covers a request of which it has each part
+-- a rule covers a request if it has each part of the request
 abbrev pub rule_covers : Admission → Rule → Bool
 rule_covers r rule =
     list_any (λ o. is_word_or_any r.operation (operation_name o)) rule.operations
@@ -64,6 +64,6 @@ abbrev pub is_covered : List Rule → Admission → Bool
 is_covered [] r = true
 is_covered (rule ∷ rules) r = list_any (rule_covers r) (rule ∷ rules)
 
--- one rule covers the request, and none of those that exclude
+-- one of the rules covers the request, or there are none, and none of those that exclude covers it
 abbrev pub covers : Rules → Admission → Bool
 covers rules r = is_covered rules.resource_rules r && not (list_any (rule_covers r) rules.exclude_resource_rules)

@@ -1,3 +1,17 @@
+pub mod Forms
+pub mod TextLimits
+pub mod Parts
+pub mod ReaderAnswers
+pub mod Faults
+pub mod ReviewLimits
+pub mod ReviewNames
+pub mod RequestReading
+pub mod Requests
+pub mod Reviews
+pub mod Within
+pub mod MatchNames
+pub mod Select
+pub mod SelectorForm
 pub mod Choose
 pub mod Cover
 pub mod Namespaces

@@ -5,12 +5,12 @@ use Rattle.std.specs.List.{find}
 use Rattle.std.specs.Str.{bytes_eq}
 use Rattle.serde_json.specs.Data.{Data, Items}
 use Rattle.serde_json.specs.Find.{get, as_str}
-use Rattle.json_members.specs.Forms.{there_and, absent_or, is_text, is_object, all_items, is_list_of, is_some_of}
-use Rattle.json_members.specs.Parts.{items_in, each_item, texts_in}
-use Rattle.json_members.specs.Reading.{unless}
-use Rattle.vap_select.specs.SelectorForm.{is_selector, selector_of}
-use Rattle.vap_select.specs.declared.match_fault.MatchFault.{MatchFault}
-use Rattle.vap_select.specs.declared.match_fault.MatchFault.TheVariants.{BadOperator, BadScope, EmptyRule}
+use Rattle.vap_match.specs.Forms.{there_and, absent_or, is_text, is_object, all_items, is_list_of, is_some_of}
+use Rattle.vap_match.specs.Parts.{items_in, each_item, texts_in}
+use Rattle.vap_match.specs.ReaderAnswers.{unless}
+use Rattle.vap_match.specs.SelectorForm.{is_selector, selector_of}
+use Rattle.vap_match.specs.declared.match_fault.MatchFault.{MatchFault}
+use Rattle.vap_match.specs.declared.match_fault.MatchFault.TheVariants.{BadOperator, BadScope, EmptyRule}
 use Rattle.vap_match.specs.declared.rules.Operation.{Operation}
 use Rattle.vap_match.specs.declared.rules.Operation.TheVariants as operation
 use Rattle.vap_match.specs.declared.rules.Scope.{Scope}
@@ -131,7 +131,7 @@ IsLeast d f = (applies f d ≡ true) × ((g : MatchFault) → number_of g < numb
 abbrev pub operation_of : Data → Operation
 operation_of d = unwrap_or (operation_at d) operation.Any
 
--- the scope of a rule: any where none is named
+-- the scope of a rule: any if none is named
 abbrev pub scope_of : Data → Scope
 scope_of d = unwrap_or (option_and_then scope_at (get (codes "scope") d)) scope.Any
 
@@ -159,7 +159,7 @@ rules_of d = record {
 abbrev pub no_rules : Rules
 no_rules = record { resource_rules = []; exclude_resource_rules = []; namespace_selector = None; object_selector = None }
 
--- the rules of a member, which say nothing where it is absent
+-- the rules of a member, which say nothing if it is absent
 abbrev pub rules_under : Option Data → Rules
 rules_under None = no_rules
 rules_under (Some d) = rules_of d

@@ -1,4 +1,4 @@
-//! Which requests rules cover, selectors apart.
+//! Which requests rules cover, apart from selectors.
 
 ghost use Rattle.std.specs.Prelude.{◌≡◌};
 ghost use Rattle.std.specs.List.{list_any};
@@ -6,10 +6,10 @@ ghost use Rattle.vap_match.specs.Namespaces.{is_namespace, is_cluster};
 ghost use Rattle.vap_match.specs.Cover.{operation_name, is_word_or_any, before_slash, behind_slash, covers_resource};
 ghost use Rattle.vap_match.specs.Cover.{is_within, is_named, rule_covers, is_covered, covers};
 
+use crate::label_selection::contains;
+use crate::request::{Admission, Request};
 use crate::rules::{Operation, Rule, Rules, Scope};
-use plain::Text;
-use vap_request::{Admission, Request};
-use vap_select::contains;
+use base_containers::Text;
 
 /// Whether rules cover a request, whatever their selectors say.
 pub fn covers(rules: &Rules, request: &Request) -> bool
@@ -82,7 +82,8 @@ fn names_operation(operations: &[Operation], word: &str) -> bool
     false
 }
 
-fn names_word(words: &[Text], wanted: &str) -> bool
+/// Whether one of these words is the wanted one, or the one for all.
+pub fn names_word(words: &[Text], wanted: &str) -> bool
     ensures { result ≡ list_any (is_word_or_any wanted.now) words.now }
 {
     for word in words {
@@ -111,7 +112,7 @@ fn covers_resource(pattern: &str, resource: &str, sub: &str) -> bool
     is_word_or_any(wanted, resource) && is_word_or_any(wanted_sub, sub)
 }
 
-/// What stands before the first slash of a pattern, and what stands behind it.
+/// What is before the first slash of a pattern, and what is after it.
 fn parts(pattern: &[u8]) -> (&[u8], &[u8])
     ensures before { result.0.now ≡ before_slash pattern.now }
     ensures behind { result.1.now ≡ behind_slash pattern.now }
@@ -156,7 +157,7 @@ pub fn is_namespace(request: &Admission) -> bool
     request.resource.group.as_str() == "" && request.resource.resource.as_str() == "namespaces"
 }
 
-/// Whether a request is on what stands in no namespace.
+/// Whether a request is on what is in no namespace.
 pub fn is_cluster(request: &Admission) -> bool
     ensures { result ≡ is_cluster request.now }
 {

@@ -3,20 +3,23 @@
 ghost use Rattle.std.specs.Prelude.{◌≡◌, ◌&&◌, IfOk, IfErr, IfSome, codes, option_map, option_and_then};
 ghost use Rattle.serde_json.specs.Find.{get};
 ghost use Rattle.serde_json.specs.View.{view, items_view};
-ghost use Rattle.failing.specs.Failures.{Answers, IfFault};
-ghost use Rattle.json_members.specs.Forms.{there_and, absent_or, all_items, has_items, is_list_of, is_some_of};
-ghost use Rattle.json_members.specs.Parts.{each_item};
-ghost use Rattle.vap_select.specs.SelectorForm.{is_selector, selector_of};
+ghost use Rattle.base_containers.specs.Failures.{Answers, IfFault};
+ghost use Rattle.vap_match.specs.Forms.{there_and, absent_or, all_items, has_items, is_list_of, is_some_of};
+ghost use Rattle.vap_match.specs.Parts.{each_item};
+ghost use Rattle.vap_match.specs.SelectorForm.{is_selector, selector_of};
 ghost use Rattle.vap_match.specs.RuleForm.{operation_word, scope_word, operation_at, scope_at, is_operation, is_policy};
 ghost use Rattle.vap_match.specs.RuleForm.{has_selectors, has_scope, has_scopes, is_rule, has_rules, least_fault};
 ghost use Rattle.vap_match.specs.RuleForm.{IsLeast, operation_of, scope_of, rule_of, rules_of, rules_under, read_rules};
 
+use crate::forms::{has_items, has_texts, may_have_texts};
+use crate::match_fault::{MatchError, MatchFault};
+use crate::parts::{items_in, texts_in};
 use crate::rules::{Operation, Rule, Rules, Scope};
-use json_members::{has_items, has_texts, items_in, may_have_texts, texts_in};
-use plain::Items;
+use crate::selector::Selector;
+use crate::selector_form::{is_selector, selector_of};
+use base_containers::Items;
 use serde_json::Value as Json;
 use std::alloc::{AllocError, Global};
-use vap_select::{MatchError, MatchFault, Selector, is_selector, selector_of};
 
 impl Rules {
     /// The rules that a document is, or the least of its faults.
@@ -41,7 +44,7 @@ pub fn fault_under(json: &Json, name: &str) -> Option<MatchFault>
     }
 }
 
-/// The rules under a member, whatever its form; where it is absent, rules that say nothing.
+/// The rules under a member, whatever its form; if it is absent, rules that say nothing.
 pub fn rules_under(alloc: Global, json: &Json, name: &str) -> Result<Rules, AllocError>
     ensures { IfOk result (λ rules. rules ≡ rules_under (get name.now (view json.now))) }
 {

@@ -1,7 +1,7 @@
 //! Rules of a policy and of a binding: which requests they are for.
 
-use plain::{Items, Text};
-use vap_select::Selector;
+use crate::selector::Selector;
+use base_containers::{Items, Text};
 
 /// An operation that a rule names.
 #[derive(Clone, Copy)]

@@ -1,17 +1,19 @@
 //! Which requests rules choose by their selectors, and which they match.
 
 ghost use Rattle.std.specs.Prelude.{◌≡◌};
-ghost use Rattle.vap_select.specs.Select.{lent_labels};
+ghost use Rattle.vap_match.specs.Select.{lent_labels};
 ghost use Rattle.vap_match.specs.Namespaces.{own_labels};
 ghost use Rattle.vap_match.specs.Choose.{passes, selects_namespace, selects_document, selects_either, selects_object, matches};
 
 use crate::coverage::{covers, is_cluster, is_namespace};
+use crate::label_selection::selects;
+use crate::labels::{Labels, labels_of};
+use crate::open_request::OpenRequest;
 use crate::rules::Rules;
-use json_documents::Part;
-use vap_request::OpenRequest;
-use vap_select::{Labels, Selector, labels_of, selects};
+use crate::selector::Selector;
+use base_containers::Part;
 
-/// Whether rules match a request: they cover it, and they select its namespace, of which these labels are held, and an
+/// Whether rules match a request: they cover it, and they select its namespace, for which these labels are held, and an
 /// object of it.
 pub fn matches(rules: &Rules, request: &OpenRequest<'_, '_, '_>, held: &Labels<'_, '_>) -> bool
     ensures { result ≡ matches rules.now request.now.request.now.admission (lent_labels held.now) }
@@ -21,7 +23,7 @@ pub fn matches(rules: &Rules, request: &OpenRequest<'_, '_, '_>, held: &Labels<'
         && selects_object(rules, request)
 }
 
-/// Whether rules select the namespace of a request, of which these labels are held, or the Namespace that the request is on.
+/// Whether rules select the namespace of a request, for which these labels are held, or the Namespace that the request is on.
 pub fn selects_namespace(
     rules: &Rules,
     request: &OpenRequest<'_, '_, '_>,

@@ -6,9 +6,9 @@ use denote.Struct.Declared.{shape}
 use Rattle.std.proofs.Crossing.{crosses}
 use Rattle.core.proofs.ledger.Sent.{book_send, share_send}
 use Rattle.std.specs.declared.sync.ledger.Ledger as ledger
-use Rattle.cel_patterns.proofs.Crossing.{matchers_send}
-use Rattle.vap_answer.proofs.Crossing.{verdict_send, verdict_sync}
-use Rattle.board.proofs.Crossing.{told_sync}
+use Rattle.cel_operators.proofs.Crossing.{matchers_send}
+use Rattle.vap_policy.proofs.Crossing.{verdict_send, verdict_sync}
+use Rattle.vap_watch.proofs.BoardCrossing.{told_sync}
 use Rattle.vap_watch.proofs.Crossing.{reader_send}
 use Rattle.vap_audit.proofs.Crossing.{request_send, request_sync, history_send}
 use Rattle.vap_plane.specs.declared.closing.Plan as plan

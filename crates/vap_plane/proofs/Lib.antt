@@ -1,3 +1,5 @@
+pub mod Played
+pub mod Taken
 pub mod Closed
 pub mod Numbered
 pub mod Replies

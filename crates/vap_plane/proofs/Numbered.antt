@@ -1,13 +1,13 @@
--- What came under a number, one answer further, and what it comes to.
+-- What came under a number, one answer further, and what results from it.
 use Rattle.std.proofs.Common.{◌≡◌, ◌≢◌, ◌⊎◌, ℕ, ◌+◌, ◌<◌, ◌≤◌, Bool, true, false, List, [], ◌∷◌, ◌++◌, length, map, replicate}
 use Rattle.std.proofs.Common.{refl, sym, ap, subst, ◌∙◌, inl, inr, ⊎_elim, zero, suc, arith}
 use Rattle.std.proofs.lemmas.List.{length-map, length-append}
 use Rattle.std.proofs.lemmas.Option.{slice_get_within}
 use Rattle.std.proofs.lemmas.Bool.Decides.{nat_tests}
 use Rattle.std.specs.Prelude.{◌==◌, slice_get, slice_set, Option, Some, None, if◌then◌else◌}
-use Rattle.failing.specs.declared.failed.Failed.{Failed}
-use Rattle.failing.specs.declared.failed.Failed.TheVariants.{OutOfMemory, Fault}
-use Rattle.vap_answer.specs.declared.verdict.Verdict.{Verdict}
+use Rattle.base_containers.specs.declared.failed.Failed.{Failed}
+use Rattle.base_containers.specs.declared.failed.Failed.TheVariants.{OutOfMemory, Fault}
+use Rattle.vap_policy.specs.declared.verdict.Verdict.{Verdict}
 use Rattle.vap_plane.specs.Numbered.{once_more, came, IsFine, HasFault, IsListOf, IsLeastFault, IsWhy, LeastOf, IsBroken, IsGap}
 use Rattle.vap_plane.specs.Numbered.{AreCame, IsLeastStranger, Breaks}
 use Rattle.vap_plane.specs.declared.gathering.Came.{Came}
@@ -18,7 +18,7 @@ use Rattle.vap_plane.specs.declared.gathering.GatherFault.TheVariants.{Stranger}
 abbrev pub Answers : Type 0
 Answers = List (ℕ × Verdict)
 
--- of two answers it is the same which comes once more first
+-- of two answers, it makes no difference which comes once more first
 turned : (v w : Verdict) (c : Came) → once_more v (once_more w c) ≡ once_more w (once_more v c)
 turned v w Never = refl
 turned v w (Once u) = refl
@@ -33,7 +33,7 @@ turned_if true false v w c = refl
 turned_if false true v w c = refl
 turned_if false false v w c = refl
 
--- what came, where one answer more is the last
+-- what came, if one more answer is the last
 pub came_more : (n m : ℕ) (v : Verdict) (ys : Answers) → came n (ys ++ (m, v) ∷ []) ≡ if_more (m == n) v (came n ys)
 came_more n m v [] = refl
 came_more n m v (y ∷ ys) =
@@ -162,7 +162,7 @@ stranger_more count ys (Some s) n r v le is least = ⊎_elim
     ))
     least
 
--- places in each of which one came
+-- places, in each of which exactly one came
 module _ {X : Type 0} {Y : Type 0} where
   pub get_mapped : (f : X → Y) (xs : List X) (n : ℕ) (x : X) → slice_get xs n ≡ Some x → slice_get (map f xs) n ≡ Some (f x)
   get_mapped f [] n x e = cc
@@ -204,7 +204,7 @@ once_here count ys slots vs n are is lt =
       inner (came n ys) (Once g.0) (sym (are.each n lt) ∙ (ap (λ (l : List Came). slice_get l n) is ∙ g.1)),
     )
 
--- the first place in which not one came
+-- the first place in which not exactly one came
 pub breaks_here : (slots before behind : List Came) (vs : List Verdict) (c : Came) (fault : GatherFault) → before ≡ map Once vs
     → before ++ c ∷ behind ≡ slots → Breaks (length vs) c fault → IsBroken slots fault
 breaks_here slots before behind vs c fault once split breaks = record {
@@ -215,7 +215,7 @@ breaks_here slots before behind vs c fault once split breaks = record {
   breaks = breaks;
 }
 
--- one came in each place, and no stranger
+-- exactly one came in each place, and no stranger
 pub list_of : (count : ℕ) (ys : Answers) (slots : List Came) (vs : List Verdict) → AreCame count ys slots → slots ≡ map Once vs
     → IsLeastStranger count ys None → IsListOf count ys vs
 list_of count ys slots vs are is none =
@@ -229,7 +229,7 @@ list_of count ys slots vs are is none =
           ∙ get_mapped Once vs n v at)));
     }
 
--- one came in each place, and a stranger
+-- exactly one came in each place, and a stranger
 pub stranger_fault : (count : ℕ) (ys : Answers) (slots : List Came) (vs : List Verdict) (n : ℕ) → AreCame count ys slots
     → slots ≡ map Once vs
     → IsLeastStranger count ys (Some n) → IsLeastFault count ys (Stranger n)
@@ -275,7 +275,7 @@ least_in count ys slots fault are broken = record {
   least = broken_before count ys slots broken.before broken.found broken.behind are broken.split;
 }
 
--- not one came in some place
+-- not exactly one came in some place
 pub gap_fault : (count : ℕ) (ys : Answers) (slots : List Came) (error : Failed GatherFault) → AreCame count ys slots → IsGap slots error
     → IsWhy count ys error
 gap_fault count ys slots OutOfMemory are gap = tt

@@ -6,9 +6,9 @@ use Rattle.std.proofs.lemmas.Bool.Decides.{nat_tests}
 use Rattle.std.proofs.lemmas.Option.{slice_get_read}
 use Rattle.std.specs.Prelude.{◌==◌, slice_get, Some, Bool, true, false, if◌then◌else◌}
 use Rattle.std.specs.List.{All}
-use Rattle.board.specs.Shown.{Shown}
-use Rattle.vap_request.specs.declared.request.Request.{Request}
-use Rattle.vap_answer.specs.declared.verdict.Verdict.{Verdict}
+use Rattle.vap_watch.specs.Shown.{Shown}
+use Rattle.vap_match.specs.declared.request.Request.{Request}
+use Rattle.vap_policy.specs.declared.verdict.Verdict.{Verdict}
 use Rattle.vap_watch.specs.Logs.{StartsWith, verdict_at}
 use Rattle.vap_watch.specs.Seen.{Known, Learns, Looks, SeesMore}
 use Rattle.vap_watch.specs.declared.log.Logged.{Logged}
@@ -30,7 +30,7 @@ begins_further told log more begins further = record {
   begins = starts_further more log begins.one.list further begins.begins;
 }
 
--- who learns one of the told logs knows it
+-- a reader that learns one of the told logs knows it
 pub knows_one : (told held : List (Shown Logged)) (place : ℕ) (one learnt : Shown Logged) (before after : Known Logged)
     → held ≡ told → place < length held → one ≡ get_or held place one → learnt ≡ one → Learns before after learnt.list
     → KnowsOneOf told after
@@ -48,7 +48,7 @@ pub knows_still : (told : List (Shown Logged)) (before after : Known Logged) →
     → KnowsOneOf told after
 knows_still told before after knows more = subst (BeginsWithOneOf told) (sym more.told) knows
 
--- who is as before has seen no less, and so has who is as one that has
+-- a reader that is as before has seen no less, and so has one that is as one that has
 pub sees_same : (before after : Known Logged) → after ≡ before → SeesMore before after
 sees_same before after same = subst (λ (k : Known Logged). SeesMore before k) (sym same) (sees_still before)
 

@@ -5,9 +5,9 @@ use Rattle.std.proofs.Common.{arith, append-nil, length-append}
 use Rattle.std.proofs.lemmas.List.{take_all, drop_all}
 use Rattle.std.specs.Prelude.{slice_get, Option, Some}
 use Rattle.std.specs.List.{All}
-use Rattle.board.specs.Shown.{Shown}
-use Rattle.vap_request.specs.declared.request.Request.{Request}
-use Rattle.vap_answer.specs.declared.verdict.Verdict.{Verdict}
+use Rattle.vap_watch.specs.Shown.{Shown}
+use Rattle.vap_match.specs.declared.request.Request.{Request}
+use Rattle.vap_policy.specs.declared.verdict.Verdict.{Verdict}
 use Rattle.vap_watch.specs.Logs.{StartsWith, verdict_at}
 use Rattle.vap_watch.specs.declared.log.Logged.{Logged}
 use Rattle.vap_plane.specs.Answers.{AreAnswers, AreAtTold, verdicts_at}

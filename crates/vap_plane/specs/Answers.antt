@@ -1,9 +1,9 @@
 -- What answers to the requests of a batch are.
 use Rattle.std.specs.Prelude.{◌≡◌, ℕ, List, length, map, slice_get, Some}
 use Rattle.std.specs.List.{All}
-use Rattle.board.specs.Shown.{Shown}
-use Rattle.vap_request.specs.declared.request.Request.{Request}
-use Rattle.vap_answer.specs.declared.verdict.Verdict.{Verdict}
+use Rattle.vap_watch.specs.Shown.{Shown}
+use Rattle.vap_match.specs.declared.request.Request.{Request}
+use Rattle.vap_policy.specs.declared.verdict.Verdict.{Verdict}
 use Rattle.vap_watch.specs.Logs.{StartsWith, verdict_at}
 use Rattle.vap_watch.specs.Seen.{Known}
 use Rattle.vap_watch.specs.declared.log.Logged.{Logged}

@@ -14,13 +14,13 @@ abbrev pub Settles : List Entry → List Logged → Result Report Stray → Type
 Settles history log (Ok report) = AreRightIn log history × (report.revision ≡ length log) × (report.entries ≡ length history)
 Settles history log (Err stray) = IsStray history log stray.entry stray.at
 
--- what is answered where no worker is missing, or a missing worker
+-- what is answered if no worker is missing, or that a worker is missing
 abbrev pub Closes : List Entry → List Logged → Result Report CloseError → Type 0
 Closes history log (Ok report) = Settles history log (Ok report)
 Closes history log (Err (why.Stray stray)) = Settles history log (Err stray)
 Closes history log (Err why.Missing) = ⊤
 
--- there is a history of which this is answered, whose entries are kept as each was appended
+-- there is a history for which this is answered, whose entries are kept as each was appended
 pub record ClosesSome (log : List Logged) (result : Result Report CloseError) : Type 0 where
   pub history : List Entry
   pub kept : All IsKept history

@@ -1,15 +1,15 @@
--- What comes of numbered answers.
+-- What results from numbered answers.
 use Rattle.std.specs.Prelude.{◌≡◌, ◌≢◌, ◌⊎◌, ◌==◌, ◌<◌, ◌≤◌, ℕ, List, [], ◌∷◌, ◌++◌, length, map, slice_get, if◌then◌else◌}
 use Rattle.std.specs.Prelude.{Option, Some, None}
-use Rattle.failing.specs.Failures.{IfFault}
-use Rattle.failing.specs.declared.failed.Failed.{Failed}
-use Rattle.vap_answer.specs.declared.verdict.Verdict.{Verdict}
+use Rattle.base_containers.specs.Failures.{IfFault}
+use Rattle.base_containers.specs.declared.failed.Failed.{Failed}
+use Rattle.vap_policy.specs.declared.verdict.Verdict.{Verdict}
 use Rattle.vap_plane.specs.declared.gathering.Came.{Came}
 use Rattle.vap_plane.specs.declared.gathering.Came.TheVariants.{Never, Once, Again}
 use Rattle.vap_plane.specs.declared.gathering.GatherFault.{GatherFault}
 use Rattle.vap_plane.specs.declared.gathering.GatherFault.TheVariants.{Double, Stranger, Lost}
 
--- what has come under a number, where an answer comes once more
+-- what has come under a number, if an answer comes once more
 abbrev pub once_more : Verdict → Came → Came
 once_more verdict Never = Once verdict
 once_more verdict (Once other) = Again
@@ -43,22 +43,22 @@ pub record IsLeastFault (count : ℕ) (answers : List (ℕ × Verdict)) (fault :
   pub has : HasFault count answers number fault
   pub least : (other : ℕ) → other < number → IsFine count answers other
 
--- why numbered answers do not come to a list: the least fault, or want of memory
+-- why numbered answers do not form a list: the least fault, or out of memory
 abbrev pub IsWhy : ℕ → List (ℕ × Verdict) → Failed GatherFault → Type 0
 IsWhy count answers error = IfFault (IsLeastFault count answers) error
 
--- the lesser of two numbers, where there is a first
+-- the lesser of two numbers, if there is a first
 abbrev pub LeastOf : Option ℕ → ℕ → ℕ → Type 0
 LeastOf None other least = least ≡ other
 LeastOf (Some first) other least = ((least ≡ first) × (first ≤ other)) ⊎ ((least ≡ other) × (other < first))
 
--- the first place in which not one came has this fault
+-- the first place in which not exactly one came has this fault
 abbrev pub Breaks : ℕ → Came → GatherFault → Type 0
 Breaks number Never fault = fault ≡ Lost number
 Breaks number Again fault = fault ≡ Double number
 Breaks number (Once verdict) fault = ⊥
 
--- one came in each place before the first in which not one did
+-- exactly one came in each place before the first in which not exactly one did
 pub record IsBroken (slots : List Came) (fault : GatherFault) : Type 0 where
   pub before : List Verdict
   pub found : Came
@@ -66,7 +66,7 @@ pub record IsBroken (slots : List Came) (fault : GatherFault) : Type 0 where
   pub split : slots ≡ map Once before ++ found ∷ behind
   pub breaks : Breaks (length before) found fault
 
--- why places do not come to a list: the first in which not one came, or want of memory
+-- why places do not form a list: the first in which not exactly one came, or out of memory
 abbrev pub IsGap : List Came → Failed GatherFault → Type 0
 IsGap slots error = IfFault (IsBroken slots) error
 

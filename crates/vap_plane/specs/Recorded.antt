@@ -1,13 +1,13 @@
 -- What is recorded, and why a call is not answered.
 use Rattle.std.specs.Prelude.{◌≡◌, ◌⊎◌, ℕ, List, codes}
 use Rattle.vap_audit.specs.declared.entry.Entry.{Entry}
-use Rattle.failing.specs.declared.failed.Failed.{Failed}
-use Rattle.failing.specs.declared.failed.Failed.TheVariants.{OutOfMemory, Fault}
+use Rattle.base_containers.specs.declared.failed.Failed.{Failed}
+use Rattle.base_containers.specs.declared.failed.Failed.TheVariants.{OutOfMemory, Fault}
 use Rattle.vap_plane.specs.declared.fault.PlaneFault.{PlaneFault}
 use Rattle.vap_plane.specs.declared.fault.PlaneFault.TheVariants.{Double, Stranger, Lost, Judge, Audit, Gone}
 use Rattle.vap_watch.specs.declared.log.Logged.{Logged}
-use Rattle.vap_request.specs.declared.request.Request.{Request}
-use Rattle.vap_answer.specs.declared.verdict.Verdict.{Verdict}
+use Rattle.vap_match.specs.declared.request.Request.{Request}
+use Rattle.vap_policy.specs.declared.verdict.Verdict.{Verdict}
 
 -- the entry of what was judged at a log by this worker
 abbrev pub entry_of : ℕ → List Logged → Request → Verdict → ℕ → Entry

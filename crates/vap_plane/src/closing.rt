@@ -24,7 +24,7 @@ impl Plan for Brand {
     ghost workers = { 0 };
 }
 
-/// The history under its lock, for so many workers. One who locks it is lent a [`Kept`].
+/// The history under its lock, for so many workers. A caller that locks it is lent a [`Kept`].
 #[derive(Drop)]
 pub struct SharedHistory<L: Plan> {
     pub kept: Mutex<Kept<L>>,
@@ -32,7 +32,7 @@ pub struct SharedHistory<L: Plan> {
     ghost all: { workers ≡ L.workers },
 }
 
-/// What a closed history comes to: the length of the final log, and the number of entries.
+/// The result of closing a history: the length of the final log, and the number of entries.
 #[derive(Clone, Copy, Debug, PartialEq, Eq)]
 pub struct Report {
     pub revision: usize,

@@ -1,4 +1,4 @@
-//! What came back of a batch, and what it comes to.
+//! What came back of a batch, and what results from it.
 
 ghost use Rattle.std.specs.Prelude.{◌≡◌, ◌++◌, [], IfOk, OnOk};
 ghost use Rattle.vap_plane.specs.Answers.{AreRight};
@@ -9,9 +9,9 @@ use crate::gathering::{GatherError, GatherFault, gather};
 use crate::jobs::Batch;
 use crate::messages::{Answers, Failure};
 use std::alloc::{AllocError, Global};
-use vap_answer::Verdict;
+use vap_policy::Verdict;
 
-/// Numbered answers, and of the requests that are not answered that of the least number.
+/// Numbered answers, and, of the requests that are not answered, the failure of the one with the least number.
 #[derive(Drop)]
 pub(crate) struct Collected {
     pub(crate) answers: Vec<(u64, Verdict)>,
@@ -84,8 +84,8 @@ pub(crate) fn joined(
     }
 }
 
-/// The error of the least call, if numbers do not come to a list and some request is perhaps not answered: such a request is lost to
-/// the list, and its own error says why.
+/// The error of the least call, if numbers do not form a list and some request is perhaps not answered: such a request is missing
+/// in the list, and its own error says why.
 fn error_of(first: u64, error: GatherError, failure: Option<Failure>) -> PlaneError {
     let GatherError::Fault(fault) = error else {
         return PlaneError::OutOfMemory;

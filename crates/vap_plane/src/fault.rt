@@ -3,7 +3,7 @@
 ghost use Rattle.std.specs.Prelude.{◌≡◌};
 ghost use Rattle.vap_plane.specs.Recorded.{plane_fault_name};
 
-use failing::Failed;
+use base_containers::Failed;
 use thiserror::Error;
 
 /// The faults of calls by their numbers, from 1 on, each with its call.

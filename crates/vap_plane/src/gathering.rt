@@ -4,13 +4,13 @@ ghost use Rattle.std.specs.Prelude.{◌≡◌, ◌<◌, length, map, replicate, 
 ghost use Rattle.vap_plane.specs.Numbered.{AreCame, IsGap, IsLeastStranger, IsListOf, IsWhy, LeastOf, once_more};
 ghost use Rattle.vap_plane.specs.declared.gathering.Came.TheVariants.{Never, Once};
 
-use failing::Failed;
+use base_containers::Failed;
 use std::alloc::{AllocError, Global};
 use std::mem;
 use thiserror::Error;
-use vap_answer::Verdict;
+use vap_policy::Verdict;
 
-/// Why numbered answers do not come to a list: the least number that has a fault.
+/// Why numbered answers do not form a list: the least number that has a fault.
 #[derive(Clone, Copy, Debug, PartialEq, Eq, Error)]
 pub enum GatherFault {
     #[error("number {0} comes more than once")]
@@ -21,7 +21,7 @@ pub enum GatherFault {
     Lost(u64),
 }
 
-/// Why numbered answers do not come to a list.
+/// Why numbered answers do not form a list.
 pub type GatherError = Failed<GatherFault>;
 
 /// What came under a number.
@@ -32,7 +32,7 @@ pub(crate) enum Came {
     Again,
 }
 
-/// The answers by their numbers, from 0 to below `count`, where each of these comes once and no other comes.
+/// The answers by their numbers, from 0 to below `count`, if each of these comes once and no other comes.
 #[tactic(auto, using(crate::proofs::Numbered::list_of, crate::proofs::Numbered::gap_fault, crate::proofs::Numbered::stranger_fault))]
 pub fn gather(
     alloc: Global,
@@ -72,7 +72,7 @@ fn placed(
     Ok((slots, stranger))
 }
 
-/// Places of which nothing has come.
+/// Places in which nothing has come.
 fn empty_slots(alloc: Global, count: u64) -> Result<Vec<Came>, AllocError>
     ensures { IfOk result (λ slots. slots.items ≡ replicate count Never) }
 {
@@ -94,7 +94,7 @@ fn put(slots: &mut Vec<Came>, number: usize, verdict: Verdict)
     slots[number] = once_more(verdict, found);
 }
 
-/// What has come where an answer comes once more.
+/// What has come, if an answer comes once more.
 fn once_more(verdict: Verdict, found: Came) -> Came
     ensures { result ≡ once_more verdict found }
 {
@@ -104,7 +104,7 @@ fn once_more(verdict: Verdict, found: Came) -> Came
     }
 }
 
-/// The lesser of two numbers, where there is a first.
+/// The lesser of two numbers, if there is a first.
 fn least(first: Option<u64>, other: u64) -> u64
     ensures { LeastOf first other result }
 {
@@ -114,7 +114,7 @@ fn least(first: Option<u64>, other: u64) -> u64
     }
 }
 
-/// What came once in each place, or the first place where nothing came, or more than one.
+/// What came once in each place, or the first place where nothing came, or more than one did.
 fn in_order(alloc: Global, slots: Vec<Came>) -> Result<Vec<Verdict>, GatherError>
     ensures { MatchResult result (λ verdicts. slots.items ≡ map Once verdicts.items) (IsGap slots.items) }
 {

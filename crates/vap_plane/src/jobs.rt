@@ -1,12 +1,12 @@
 //! The requests of one batch, on their way to workers.
 
 ghost use Rattle.std.specs.Prelude.{◌≡◌, List, [], slice_get, Some};
-ghost use Rattle.board.specs.Shown.{Shown};
-ghost use Rattle.vap_request.specs.declared.request.Request.{Request as RequestOf};
+ghost use Rattle.vap_watch.specs.Shown.{Shown};
+ghost use Rattle.vap_match.specs.declared.request.Request.{Request as RequestOf};
 ghost use Rattle.vap_watch.specs.declared.log.Logged.{Logged as LoggedOf};
 
 use std::marker::{Brand, PhantomData};
-use vap_request::Request;
+use vap_match::Request;
 use vap_watch::Told;
 
 /// The requests that are judged together, and what the workers are told before.

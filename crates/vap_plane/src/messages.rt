@@ -7,7 +7,7 @@ use crate::fault::PlaneError;
 use crate::jobs::Batch;
 use std::alloc::{AllocError, Global};
 use std::marker::{Model, PhantomData};
-use vap_answer::Verdict;
+use vap_policy::Verdict;
 
 /// What one worker answered: numbered verdicts, each the answer to the request of its number.
 #[derive(Drop)]
@@ -19,8 +19,8 @@ pub(crate) struct Answers<B: Batch> {
 impl<B: Batch> Model for Answers<B> {
     ghost use Rattle.std.specs.Prelude.{ℕ, List};
     ghost use Rattle.std.specs.Coded.{codes};
-    ghost use Rattle.vap_answer.specs.contracts.verdict.Verdict as answer;
-    ghost use Rattle.vap_answer.specs.declared.verdict.Verdict.{Verdict as VerdictOf};
+    ghost use Rattle.vap_policy.specs.contracts.verdict.Verdict as answer;
+    ghost use Rattle.vap_policy.specs.declared.verdict.Verdict.{Verdict as VerdictOf};
     ghost use Rattle.vap_plane.specs.Answers.{AreRight};
 
     ghost Value = { List (ℕ × VerdictOf) };
@@ -48,7 +48,7 @@ impl<B: Batch> Answers<B> {
         self.verdicts.is_empty()
     }
 
-    /// One answer more. If it is refused, nothing has changed.
+    /// Adds one answer. If it is refused, nothing has changed.
     #[tactic(auto, using(crate::proofs::Replies::one_more))]
     pub(crate) fn push(&mut self, number: u64, verdict: Verdict) -> Result<(), AllocError>
         requires { IsAnswer B.told B.requests number verdict }

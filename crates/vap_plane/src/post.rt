@@ -7,8 +7,8 @@ use std::alloc::AllocError;
 use std::sync::Wait;
 use std::sync::atomic::{AtomicBool, Ordering};
 
-/// Where workers take jobs and leave replies. That a reply could not be left is noted, so that it is not taken for one that never
-/// was.
+/// Where workers take jobs and leave replies. If a reply could not be left, this is noted, so that it does not seem that there
+/// never was one.
 #[derive(Drop)]
 pub(crate) struct Post<B: Batch> {
     jobs: Receiver<Job<B>>,
@@ -38,7 +38,7 @@ impl<B: Batch> Post<B> {
         self.send(rt, Reply::Answered(answers))
     }
 
-    /// Leaves word of a request that is not answered.
+    /// Leaves the failure of a request that is not answered.
     pub(crate) fn refuse<R: Wait>(&self, rt: &R, failure: Failure) -> Result<(), AllocError> {
         self.send(rt, Reply::Failed(failure))
     }

@@ -17,8 +17,8 @@ use std::marker::Brand;
 use std::sync::Wait;
 use std::thread;
 use std::thread::Threads;
-use vap_answer::Verdict;
-use vap_request::Request;
+use vap_match::Request;
+use vap_policy::Verdict;
 use vap_watch::Told;
 
 /// Judges and records each request by one of the workers; a worker takes the next request when it is done with one. Before, each
@@ -151,7 +151,7 @@ struct Service<'r, 't, 'p, 's, 'g, L: Plan, B: Batch, R, G> {
 }
 
 impl<L: Plan, B: Batch, R: Wait, G: Gate> Service<'_, '_, '_, '_, '_, L, B, R, G> {
-    /// Has the worker of this place learn what is told to it, and judge and record the requests that come. If memory is wanting, this
+    /// Lets the worker of this place learn what is told to it, and judge and record the requests that come. If memory runs out, this
     /// is noted.
     #[tactic(auto, using(crate::proofs::Replies::knows_one))]
     fn serve(&self, number: usize, worker: &mut Worker<L>)
@@ -184,7 +184,7 @@ impl<L: Plan, B: Batch, R: Wait, G: Gate> Service<'_, '_, '_, '_, '_, L, B, R, G
         self.post.leave(self.rt, answers)
     }
 
-    /// Judges and records one request, and puts its answer to the others, or leaves word that it is not answered.
+    /// Judges and records one request, and adds its answer to the others, or leaves its failure if it is not answered.
     #[tactic(auto, using(crate::proofs::Replies::answered, crate::proofs::Replies::knows_still))]
     fn answer(
         &self,

@@ -1,7 +1,7 @@
 //! Workers.
 
 ghost use Rattle.std.specs.Prelude.{◌≡◌, ◌++◌, ◌∷◌, ◌+◌, [], length, IfErr, MatchResult, OnErr, OnOk};
-ghost use Rattle.failing.specs.declared.failed.Failed.TheVariants.{Fault};
+ghost use Rattle.base_containers.specs.declared.failed.Failed.TheVariants.{Fault};
 ghost use Rattle.vap_audit.specs.Entries.{most_entries};
 ghost use Rattle.vap_watch.specs.Logs.{verdict_at};
 ghost use Rattle.vap_watch.specs.Seen.{Learns, Looks, SeesMore};
@@ -10,14 +10,13 @@ ghost use Rattle.vap_plane.specs.Recorded.{IsUnanswered, IsUndecided, IsUnjudged
 use crate::closing::{Plan, SharedHistory};
 use crate::fault::{PlaneError, PlaneFault};
 use crate::kept::Kept;
-use plain::Shared;
+use base_containers::Shared;
 use std::alloc::Global;
 use std::sync::Wait;
 use std::sync::ledger::{Ledger, Share};
-use vap_answer::Verdict;
 use vap_audit::{AuditFault, Entry};
-use vap_judge::{JudgeError, Matchers, RunFault};
-use vap_request::Request;
+use vap_match::Request;
+use vap_policy::{JudgeError, Matchers, RunFault, Verdict};
 use vap_watch::{Log, Reader, ReaderError, Told};
 
 /// The right to be the worker of this number: of each number there is one.
@@ -76,7 +75,7 @@ impl Judged {
     }
 }
 
-/// One who judges by what is published and records in one history. It keeps the patterns that it met, so that it builds each once.
+/// Judges by what is published and records in one history. It keeps the patterns that it met, so that it builds each once.
 #[derive(Drop)]
 pub struct Worker<L: Ledger> {
     number: u64,
@@ -142,7 +141,7 @@ impl<L: Ledger> Worker<L> {
     }
 
     /// Judges a request at the published log, which the worker has then seen. This log begins with all that it had seen, and with all
-    /// that it was told of. Where it is refused, the request comes back.
+    /// that it was told of. If it is refused, the request comes back.
     #[tactic(auto, using(crate::proofs::Replies::sees_same))]
     pub fn judge(
         &mut self,
@@ -199,7 +198,7 @@ impl<L: Ledger> Worker<L> {
         }
     }
 
-    /// Puts what was judged last in the history that is lent, under the worker's number, and answers its verdict. Where it is
+    /// Puts what was judged last in the history that is lent, under the worker's number, and answers its verdict. If it is
     /// refused, it comes back and nothing has changed.
     pub fn record(
         &mut self,
@@ -224,7 +223,7 @@ impl<L: Ledger> Worker<L> {
         }
     }
 
-    /// Puts what was judged last in the history that is lent. Where it is refused, it comes back and nothing has changed.
+    /// Puts what was judged last in the history that is lent. If it is refused, it comes back and nothing has changed.
     fn append(&mut self, kept: &mut Kept<L>, judged: Judged) -> Result<(), (PlaneError, Judged)>
         ensures history { MatchResult result
             (λ _. kept.new.history ≡ kept.old.history
@@ -249,7 +248,7 @@ impl<L: Ledger> Worker<L> {
 }
 
 impl<L: Plan> Worker<L> {
-    /// Judges, then records under the lock. Where it is refused, the request comes back.
+    /// Judges, then records under the lock. If it is refused, the request comes back.
     #[tactic(auto, using(crate::proofs::Replies::sees_on))]
     pub fn admit<R: Wait>(
         &mut self,

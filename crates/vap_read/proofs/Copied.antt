@@ -27,7 +27,7 @@ insert_last (e ∷ es) more k o sorted =
     ap (λ r. match_ordering r ((k, o) ∷ e ∷ es) ((e.0, o) ∷ es) (e ∷ insert_entry key_cmp es k o)) above
     ∙ ap (λ xs. e ∷ xs) (insert_last es more k o sorted.1)
 
--- the next of some entries in their order goes behind those before it
+-- the next of some entries in their order goes after those before it
 put_last : (es more all : List (Key × Object)) (k : Key) (o : Object) → es ++ (k, o) ∷ more ≡ all
     → IsStrictlySortedBy key_cmp (keys_of all) → insert_entry key_cmp es k o ++ more ≡ all
 put_last es more all k o whole sorted =

@@ -3,8 +3,8 @@ use denote.Param.Send.{IsSend, IsSync, sendable}
 use Rattle.std.proofs.Crossing.{crosses}
 use Rattle.std.proofs.MapsCrossing.{crosses as map_crosses}
 use Rattle.serde_json.proofs.value.Value.TheLaws.TheKnot.{crosses as json_crosses}
-use Rattle.vap_bindings.proofs.Crossing.{binding_send, binding_sync}
-use Rattle.vap_policies.proofs.Crossing.{policy_send, policy_sync}
+use Rattle.vap_read.proofs.BindingCrossing.{binding_send, binding_sync}
+use Rattle.vap_read.proofs.PolicyCrossing.{policy_send, policy_sync}
 use Rattle.vap_read.specs.contracts.key.Key as key
 use Rattle.vap_read.specs.contracts.document.Document as document
 use Rattle.vap_read.specs.contracts.object.Content as content

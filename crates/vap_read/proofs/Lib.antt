@@ -1,7 +1,14 @@
+pub mod LeastPolicyFault
+pub mod WorkedPolicies
+pub mod PolicyCrossing
+pub mod WorkedBindings
+pub mod BindingCrossing
 pub mod Copied
 pub mod ItemSteps
 pub mod KeyOrder
 pub mod Keyed
-pub mod Least
+pub mod LeastEventFault
 pub mod WorkedRows
 pub mod Crossing
+pub mod Floats
+pub mod Ends

@@ -14,6 +14,6 @@ key_cmp =
     (then_cmp (on (λ k. k.kind) (slice_cmp nat_cmp))
     (then_cmp (on (λ k. k.namespace) (slice_cmp nat_cmp)) (on (λ k. k.name) (slice_cmp nat_cmp))))
 
--- the objects with one more, in place of what stands under its key
+-- the objects with one more, in place of what is under its key
 abbrev pub with_object : Object → List (Key × Object) → List (Key × Object)
 with_object o os = insert_entry key_cmp os o.key o

@@ -1,7 +1,13 @@
-pub mod Faults
+pub mod PolicyFaults
+pub mod PolicyNames
+pub mod PolicyForm
+pub mod PolicyReading
+pub mod BindingForm
+pub mod BindingReading
+pub mod EventFaults
 pub mod Keys
 pub mod Lines
-pub mod Names
+pub mod EventNames
 pub mod Objects
 pub mod Reading
 pub mod Told

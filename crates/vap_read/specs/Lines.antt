@@ -1,9 +1,9 @@
--- Of which kind a line's document is (Kubernetes, "API Concepts": watches and lists).
+-- Which kind a line's document is of (Kubernetes, "API Concepts": watches and lists).
 use Rattle.std.specs.Prelude.{ℕ, Bool, ◌&&◌, ◌||◌, if◌then◌else◌, codes, List, Option, Some, None, is_some}
 use Rattle.std.specs.Str.{bytes_eq}
 use Rattle.serde_json.specs.Data.{Data}
 use Rattle.serde_json.specs.Find.{get}
-use Rattle.json_members.specs.Parts.{text_in}
+use Rattle.vap_match.specs.Parts.{text_in}
 use Rattle.vap_read.specs.declared.line.LineKind.{LineKind}
 use Rattle.vap_read.specs.declared.line.LineKind.TheVariants.{WatchEvent, ObjectList, Review, Unknown}
 use Rattle.vap_read.specs.declared.line.Action.{Action}
@@ -14,7 +14,7 @@ abbrev pub is_of : List ℕ → List ℕ → Data → Bool
 is_of api_version kind d =
     bytes_eq (text_in (get (codes "apiVersion") d)) api_version && bytes_eq (text_in (get (codes "kind") d)) kind
 
--- what has a `type` is a watch event; of what has none its version and kind tell
+-- what has a `type` is a watch event; for what has none, its version and kind decide
 abbrev pub line_kind : Data → LineKind
 line_kind d =
     if is_some (get (codes "type") d) then WatchEvent

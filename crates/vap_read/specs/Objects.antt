@@ -2,9 +2,9 @@
 use Rattle.std.specs.Prelude.{ℕ, Bool, ◌&&◌, codes, List, unwrap_or, option_and_then, is_ok}
 use Rattle.serde_json.specs.Data.{Data, null}
 use Rattle.serde_json.specs.Find.{get}
-use Rattle.json_members.specs.Forms.{there_and, is_text}
-use Rattle.json_members.specs.Parts.{text_in}
-use Rattle.vap_fit.specs.Seen.{seen}
+use Rattle.vap_match.specs.Forms.{there_and, is_text}
+use Rattle.vap_match.specs.Parts.{text_in}
+use Rattle.vap_schema.specs.Seen.{seen}
 use Rattle.vap_schema.specs.FixedTypes.{metadata_type}
 use Rattle.vap_read.specs.Lines.{is_of}
 use Rattle.vap_read.specs.declared.key.Key.{Key}
@@ -24,7 +24,7 @@ is_object d =
 abbrev pub text_under : List ℕ → Data → List ℕ
 text_under name d = text_in (option_and_then (get name) (get (codes "metadata") d))
 
--- the key of an object; one that stands in no namespace has the empty text there
+-- the key of an object; one that is in no namespace has the empty text there
 abbrev pub key_of : Data → Key
 key_of d = record {
   api_version = text_in (get (codes "apiVersion") d);
@@ -33,7 +33,7 @@ key_of d = record {
   name = text_under (codes "name") d;
 }
 
--- what stands under a member, null where nothing does
+-- what is under a member, null if nothing is
 abbrev pub member_in : List ℕ → Data → Data
 member_in name d = unwrap_or (get name d) null
 

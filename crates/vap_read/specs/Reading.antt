@@ -2,11 +2,12 @@
 use Rattle.std.specs.Prelude.{ℕ, if◌then◌else◌, codes, List, [], ◌∷◌, Option, Some, None, Result, Ok, Err}
 use Rattle.serde_json.specs.Data as json
 use Rattle.serde_json.specs.Data.{Data, Items}
-use Rattle.vap_policies.specs.PolicyReading.{read_policy}
-use Rattle.vap_policies.specs.declared.policy.Policy.{Policy}
-use Rattle.vap_policies.specs.declared.policy_fault.PolicyFault.{PolicyFault}
-use Rattle.vap_bindings.specs.BindingReading.{read_binding}
-use Rattle.vap_bindings.specs.declared.binding.Binding.{Binding}
+use Rattle.base_containers.specs.Failures.{made}
+use Rattle.vap_read.specs.PolicyReading.{read_policy}
+use Rattle.vap_read.specs.declared.policy.Policy.{Policy}
+use Rattle.vap_read.specs.declared.policy_fault.PolicyFault.{PolicyFault}
+use Rattle.vap_read.specs.BindingReading.{read_binding}
+use Rattle.vap_read.specs.declared.binding.Binding.{Binding}
 use Rattle.vap_read.specs.Keys.{with_object}
 use Rattle.vap_read.specs.Lines.{line_kind, action_in}
 use Rattle.vap_read.specs.Objects.{is_object, is_policy, is_binding, key_of, member_in}
@@ -22,11 +23,6 @@ use Rattle.vap_read.specs.declared.event.Event.{Event}
 use Rattle.vap_read.specs.declared.event.Event.TheVariants.{Put, Removed, Passed, Replaced}
 use Rattle.vap_read.specs.declared.event_fault.EventFault.{EventFault}
 use Rattle.vap_read.specs.declared.event_fault.EventFault.TheVariants.{BadType, BadObject, OfPolicy}
-
--- what is made of an answer, a fault as it is
-abbrev pub made : {A B E : Type 0} → (A → B) → Result A E → Result B E
-made f (Ok a) = Ok (f a)
-made f (Err e) = Err e
 
 -- what an object is read as
 abbrev pub read_content : Data → Result Content PolicyFault
@@ -59,7 +55,7 @@ abbrev pub read_items : Items → Result (List Object) EventFault
 read_items json.no_items = Ok []
 read_items (json.item d ds) = before (read_object d) (read_items ds)
 
--- objects put one by one: of two under one key the later stays
+-- objects put one by one: if two are under one key, the later stays
 abbrev pub put_all : List (Key × Object) → List Object → List (Key × Object)
 put_all entries [] = entries
 put_all entries (o ∷ os) = put_all (with_object o entries) os
@@ -75,7 +71,7 @@ read_watched (Some action.Remove) d = made Removed (read_key d)
 read_watched (Some action.Pass) d = Ok Passed
 read_watched None d = Err BadType
 
--- what the items of a List do, which stand in an array
+-- what the items of a List do, which are in an array
 abbrev pub read_list : Data → Result Event EventFault
 read_list (json.array ds) = made Replaced (read_all ds)
 read_list _ = Err BadObject
@@ -87,6 +83,6 @@ read_line line.ObjectList d = read_list (member_in (codes "items") d)
 read_line line.Review d = Err BadType
 read_line line.Unknown d = Err BadType
 
--- the event that a line is, or the fault that is told of it
+-- the event that a line is, or the fault that is reported for it
 abbrev pub read_event : Data → Result Event EventFault
 read_event d = read_line (line_kind d) d

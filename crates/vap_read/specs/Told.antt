@@ -1,8 +1,8 @@
--- Which fault of a line is told.
+-- Which fault of a line is reported.
 use Rattle.std.specs.Prelude.{◌≡◌, ◌⊎◌, ℕ, true, codes, is_ok}
 use Rattle.serde_json.specs.Data as json
 use Rattle.serde_json.specs.Data.{Data, Items}
-use Rattle.vap_read.specs.Faults.{IsLeast, has_fault, watch_fault}
+use Rattle.vap_read.specs.EventFaults.{IsLeast, has_fault, watch_fault}
 use Rattle.vap_read.specs.Lines.{line_kind, action_in}
 use Rattle.vap_read.specs.Objects.{member_in}
 use Rattle.vap_read.specs.Reading.{read_object}

@@ -20,7 +20,7 @@ impl Drop for Document {
 impl Model for Document {
     ghost use Rattle.serde_json.specs.Data.{Data};
     ghost use Rattle.serde_json.specs.View.{view as data_of};
-    ghost use Rattle.json_documents.specs.DocumentCode.{document_code};
+    ghost use Rattle.base_containers.specs.DocumentCode.{document_code};
 
     ghost Value = { Data };
 

@@ -5,19 +5,19 @@ ghost use Rattle.std.specs.Prelude.{◌≡◌, IfOk};
 use crate::key::Key;
 use crate::object::Object;
 use crate::object_map::ObjectMap;
-use plain::Shared;
+use base_containers::Shared;
 use std::alloc::AllocError;
 
 /// How the objects change.
 #[derive(Drop)]
 pub enum Event {
-    /// An object stands under its key.
+    /// An object is put under its key.
     Put(Shared<Object>),
-    /// Nothing stands under this key any more.
+    /// Nothing is under this key any more.
     Removed(Shared<Key>),
     /// Nothing changes.
     Passed,
-    /// These objects stand in place of all.
+    /// These objects replace all.
     Replaced(Shared<ObjectMap>),
 }
 

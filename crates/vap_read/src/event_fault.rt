@@ -1,11 +1,11 @@
 //! Why a line is no event.
 
 ghost use Rattle.std.specs.Prelude.{◌≡◌};
-ghost use Rattle.vap_read.specs.Names.{event_fault_name};
+ghost use Rattle.vap_read.specs.EventNames.{event_fault_name};
 
-use failing::Failed;
+use crate::policy_fault::PolicyFault;
+use base_containers::Failed;
 use thiserror::Error;
-use vap_policies::PolicyFault;
 
 /// The faults by their numbers, from 1 on.
 #[derive(Clone, Copy, Debug, PartialEq, Eq, Error)]
@@ -16,13 +16,13 @@ pub enum EventFault {
     /// An object has no key or its metadata is not of its form, or a List has no items.
     #[error("an object that is not understood")]
     BadObject,
-    /// A policy or a binding has a fault, of these the least.
+    /// A policy or a binding has a fault; this is the least of its faults.
     #[error("{0}")]
     OfPolicy(PolicyFault),
 }
 
 impl EventFault {
-    /// The name that is printed: of a fault of a policy or a binding its own.
+    /// The name that is printed: a fault of a policy or a binding has its own.
     pub fn name(&self) -> &'static str
         ensures { result.now ≡ event_fault_name self.now }
     {

@@ -2,7 +2,7 @@
 
 ghost use Rattle.std.specs.Prelude.{IfErr};
 ghost use Rattle.serde_json.specs.View.{view};
-ghost use Rattle.failing.specs.Failures.{Answers, IfFault};
+ghost use Rattle.base_containers.specs.Failures.{Answers, IfFault};
 ghost use Rattle.vap_read.specs.Reading.{read_line, read_event};
 ghost use Rattle.vap_read.specs.Told.{IsOfLine, IsFaultOf};
 ghost use Rattle.vap_read.specs.declared.line.LineKind.TheVariants.{WatchEvent, ObjectList};
@@ -11,8 +11,8 @@ use crate::event::Event;
 use crate::event_fault::{EventError, EventFault};
 use crate::line::{LineKind, line_kind};
 use crate::watch_events::{listed, taken, watched};
+use base_containers::Part;
 use cel_value::CelType;
-use json_documents::Part;
 use serde_json::Value as Json;
 use std::alloc::{AllocError, Global};
 use std::marker::Model;
@@ -44,9 +44,9 @@ impl EventReader {
         })
     }
 
-    /// The event that a line is, or the fault that is told of it: the least of a watch event, and of a List the least of
+    /// The event that a line is, or the fault that is reported for it: for a watch event the least, and for a List the least of
     /// the first item that has one.
-    #[tactic(auto, using(crate::proofs::Least::told_of))]
+    #[tactic(auto, using(crate::proofs::LeastEventFault::told_of))]
     pub fn read_json(&self, line: Json) -> Result<Event, EventError>
         ensures exact { Answers (read_event (view line)) result }
         ensures told { IfErr result (IfFault (IsFaultOf (view line))) }
@@ -60,7 +60,7 @@ impl EventReader {
     }
 
     /// The event that the line of a watch event is, or its least fault.
-    #[tactic(auto, using(crate::proofs::Least::told_of_kind))]
+    #[tactic(auto, using(crate::proofs::LeastEventFault::told_of_kind))]
     pub fn read_watch_event(&self, line: Json) -> Result<Event, EventError>
         ensures exact { Answers (read_line WatchEvent (view line)) result }
         ensures told { IfErr result (IfFault (IsOfLine WatchEvent (view line))) }
@@ -69,7 +69,7 @@ impl EventReader {
     }
 
     /// The event that the line of a List is, or the least fault of the first item that has one.
-    #[tactic(auto, using(crate::proofs::Least::told_of_kind))]
+    #[tactic(auto, using(crate::proofs::LeastEventFault::told_of_kind))]
     pub fn read_list(&self, line: Json) -> Result<Event, EventError>
         ensures exact { Answers (read_line ObjectList (view line)) result }
         ensures told { IfErr result (IfFault (IsOfLine ObjectList (view line))) }
@@ -79,7 +79,7 @@ impl EventReader {
 }
 
 impl Event {
-    /// The event that one line is, or the fault that is told of it, as [`EventReader::read_json`] reads it.
+    /// The event that one line is, or the fault that is reported for it, as [`EventReader::read_json`] reads it.
     pub fn from_json(alloc: Global, line: Json) -> Result<Event, EventError>
         ensures exact { Answers (read_event (view line)) result }
         ensures told { IfErr result (IfFault (IsFaultOf (view line))) }

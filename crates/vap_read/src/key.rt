@@ -1,4 +1,4 @@
-//! Under which key an object is kept.
+//! The key under which an object is kept.
 
 ghost use Rattle.std.specs.Prelude.{◌≡◌, IfOk};
 ghost use Rattle.std.proofs.Common.{rules};
@@ -8,11 +8,11 @@ ghost use Rattle.std.specs.Cmp.Lexicographic.{slice_cmp};
 ghost use Rattle.std.specs.Ordering.{as_partial_cmp, eq_by_cmp, nat_cmp};
 ghost use Rattle.vap_read.specs.Keys.{key_cmp};
 
-use plain::Text;
+use base_containers::Text;
 use std::alloc::AllocError;
 use std::cmp::Ordering;
 
-/// What tells objects apart. Keys stand by the bytes of these texts, from first to last.
+/// What distinguishes objects. Keys are in the order of the bytes of these texts, from first to last.
 #[derive(Drop)]
 pub struct Key {
     pub api_version: Text,

@@ -1,12 +1,12 @@
-//! Of which kind a line's document is.
+//! Which kind a line's document is of.
 
 ghost use Rattle.std.specs.Prelude.{◌≡◌};
 ghost use Rattle.serde_json.specs.Find.{get};
 ghost use Rattle.serde_json.specs.View.{view};
-ghost use Rattle.json_members.specs.Parts.{text_in, text_of};
+ghost use Rattle.vap_match.specs.Parts.{text_in, text_of};
 ghost use Rattle.vap_read.specs.Lines.{is_of, line_kind, action_of, action_in};
 
-use json_documents::Part;
+use base_containers::Part;
 use serde_json::Value as Json;
 
 #[derive(Clone, Copy, Debug, PartialEq, Eq)]
@@ -50,7 +50,7 @@ pub fn is_of(document: &Part<'_, '_>, api_version: &str, kind: &str) -> bool
     text_in(document, "apiVersion") == api_version && text_in(document, "kind") == kind
 }
 
-/// The text, empty where there is none.
+/// The text, empty if there is none.
 fn text_of<'a>(document: &Part<'_, 'a>) -> &'a str
     ensures { result.now ≡ text_of document.now }
 {
@@ -60,7 +60,7 @@ fn text_of<'a>(document: &Part<'_, 'a>) -> &'a str
     }
 }
 
-/// The text of a member, empty where there is none.
+/// The text of a member, empty if there is none.
 fn text_in<'a>(document: &Part<'_, 'a>, name: &str) -> &'a str
     ensures { result.now ≡ text_in (get name.now document.now) }
 {
@@ -88,5 +88,5 @@ fn action_of(word: &str) -> Option<Action>
 pub fn action_in(line: &Json) -> Option<Action>
     ensures { result ≡ action_in (view line.now) }
 {
-    action_of(json_members::text_in(line, "type"))
+    action_of(vap_match::text_in(line, "type"))
 }

@@ -1,11 +1,11 @@
 //! Objects.
 
+use crate::binding::Binding;
 use crate::document::Document;
 use crate::key::Key;
-use vap_bindings::Binding;
-use vap_policies::Policy;
+use crate::policy::Policy;
 
-/// What an object is to who judges: a policy, a binding, or none of them.
+/// What an object is when requests are judged: a policy, a binding, or none of them.
 #[derive(Drop)]
 pub enum Content {
     Policy(Policy),

@@ -3,20 +3,19 @@
 ghost use Rattle.std.specs.Prelude.{◌≡◌, IfOk, Result, codes, is_ok};
 ghost use Rattle.serde_json.specs.Find.{get};
 ghost use Rattle.serde_json.specs.View.{view};
-ghost use Rattle.failing.specs.Failures.{Answers};
-ghost use Rattle.json_members.specs.Forms.{there_and};
+ghost use Rattle.base_containers.specs.Failures.{Answers};
+ghost use Rattle.vap_match.specs.Forms.{there_and};
 ghost use Rattle.cel_value.specs.declared.value.Value.{Value as ValueOf};
-ghost use Rattle.vap_fit.specs.declared.fit_fault.FitFault.{FitFault as FitFaultOf};
+ghost use Rattle.vap_schema.specs.declared.fit_fault.FitFault.{FitFault as FitFaultOf};
 ghost use Rattle.vap_schema.specs.FixedTypes.{metadata_type};
 ghost use Rattle.vap_read.specs.Objects.{is_metadata, is_object, key_of, text_under};
 
 use crate::key::Key;
+use base_containers::{Part, Text};
 use cel_value::{CelType, Value};
-use json_documents::Part;
-use json_members::{has_text, text_in};
-use plain::Text;
 use serde_json::Value as Json;
 use std::alloc::{AllocError, Global};
+use vap_match::{has_text, text_in};
 use vap_schema::{FitError, fit};
 
 /// Whether a document was of its type.
@@ -63,7 +62,7 @@ pub fn is_object(alloc: Global, json: &Json, fixed: &CelType) -> Result<bool, Al
     }
 }
 
-/// The text of a member of the metadata, empty where there is none.
+/// The text of a member of the metadata, empty if there is none.
 fn text_under<'a>(json: &'a Json, name: &str) -> &'a str
     ensures { result.now ≡ text_under name.now (view json.now) }
 {

@@ -9,13 +9,13 @@ ghost use Rattle.vap_read.specs.Keys.{key_cmp, with_object};
 
 use crate::key::Key;
 use crate::object::Object;
-use plain::Shared;
+use base_containers::Shared;
 use std::alloc::{AllocError, Global};
 use std::collections::BTreeMap;
 use std::collections::btree_map::Iter;
 use std::marker::Model;
 
-/// Objects, each under its key, which contracts see as the list of their keys and them, by key.
+/// Objects, each under its key, which contracts see as the list of the keys with the objects, by key.
 pub struct ObjectMap {
     entries: BTreeMap<Key, Shared<Object>>,
 }
@@ -81,7 +81,7 @@ impl ObjectMap {
         })
     }
 
-    /// Puts an object under its key, in place of what stands there.
+    /// Puts an object under its key, in place of what is there.
     pub fn put(&mut self, object: Shared<Object>) -> Result<(), AllocError>
         ensures ok { OnOk result (self.new ≡ with_object object self.old) }
         ensures err { OnErr result (self.new ≡ self.old) }
@@ -90,7 +90,7 @@ impl ObjectMap {
         self.put_under(key, object)
     }
 
-    /// Puts an object under this key, in place of what stands there.
+    /// Puts an object under this key, in place of what is there.
     pub fn put_under(&mut self, key: Key, object: Shared<Object>) -> Result<(), AllocError>
         ensures ok { OnOk result (self.new ≡ insert_entry key_cmp self.old key object) }
         ensures err { OnErr result (self.new ≡ self.old) }
@@ -99,7 +99,7 @@ impl ObjectMap {
         Ok(())
     }
 
-    /// Takes away what stands under a key, if anything does.
+    /// Takes away what is under a key, if anything is.
     pub fn remove(&mut self, key: &Key)
         ensures { self.new ≡ remove_entry (is_at (key_cmp key.now)) self.old }
     {

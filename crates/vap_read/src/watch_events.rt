@@ -2,11 +2,11 @@
 
 ghost use Rattle.std.specs.Prelude.{◌≡◌, List, Result, Some};
 ghost use Rattle.serde_json.specs.View.{view, items_view};
-ghost use Rattle.failing.specs.Failures.{Answers};
-ghost use Rattle.vap_policies.specs.declared.policy_fault.PolicyFault.{PolicyFault as PolicyFaultOf};
+ghost use Rattle.base_containers.specs.Failures.{Answers, made};
+ghost use Rattle.vap_read.specs.declared.policy_fault.PolicyFault.{PolicyFault as PolicyFaultOf};
 ghost use Rattle.vap_schema.specs.FixedTypes.{metadata_type};
 ghost use Rattle.vap_read.specs.Objects.{key_of, member_in};
-ghost use Rattle.vap_read.specs.Reading.{made, read_content, with_content, read_object, read_key, read_all};
+ghost use Rattle.vap_read.specs.Reading.{read_content, with_content, read_object, read_key, read_all};
 ghost use Rattle.vap_read.specs.Reading.{read_line, read_list};
 ghost use Rattle.vap_read.specs.declared.event.Event.TheVariants.{Put, Removed, Replaced};
 ghost use Rattle.vap_read.specs.declared.event_fault.EventFault.{EventFault as EventFaultOf};
@@ -15,6 +15,7 @@ ghost use Rattle.vap_read.specs.declared.key.Key.{Key as KeyOf};
 ghost use Rattle.vap_read.specs.declared.object.Content.{Content as ContentOf};
 ghost use Rattle.vap_read.specs.declared.object.Object.{Object as ObjectOf};
 
+use crate::binding::Binding;
 use crate::document::Document;
 use crate::event::Event;
 use crate::event_fault::{EventError, EventFault};
@@ -23,19 +24,18 @@ use crate::line::{Action, action_in, is_of};
 use crate::object::{Content, Object};
 use crate::object_form::{is_object, key_of};
 use crate::object_map::ObjectMap;
+use crate::policy::Policy;
+use crate::policy_fault::PolicyError;
+use base_containers::{Part, Shared};
 use cel_value::CelType;
-use json_documents::Part;
-use plain::Shared;
 use serde_json::Value as Json;
 use std::alloc::Global;
 use std::mem;
-use vap_bindings::Binding;
-use vap_policies::{Policy, PolicyError};
 
 /// The version of policies and bindings.
 const POLICY_VERSION: &str = "admissionregistration.k8s.io/v1";
 
-/// What stands under a member, null where nothing does.
+/// What is under a member, null if nothing is.
 pub fn taken(line: Json, name: &str) -> Json
     ensures { view result ≡ member_in name.now (view line) }
 {
@@ -74,7 +74,7 @@ fn removed(alloc: Global, json: Json, fixed: &CelType) -> Result<Event, EventErr
     Ok(Event::Removed(removed))
 }
 
-/// The event that a List is, of what stands under its items.
+/// The event that a List is, from what is under its items.
 pub fn listed(alloc: Global, items: Json, fixed: &CelType) -> Result<Event, EventError>
     requires of_metadata { fixed.now ≡ metadata_type }
     ensures { Answers (read_list (view items)) result }

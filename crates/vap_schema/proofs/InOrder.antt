@@ -1,13 +1,13 @@
--- The members of an object that is held stand in the order of their names.
+-- The members of an object that is held are in the order of their names.
 use Rattle.std.proofs.Common.{◌≡◌, List, [], ◌∷◌, String, Global, string_bytes, string_cmp}
 use Rattle.std.specs.List.{AllByRecursion}
 use Rattle.std.specs.List.Sorted.{IsStrictlySortedBy}
 use Rattle.std.specs.Map.{keys_of}
 use Rattle.std.specs.declared.cmp.Ordering.TheVariants.{Less}
-use Rattle.plain.proofs.Order.{Below}
+use Rattle.base_containers.proofs.Order.{Below}
 use Rattle.serde_json.specs.View.{members_view}
 use Rattle.serde_json.specs.declared.value.Value as json
-use Rattle.vap_fit.proofs.Ordered.{IsInOrder, names_in}
+use Rattle.vap_schema.proofs.Ordered.{IsInOrder, names_in}
 
 abbrev Member : Type 0
 Member = String Global × json.Value

@@ -1,22 +1,22 @@
 -- Schemas inside each other: one level, and the walk over an object's properties.
 use Rattle.std.proofs.Common.{◌≡◌, ℕ, zero, suc, ◌-◌, ◌<◌, Bool, List, [], ◌∷◌, ◌++◌}
 use Rattle.std.proofs.Common.{Result, Ok, Err, Bor, ap, sym, ◌∙◌, subst, refl, arith}
-use Rattle.failing.specs.Failures.{Answers}
-use Rattle.failing.specs.declared.failed.Failed.{Failed}
-use Rattle.failing.specs.declared.failed.Failed.TheVariants.{Fault, OutOfMemory}
-use Rattle.plain.specs.declared.text.Keyed.{Keyed}
-use Rattle.plain.specs.Keys.{IsInKeyOrder, keys_in}
+use Rattle.base_containers.specs.Failures.{Answers}
+use Rattle.base_containers.specs.declared.failed.Failed.{Failed}
+use Rattle.base_containers.specs.declared.failed.Failed.TheVariants.{Fault, OutOfMemory}
+use Rattle.base_containers.specs.declared.text.Keyed.{Keyed}
+use Rattle.base_containers.specs.Keys.{IsInKeyOrder, keys_in}
 use Rattle.serde_json.specs.Data.{Data, Members, no_members, member}
 use Rattle.cel_value.specs.declared.cel_type.Field.{Field}
 use Rattle.cel_value.specs.declared.cel_type.CelType.{CelType}
-use Rattle.vap_fit.specs.Seen.{◌>>=◌}
+use Rattle.vap_schema.specs.Seen.{◌>>=◌}
 use Rattle.vap_schema.specs.Forms.{nested_form}
 use Rattle.vap_schema.specs.Schemas.{Inner, schema_type, nested_type, field_of, fields_of, is_named}
 use Rattle.vap_schema.specs.declared.schema_fault.SchemaFault.{SchemaFault}
 use Rattle.vap_schema.specs.declared.schema_fault.SchemaFault.TheVariants.{TooDeep}
-use Rattle.vap_fit.proofs.Parts.{same_ok, both}
-use Rattle.vap_fit.proofs.Rest.{behind, behind-push}
-use Rattle.vap_fit.proofs.Ordered.{IsInOrder, names_in}
+use Rattle.vap_schema.proofs.Parts.{same_ok, both}
+use Rattle.vap_schema.proofs.Rest.{behind, behind-push}
+use Rattle.vap_schema.proofs.Ordered.{IsInOrder, names_in}
 
 pub too_deep : (levels : ℕ) (d : Data) → levels ≡ 0 → schema_type levels d ≡ Err TooDeep
 unfolding schema_type
@@ -48,7 +48,7 @@ fields_go inner required k d ms f done whole read a =
     read ∙ ap (λ r. behind done (r >>= (λ x. fields_of inner required ms >>= (λ more. Ok (x ∷ more))))) a
     ∙ behind-push done f (fields_of inner required ms)
 
--- a field is required where its name is named
+-- a field is required exactly if its name is named
 pub field_named : (inner : Inner) (required : Bool) (texts : List (Bor (List ℕ))) (name k : List ℕ) (d : Data)
     → required ≡ is_named name texts → name ≡ k
     → field_of inner required name d ≡ field_of inner (is_named k texts) k d
@@ -70,7 +70,7 @@ fields_keys inner required (member k d ms) fs h =
     ap keys_in p.4 ∙ ap (λ l. l ∷ keys_in p.1) (field_key (inner d) k (required k) p.0 p.2)
     ∙ ap (λ ks. k ∷ ks) (fields_keys inner required ms p.1 p.3)
 
--- by names of which just the same are required
+-- the fields are the same if exactly the same names are required
 pub same_fields : (inner : Inner) (p q : List ℕ → Bool) (ms : Members) → ((k : List ℕ) → p k ≡ q k)
     → fields_of inner p ms ≡ fields_of inner q ms
 same_fields inner p q no_members h = refl

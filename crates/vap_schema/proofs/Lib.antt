@@ -1,4 +1,17 @@
+pub mod AllThere
+pub mod Fitted
+pub mod InStep
+pub mod InStepMembers
+pub mod Lengths
+pub mod Ordered
+pub mod Parts
+pub mod Rest
+pub mod Turns
+pub mod WorkedDocuments
 pub mod InOrder
 pub mod Levels
 pub mod Searched
 pub mod WorkedRows
+pub mod Same
+pub mod Walks
+pub mod WorkedPlaces

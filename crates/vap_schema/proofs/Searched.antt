@@ -1,4 +1,4 @@
--- A name is found among texts in order where it is one of them.
+-- A name is found among texts in order exactly if it is one of them.
 use Rattle.std.proofs.Common.{◌≡◌, ℕ, List, [], length, get_or, Result, Ok, Err, Bor, ap, sym, ◌∙◌, inl, inr, arith}
 use Rattle.std.specs.Prelude.{is_ok}
 use Rattle.std.specs.List.Sorted.{IsPermutation, IsBinarySearchResult, IsSearchInRange}

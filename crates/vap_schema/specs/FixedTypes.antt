@@ -1,13 +1,13 @@
 -- The fields that each object of a known kind has, whatever its schema says (Kubernetes API reference, "ObjectMeta").
 use Rattle.std.specs.Prelude.{ℕ, false, List, [], codes}
-use Rattle.plain.specs.declared.text.Keyed.{Keyed}
-use Rattle.plain.specs.Keys.{with_entry, without}
+use Rattle.base_containers.specs.declared.text.Keyed.{Keyed}
+use Rattle.base_containers.specs.Keys.{with_entry, without}
 use Rattle.cel_value.specs.declared.cel_type.Field.{Field}
 use Rattle.cel_value.specs.declared.cel_type.CelType as type
 use Rattle.cel_value.specs.declared.cel_type.CelType.{CelType, out-CelType}
 use Rattle.cel_value.specs.declared.cel_type.CelType.TheOpen.{CelType-F}
 
--- the fields with an optional one of this name and type, in place of what stands under the name
+-- the fields with an optional one of this name and type, in place of what is under the name
 abbrev pub with_optional : List ℕ → CelType → List (Keyed (Field CelType)) → List (Keyed (Field CelType))
 with_optional name t fields = with_entry name (record { required = false; cel_type = t }) (without name fields)
 

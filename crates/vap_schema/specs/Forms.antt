@@ -1,9 +1,9 @@
--- What a structural schema says by its own keywords, the schemas inside it unread (Kubernetes, "Specifying a structural schema").
+-- What a structural schema says by its own keywords (Kubernetes, "Specifying a structural schema"). The schemas inside it are not read.
 use Rattle.std.specs.Prelude.{◌≡◌, ℕ, ◌||◌, Bool, true, false, if◌then◌else◌, Option, Some, None, Result, Ok, Err}
 use Rattle.serde_json.specs.Data as json
 use Rattle.serde_json.specs.Data.{Data, Items, Members}
 use Rattle.serde_json.specs.View.{view, items_view, members_view}
-use Rattle.vap_fit.specs.Seen.{◌>>=◌}
+use Rattle.vap_schema.specs.Seen.{◌>>=◌}
 use Rattle.vap_schema.specs.Keywords.{value_of, understood, flag, limit, absent, stated_word, stated_format, is_plain}
 use Rattle.vap_schema.specs.Keywords.{required_names, properties_of, entry_of}
 use Rattle.vap_schema.specs.declared.form.Form.{Form as LentForm}
@@ -16,7 +16,7 @@ use Rattle.vap_schema.specs.declared.keywords.TimeFormat.TheVariants as format
 use Rattle.vap_schema.specs.declared.keywords.TypeWord.{TypeWord}
 use Rattle.vap_schema.specs.declared.keywords.TypeWord.TheVariants as word
 
--- what a schema describes, null apart
+-- what a schema describes, apart from null
 pub data Form : Type 0 where
   anything : Form
   truth : Form
@@ -26,14 +26,14 @@ pub data Form : Type 0 where
   text : ℕ → Form
   -- the most items, whether it is plain, and the schema of the items
   list : ℕ → Bool → Data → Form
-  -- the most entries, and true or the schema of what stands under each name
+  -- the most entries, and true or the schema of what is under each name
   map : ℕ → Data → Form
   -- the required names, and the properties
   fields : Items → Members → Form
   -- an object without fields
   bare : Form
 
--- a schema of no type: anything may stand there, and nothing is read of it
+-- a schema of no type: anything may be there, and nothing is read of it, if one of two keywords says so; else it is refused
 abbrev pub untyped_form : Data → Result Form OwnFault
 untyped_form d = do
   kept ← flag keyword.PreserveUnknownFields d
@@ -62,15 +62,15 @@ list_form d = do
   items ← understood keyword.Items (value_of keyword.Items d)
   Ok (list max plain items)
 
--- an object by its properties or by what stands under any name, which may not stand beside them; without either it is kept as
--- it is, or has no fields
+-- an object by its properties or by what is under any name; it may not have both, and without either it is kept as it is, or has
+-- no fields
 abbrev pub object_by : Option Members → Items → Option Data → ℕ → Bool → Result Form OwnFault
 object_by (Some properties) required None max kept = Ok (fields required properties)
 object_by None required (Some entry) max kept = Ok (map max entry)
 object_by None required None max kept = Ok (if kept then anything else bare)
 object_by (Some properties) required (Some entry) max kept = Err (own.Keyword keyword.AdditionalProperties)
 
--- an object: every keyword that some object has is read, whichever of them then count
+-- an object: every keyword that some object has is read, no matter which of them then count
 abbrev pub object_form : Data → Result Form OwnFault
 object_form d = do
   properties ← properties_of d
@@ -90,7 +90,7 @@ form_by (Some word.String) d = text_form d
 form_by (Some word.Array) d = list_form d
 form_by (Some word.Object) d = object_form d
 
--- the form of a schema, null apart
+-- the form of a schema, apart from null
 abbrev pub own_form : Data → Result Form OwnFault
 own_form d = do
   _ ← absent keyword.Reference d
@@ -106,7 +106,7 @@ is_object _ = false
 abbrev pub root_form : Data → Result Form OwnFault
 root_form d = if is_object d then own_form d else Err own.NoObject
 
--- of a schema that is no root whether null has its type too, and its form
+-- for a schema that is no root: whether null has its type too, and its form
 abbrev pub nested_form : Data → Result (Bool × Form) OwnFault
 nested_form d = if is_object d then (do
   nullable ← flag keyword.Nullable d

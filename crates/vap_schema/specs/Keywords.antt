@@ -11,7 +11,7 @@ use Rattle.serde_json.specs.Data.{Data, Items, Members}
 use Rattle.serde_json.specs.Find.{get, as_bool, as_number, as_str, as_u64}
 use Rattle.serde_json.specs.View.{view, items_view, members_view}
 use Rattle.serde_json.specs.declared.value.Value.{Value as Json}
-use Rattle.vap_schema.specs.Names.{keyword_name}
+use Rattle.vap_schema.specs.SchemaNames.{keyword_name}
 use Rattle.vap_schema.specs.declared.own_fault.Keyword.{Keyword}
 use Rattle.vap_schema.specs.declared.own_fault.Keyword.TheVariants as keyword
 use Rattle.vap_schema.specs.declared.own_fault.OwnFault.{OwnFault}
@@ -23,7 +23,7 @@ use Rattle.vap_schema.specs.declared.keywords.TypeWord.TheVariants as word
 use Rattle.vap_schema.specs.declared.schema_fault.SchemaFault.{SchemaFault}
 use Rattle.vap_schema.specs.declared.schema_fault.SchemaFault.TheVariants.{NoType, BadKeyword}
 
--- the fault for which a schema is refused that has this one itself
+-- the fault for which a schema that has this one itself is refused
 abbrev pub fault_of : OwnFault → SchemaFault
 fault_of own.NoObject = BadKeyword
 fault_of own.NoType = NoType
@@ -38,7 +38,7 @@ abbrev pub understood : {A : Type 0} → Keyword → Option A → Result A OwnFa
 understood k (Some a) = Ok a
 understood k None = Err (own.Keyword k)
 
--- what stands under a keyword that is true or false: it is false where it is absent
+-- what is under a keyword that is true or false: it is false if it is absent
 abbrev pub flag_in : Keyword → Option Data → Result Bool OwnFault
 flag_in k None = Ok false
 flag_in k (Some d) = understood k (as_bool d)
@@ -52,21 +52,21 @@ abbrev pub in_range : Keyword → Option ℕ → Result ℕ OwnFault
 in_range k (Some n) = if nat_lt n (2 ^ 32) then Ok n else Err (own.Keyword k)
 in_range k None = Err (own.Keyword k)
 
--- what stands under a limit, and what the limit is where it is absent
+-- what is under a limit, and what the limit is if it is absent
 abbrev pub limit_in : Keyword → ℕ → Option Data → Result ℕ OwnFault
 limit_in k unstated None = Ok unstated
 limit_in k unstated (Some d) = in_range k (option_and_then as_u64 (as_number d))
 
--- a keyword that is a limit, with what it is where it is absent
+-- a keyword that is a limit, with what it is if it is absent
 abbrev pub limit : Keyword → ℕ → Data → Result ℕ OwnFault
 limit k unstated d = limit_in k unstated (value_of k d)
 
--- what stands under a keyword that may not be there
+-- what is under a keyword that may not be there
 abbrev pub absent_in : Keyword → Option Data → Result (Unit {0}) OwnFault
 absent_in k None = Ok tt
 absent_in k (Some d) = Err (own.Keyword k)
 
--- nothing, or that a keyword is there which may not
+-- nothing, or that a keyword is there which may not be there
 abbrev pub absent : Keyword → Data → Result (Unit {0}) OwnFault
 absent k d = absent_in k (value_of k d)
 
@@ -86,7 +86,7 @@ abbrev pub some_word : Option TypeWord → Result (Option TypeWord) OwnFault
 some_word (Some w) = Ok (Some w)
 some_word None = Err (own.Keyword keyword.Type)
 
--- what stands under `type`: a word, or nothing
+-- what is under `type`: a word, or nothing
 abbrev pub type_word_in : Option Data → Result (Option TypeWord) OwnFault
 type_word_in None = Ok None
 type_word_in (Some d) = some_word (option_and_then type_word (as_str d))
@@ -107,7 +107,7 @@ abbrev pub format_word : Option (List ℕ) → Result (Option TimeFormat) OwnFau
 format_word (Some s) = Ok (time_format s)
 format_word None = Err (own.Keyword keyword.Format)
 
--- what stands under `format`: a text, or nothing
+-- what is under `format`: a text, or nothing
 abbrev pub format_in : Option Data → Result (Option TimeFormat) OwnFault
 format_in None = Ok None
 format_in (Some d) = format_word (as_str d)
@@ -121,7 +121,7 @@ abbrev pub plain_word : Option (List ℕ) → Result Bool OwnFault
 plain_word (Some s) = Ok (not (bytes_eq s (codes "set") || bytes_eq s (codes "map")))
 plain_word None = Err (own.Keyword keyword.ListType)
 
--- what stands under the kind of a list: it is plain where it is absent
+-- what is under the kind of a list: it is plain if it is absent
 abbrev pub plain_in : Option Data → Result Bool OwnFault
 plain_in None = Ok true
 plain_in (Some d) = plain_word (as_str d)
@@ -135,7 +135,7 @@ abbrev pub all_texts : Items → Bool
 all_texts json.no_items = true
 all_texts (json.item d ds) = is_some (as_str d) && all_texts ds
 
--- what stands under the names: none where they are absent
+-- what is under the names: none if they are absent
 abbrev pub names_in : Option Data → Result Items OwnFault
 names_in None = Ok json.no_items
 names_in (Some (json.array ds)) = if all_texts ds then Ok ds else Err (own.Keyword keyword.Required)
@@ -145,7 +145,7 @@ names_in (Some _) = Err (own.Keyword keyword.Required)
 abbrev pub required_names : Data → Result Items OwnFault
 required_names d = names_in (value_of keyword.Required d)
 
--- what stands under `properties`: members, or nothing
+-- what is under `properties`: members, or nothing
 abbrev pub properties_in : Option Data → Result (Option Members) OwnFault
 properties_in None = Ok None
 properties_in (Some (json.object ms)) = Ok (Some ms)
@@ -155,14 +155,14 @@ properties_in (Some _) = Err (own.Keyword keyword.Properties)
 abbrev pub properties_of : Data → Result (Option Members) OwnFault
 properties_of d = properties_in (value_of keyword.Properties d)
 
--- what stands under `additionalProperties`: a schema or true, or nothing, as which false counts
+-- what is under `additionalProperties`: a schema or true, or nothing; false counts as nothing
 abbrev pub entry_in : Option Data → Result (Option Data) OwnFault
 entry_in None = Ok None
 entry_in (Some (json.boolean b)) = Ok (if b then Some (json.boolean b) else None)
 entry_in (Some (json.object ms)) = Ok (Some (json.object ms))
 entry_in (Some _) = Err (own.Keyword keyword.AdditionalProperties)
 
--- what may stand under any name, if anything may
+-- what may be under any name, if anything may
 abbrev pub entry_of : Data → Result (Option Data) OwnFault
 entry_of d = entry_in (value_of keyword.AdditionalProperties d)
 

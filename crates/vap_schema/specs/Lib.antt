@@ -1,5 +1,12 @@
+pub mod Entries
+pub mod InStep
+pub mod FitNames
+pub mod Paths
+pub mod Seen
 pub mod FixedTypes
 pub mod Forms
 pub mod Keywords
-pub mod Names
+pub mod SchemaNames
 pub mod Schemas
+pub mod Places
+pub mod Answers

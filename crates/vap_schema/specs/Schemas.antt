@@ -7,14 +7,14 @@ use Rattle.std.specs.List.{list_any}
 use Rattle.std.specs.List.Sorted.{IsSorted}
 use Rattle.std.specs.Ordering.{nat_cmp}
 use Rattle.std.specs.Cmp.Lexicographic.{slice_cmp}
-use Rattle.plain.specs.declared.text.Keyed.{Keyed}
+use Rattle.base_containers.specs.declared.text.Keyed.{Keyed}
 use Rattle.serde_json.specs.Data as json
 use Rattle.serde_json.specs.Data.{Data, Items, Members}
 use Rattle.serde_json.specs.Find.{as_str}
 use Rattle.cel_value.specs.declared.cel_type.Field.{Field}
 use Rattle.cel_value.specs.declared.cel_type.CelType as type
 use Rattle.cel_value.specs.declared.cel_type.CelType.{CelType}
-use Rattle.vap_fit.specs.Seen.{◌>>=◌}
+use Rattle.vap_schema.specs.Seen.{◌>>=◌}
 use Rattle.vap_schema.specs.FixedTypes.{with_fixed_fields}
 use Rattle.vap_schema.specs.Forms as form
 use Rattle.vap_schema.specs.Forms.{Form, nested_form, root_form}
@@ -59,7 +59,7 @@ record_type inner required properties = do
   fields ← fields_of inner (λ k. is_among k required) properties
   Ok (type.Object fields)
 
--- what stands under any name: anything, or what a schema gives
+-- what is under any name: anything, or what a schema gives
 abbrev pub entry_type : Inner → Data → Result CelType SchemaFault
 entry_type inner (json.boolean b) = Ok type.Opaque
 entry_type inner d = inner d
@@ -96,7 +96,7 @@ abbrev pub nested_type : Inner → Result (Bool × Form) OwnFault → Result Cel
 nested_type inner (Ok p) = form_type inner p.1 >>= or_null p.0
 nested_type inner (Err f) = Err (fault_of f)
 
--- the type of a schema that is no root, where so many may stand inside each other
+-- the type of a schema that is no root, if at most so many schemas may be inside each other
 unfoldable pub schema_type : ℕ → Data → Result CelType SchemaFault
 schema_type zero d = Err TooDeep
 schema_type (suc levels) d = nested_type (schema_type levels) (nested_form d)
@@ -108,7 +108,7 @@ root_type inner (Ok f) = do
   Ok (with_fixed_fields t)
 root_type inner (Err f) = Err (fault_of f)
 
--- the type of the objects whose root schema this is: at most 100 schemas stand inside each other
+-- the type of the objects whose root schema this is: at most 100 schemas are inside each other
 abbrev pub object_type_of : Data → Result CelType SchemaFault
 object_type_of d = root_type (schema_type 99) (root_form d)
 
@@ -118,7 +118,7 @@ object_type_of d = root_type (schema_type 99) (root_form d)
 abbrev pub is_named : List ℕ → List (Bor (List ℕ)) → Bool
 is_named name texts = list_any (λ t. bytes_eq t.now name) texts
 
--- these texts stand in their order
+-- these texts are in their order
 abbrev pub IsInTextOrder : List (Bor (List ℕ)) → Type 0
 IsInTextOrder texts = IsSorted (λ s t. slice_cmp nat_cmp s.now t.now) texts
 

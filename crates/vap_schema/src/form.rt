@@ -1,4 +1,4 @@
-//! What a schema says by its own keywords, the schemas inside it unread.
+//! What a schema says by its own keywords. The schemas inside it are not read.
 
 ghost use Rattle.serde_json.specs.View.{view, items_view};
 ghost use Rattle.vap_schema.specs.Keywords.{members_seen, entry_seen};
@@ -12,7 +12,7 @@ use crate::keywords::{
 use crate::own_fault::{Keyword, OwnFault};
 use serde_json::{Map, Value as Json};
 
-/// The form of a schema's type, null apart.
+/// The form of a schema's type, apart from null.
 #[derive(Clone, Copy)]
 pub enum Form<'a> {
     Opaque,
@@ -63,7 +63,7 @@ pub fn nested_form(schema: &Json) -> Result<(bool, Form<'_>), OwnFault>
     Ok((nullable, form))
 }
 
-/// The form of a schema, null apart.
+/// The form of a schema, apart from null.
 fn own_form(schema: &Json) -> Result<Form<'_>, OwnFault>
     ensures { FormIs (own_form (view schema.now)) result }
 {
@@ -116,7 +116,7 @@ fn list_form(schema: &Json) -> Result<Form<'_>, OwnFault>
     }
 }
 
-/// An object: every keyword that some object has is read, whichever of them then count.
+/// An object: every keyword that some object has is read, no matter which of them then count.
 fn object_form(schema: &Json) -> Result<Form<'_>, OwnFault>
     ensures { FormIs (object_form (view schema.now)) result }
 {
@@ -128,7 +128,7 @@ fn object_form(schema: &Json) -> Result<Form<'_>, OwnFault>
     one_form(properties, required, entry, max, kept)
 }
 
-/// The form of an object by its properties or by what stands under any name, which may not stand beside them.
+/// The form of an object by its properties or by what is under any name. An object may not have both.
 fn one_form<'a>(
     properties: Option<&'a Map<String, Json>>,
     required: &'a [Json],

@@ -36,7 +36,7 @@ pub fn value_of(schema: &Json, keyword: Keyword) -> Option<&Json>
     schema.get(keyword.name())
 }
 
-/// A keyword that is true or false, and false where it is absent.
+/// A keyword that is true or false, and false if it is absent.
 pub fn flag(schema: &Json, keyword: Keyword) -> Result<bool, OwnFault>
     ensures { result ≡ flag keyword (view schema.now) }
 {
@@ -49,7 +49,7 @@ pub fn flag(schema: &Json, keyword: Keyword) -> Result<bool, OwnFault>
     }
 }
 
-/// A keyword that is a limit, with what it is where it is absent.
+/// A keyword that is a limit, with what it is if it is absent.
 pub fn limit(schema: &Json, keyword: Keyword, unstated: u32) -> Result<u32, OwnFault>
     ensures { result ≡ limit keyword unstated (view schema.now) }
 {
@@ -68,7 +68,7 @@ pub fn limit(schema: &Json, keyword: Keyword, unstated: u32) -> Result<u32, OwnF
     }
 }
 
-/// Refuses a keyword that may not stand there.
+/// Refuses a keyword that may not be there.
 pub fn check_absent(schema: &Json, keyword: Keyword) -> Result<(), OwnFault>
     ensures { result ≡ absent keyword (view schema.now) }
 {
@@ -180,7 +180,7 @@ fn all_texts(names: &[Json]) -> bool
     true
 }
 
-/// The names in the order of their texts, so that one is found without a look at all.
+/// The names in the order of their texts, so that one is found without looking at all of them.
 pub fn in_text_order(alloc: Global, names: &[Json]) -> Result<Vec<&str>, AllocError>
     ensures same { IfOk result (λ texts. AreTexts texts.items (items_view names.now)) }
     ensures ordered { IfOk result (λ texts. IsInTextOrder texts.items) }
@@ -202,7 +202,7 @@ fn texts_of(alloc: Global, names: &[Json]) -> Result<Vec<&str>, AllocError>
     Ok(texts)
 }
 
-/// Whether a name is one of these, which stand in order.
+/// Whether a name is one of these, which are in order.
 pub fn is_named(texts: &[&str], name: &str) -> bool
     requires { IsInTextOrder texts.now }
     ensures { result ≡ is_named name.now texts.now }
@@ -221,7 +221,7 @@ pub fn properties_of(schema: &Json) -> Result<Option<&Map<String, Json>>, OwnFau
     }
 }
 
-/// What may stand under any name, if anything may: true or a schema.
+/// What may be under any name, if anything may: true or a schema.
 pub fn entry_of(schema: &Json) -> Result<Option<&Json>, OwnFault>
     ensures { EntryIs (entry_of (view schema.now)) result }
 {

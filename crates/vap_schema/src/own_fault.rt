@@ -1,7 +1,7 @@
 //! The keywords that are read of schemas, and the fault that a schema has itself.
 
 ghost use Rattle.std.specs.Prelude.{◌≡◌};
-ghost use Rattle.vap_schema.specs.Names.{keyword_name};
+ghost use Rattle.vap_schema.specs.SchemaNames.{keyword_name};
 ghost use Rattle.vap_schema.specs.Keywords.{fault_of};
 
 use crate::schema_fault::SchemaFault;

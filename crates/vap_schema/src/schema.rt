@@ -3,8 +3,8 @@
 ghost use Rattle.std.specs.Prelude.{◌≡◌, IfOk, Ok};
 ghost use Rattle.cel_value.specs.declared.cel_type.CelType as T;
 ghost use Rattle.serde_json.specs.View.{view, items_view, members_view};
-ghost use Rattle.failing.specs.Failures.{Answers};
-ghost use Rattle.vap_fit.specs.Seen.{Carries};
+ghost use Rattle.base_containers.specs.Failures.{Answers};
+ghost use Rattle.vap_schema.specs.Seen.{Carries};
 ghost use Rattle.vap_schema.specs.Forms.{form_in};
 ghost use Rattle.vap_schema.specs.Schemas.{schema_type, form_type, or_null, entry_type, record_type};
 ghost use Rattle.vap_schema.specs.Schemas.{fields_of, object_type_of, is_named, IsInTextOrder};
@@ -13,8 +13,8 @@ use crate::fixed_types::with_fixed_fields;
 use crate::form::{Form, nested_form, root_form};
 use crate::keywords::{in_text_order, is_named};
 use crate::schema_fault::{SchemaError, SchemaFault};
+use base_containers::{Keyed, Shared, Text, TextMap};
 use cel_value::{CelType, Field};
-use plain::{Keyed, Shared, Text, TextMap};
 use serde_json::{Map, Value as Json};
 use std::alloc::{AllocError, Global};
 use std::marker::Model;
@@ -57,7 +57,7 @@ impl Schema {
     }
 }
 
-/// The type of a schema that is no root, where so many may stand inside each other.
+/// The type of a schema that is no root, if at most `levels` schemas may be inside each other.
 #[cycle(read_schema)]
 fn read_schema(levels: u32, alloc: Global, schema: &Json) -> Result<CelType, SchemaError>
     ensures { Answers (schema_type levels (view schema.now)) result }
@@ -69,7 +69,7 @@ fn read_schema(levels: u32, alloc: Global, schema: &Json) -> Result<CelType, Sch
     nullable_type(alloc, nullable, read_form(levels - 1, alloc, form))
 }
 
-/// The type of a form, where so many schemas may stand inside each other in it.
+/// The type of a form, if at most `levels` schemas may be inside each other in it.
 #[cycle(read_schema)]
 fn read_form(levels: u32, alloc: Global, form: Form<'_>) -> Result<CelType, SchemaError>
     ensures { Answers (form_type (schema_type levels) (form_in form.entry)) result }
@@ -93,7 +93,7 @@ fn read_form(levels: u32, alloc: Global, form: Form<'_>) -> Result<CelType, Sche
     }
 }
 
-/// What stands under each name of a map: anything, or what a schema gives.
+/// What is under each name of a map: anything, or what a schema gives.
 #[cycle(read_schema)]
 fn read_entry(levels: u32, alloc: Global, entry: &Json) -> Result<CelType, SchemaError>
     ensures { Answers (entry_type (schema_type levels) (view entry.now)) result }

@@ -1,21 +1,21 @@
 //! Why a schema is refused.
 
 ghost use Rattle.std.specs.Prelude.{◌≡◌};
-ghost use Rattle.vap_schema.specs.Names.{schema_fault_name};
+ghost use Rattle.vap_schema.specs.SchemaNames.{schema_fault_name};
 
 use crate::own_fault::OwnFault;
-use failing::Failed;
+use base_containers::Failed;
 use thiserror::Error;
 
 #[derive(Clone, Copy, Debug, PartialEq, Eq, Error)]
 pub enum SchemaFault {
-    /// Nothing says what stands there.
+    /// Nothing says what is there.
     #[error("a schema that gives no type")]
     NoType = 1,
-    /// A keyword is of a wrong kind or out of range, or may not stand there, or a needed one is absent.
+    /// A keyword is of a wrong kind or out of range, or may not be there, or a needed one is absent.
     #[error("a keyword that is not understood")]
     BadKeyword = 2,
-    /// More than 100 schemas stand inside each other.
+    /// More than 100 schemas are inside each other.
     #[error("too deep")]
     TooDeep = 3,
 }
@@ -36,7 +36,7 @@ impl SchemaFault {
 pub type SchemaError = Failed<SchemaFault>;
 
 impl From<SchemaFault> for Failed<SchemaFault> {
-    ghost use Rattle.failing.specs.declared.failed.Failed.TheVariants.{Fault};
+    ghost use Rattle.base_containers.specs.declared.failed.Failed.TheVariants.{Fault};
 
     ghost from_gives = { λ fault e. e ≡ Fault fault };
 
@@ -46,7 +46,7 @@ impl From<SchemaFault> for Failed<SchemaFault> {
 }
 
 impl From<OwnFault> for Failed<SchemaFault> {
-    ghost use Rattle.failing.specs.declared.failed.Failed.TheVariants.{Fault};
+    ghost use Rattle.base_containers.specs.declared.failed.Failed.TheVariants.{Fault};
     ghost use Rattle.vap_schema.specs.Keywords.{fault_of};
 
     ghost from_gives = { λ own e. e ≡ Fault (fault_of own) };

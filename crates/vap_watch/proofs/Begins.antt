@@ -1,6 +1,6 @@
 -- Lists that begin with one another.
 use Rattle.std.proofs.Common.{◌≡◌, List, [], ◌++◌, refl, sym, subst, ap, ◌∙◌, append_assoc, append-nil}
-use Rattle.board.specs.Begins.{StartsWith}
+use Rattle.vap_watch.specs.Begins.{StartsWith}
 
 pub starts_here : {X : Type 0} (list : List X) → StartsWith list list
 starts_here list = record { rest = []; split = sym (append-nil list) }

@@ -6,7 +6,7 @@ use Rattle.std.proofs.lemmas.Grind.{flat_map-append}
 use Rattle.std.proofs.lemmas.Option.{slice_get-get_or}
 use Rattle.std.proofs.Math.Seq.{drop-cons}
 use Rattle.std.specs.Prelude.{slice_get, Some}
-use Rattle.vap_watch.specs.Blocks.{joined}
+use Rattle.vap_read_objects.specs.Blocks.{joined}
 
 module _ {X : Type 0} where
   -- a place within the first of two lists

@@ -1,9 +1,9 @@
 -- Snapshots and readers may go to another thread, type by type: each search ends at what was shown before it.
 use denote.Param.Send.{IsSend, IsSync, sendable}
 use Rattle.std.proofs.Crossing.{crosses}
-use Rattle.board.proofs.Crossing.{note_send, note_sync, told_send}
+use Rattle.vap_watch.proofs.BoardCrossing.{note_send, note_sync, told_send}
 use Rattle.vap_read.proofs.Crossing.{event_send, event_sync}
-use Rattle.vap_set.proofs.Crossing.{choice_send, choice_sync, set_send, set_sync}
+use Rattle.vap_policy_set.proofs.Crossing.{choice_send, choice_sync, set_send, set_sync}
 use Rattle.vap_watch.specs.contracts.log.Logged as logged
 use Rattle.vap_watch.specs.contracts.log.Log as log
 use Rattle.vap_watch.specs.contracts.snapshot.Snapshot as snapshot

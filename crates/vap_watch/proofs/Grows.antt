@@ -5,8 +5,8 @@ use mathlib.Core.Option.{some}
 use lib.ListN.{get_elem?}
 use Rattle.left_right.specs.Register.{Admits, TurnsAt, Forks, Merges}
 use Rattle.atomic_table.proofs.Lists.{at_set, at_snoc}
-use Rattle.board.specs.Begins.{StartsWith}
-use Rattle.board.specs.Shown.{Shown}
+use Rattle.vap_watch.specs.Begins.{StartsWith}
+use Rattle.vap_watch.specs.Shown.{Shown}
 use Rattle.vap_watch.specs.Seen.{Follows, FollowsAll, Keeps, Sees, Known, SeesMore, Looks, Learns}
 use Rattle.vap_watch.proofs.Begins.{starts_here, starts_further, starts_empty}
 

@@ -10,17 +10,14 @@ use mathlib.Core.Option.{some, some-injective, some-ne-none}
 use mathlib.Core.Option as maybe
 use lib.ListN.{get_elem?}
 use prog.Atomic.{either}
-use Rattle.atomic_table.specs.Table.{State, Me, Act, Valid, carried_after, keeps, takes, gives, step, stepped, opening, Allows, Enters}
+use Rattle.atomic_table.specs.Table.{State, Act, Valid, carried_after, keeps, takes, gives, step, stepped, opening, Allows, Enters}
 use Rattle.atomic_table.proofs.Lists.{at_set, at_snoc, set_here, set_else}
-use Rattle.board.specs.Shown.{Shown}
+use Rattle.vap_watch.specs.Shown.{Shown}
 use Rattle.vap_watch.specs.Seen.{shown_in}
-use Rattle.vap_watch.specs.Homes.{Waits, sits, claims}
+use Rattle.vap_watch.specs.Homes.{Waits, sits, claims, Sat}
 
 abbrev Home : Type 0 → Type 0
 Home X = maybe.Option (Option (Shown X))
-
-abbrev Sat : Type 0 → Type 0
-Sat X = Me (Option (Shown X)) (Shown X)
 
 one_inside : (ws : List ℕ) (i : ℕ) → slice_index ws i ≡ 1 → i < length ws
 one_inside [] i e = absurd (omega (arith, e))

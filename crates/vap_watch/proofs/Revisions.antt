@@ -2,11 +2,11 @@
 use Rattle.std.proofs.Common.{◌≡◌, ◌+◌, ℕ, Bool, true, false, List, [], ◌∷◌, length, Result, Ok, Err, refl, ap, ◌∙◌, suc, arith}
 use Rattle.std.specs.Prelude.{if◌then◌else◌}
 use Rattle.vap_read.specs.declared.event.Event.{Event}
-use Rattle.vap_request.specs.declared.request.Request.{Request}
-use Rattle.vap_set.specs.Sets.{holdings_of, kinds_of}
-use Rattle.vap_judge.specs.Evaluations.{found_by}
-use Rattle.vap_judge.specs.Judging as judging
-use Rattle.vap_judge.specs.Places.{is_exempt, kind_at}
+use Rattle.vap_match.specs.declared.request.Request.{Request}
+use Rattle.vap_policy_set.specs.Sets.{holdings_of, kinds_of}
+use Rattle.vap_policy.specs.Evaluations.{found_by}
+use Rattle.vap_policy.specs.Judging as judging
+use Rattle.vap_policy.specs.Places.{is_exempt, kind_at}
 use Rattle.vap_watch.specs.Given.{Choice, Objects, PolicySet, Verdict, after, built_of, no_choice, no_objects, verdict_of}
 use Rattle.vap_watch.specs.Logs.{choice_after, events_of, objects_after, objects_of, set_of, verdict_at}
 use Rattle.vap_watch.specs.declared.log.Logged.{Logged}

@@ -1,4 +1,4 @@
--- What tables of places are made of may go to another thread, or be looked at by several, wherever what they hold may.
+-- What tables of places are made of may go to another thread, or be looked at by several, if what they hold may.
 use denote.RattleType.{RattleType}
 use denote.Param.Send.{IsSend, IsSync, part_keyless, sendable}
 use denote.Struct.Struct.{Struct}
@@ -19,7 +19,7 @@ use Rattle.left_right.specs.contracts.part.Part as part
 pub part_send : (T : RattleType) → IsSync T → IsSend (part.the_row T)
 part_send T y = search (y, seen, sendable, crosses) depth 60 fits 200000
 
--- who steps at a table
+-- a seat, which steps at a table
 pub seat_send : (S V : RattleType) → IsSend S → IsSend (seat.the_row S V)
 seat_send S V s = search (s, seat_keyless, sendable, crosses) depth 60 fits 200000
 

@@ -5,8 +5,8 @@ use Rattle.std.specs.Coded.{Coded, code_by, coded×, coded_list}
 use mathlib.Core.Option.{some}
 use lib.ListN.{get_elem?}
 use Rattle.logbook.specs.Pages.{Book, book_coded}
-use Rattle.board.specs.Begins.{StartsWith}
-use Rattle.board.specs.Shown.{Shown, shows}
+use Rattle.vap_watch.specs.Begins.{StartsWith}
+use Rattle.vap_watch.specs.Shown.{Shown, shows}
 
 -- the board of those that have seen nothing
 abbrev nowhere : Book
@@ -35,7 +35,7 @@ FollowsAll shown seen = All (λ earlier. Follows shown earlier) seen
 abbrev pub Keeps : {X : Type 0} → Shown X → List (List (Shown X)) → Type 0
 Keeps {X = X} shown views = (seat : ℕ) (seen : List (Shown X)) → get_elem? views seat ≡ some seen → FollowsAll shown seen
 
--- who publishes or enters has seen what is then published, which follows all that it had seen
+-- a place that publishes or enters has seen what is then published, which follows all that it had seen
 abbrev pub Sees : {X : Type 0} → List (Shown X) → Shown X → Shown X → List (Shown X) → Type 0
 Sees seen before after then = FollowsAll after seen × (then ≡ after ∷ [])
 

@@ -1,7 +1,7 @@
-//! Staging and publishing, where nobody reads.
+//! Staging and publishing without readers.
 
 ghost use Rattle.std.specs.Prelude.{◌≡◌, ◌≢◌, ◌<◌, ◌↔◌, ◌++◌, ◌∷◌, [], false, length, IfErr, IfOk, IsErrOf, MatchBool, OnErr, OnOk};
-ghost use Rattle.failing.specs.declared.failed.Failed.TheVariants.{Fault};
+ghost use Rattle.base_containers.specs.declared.failed.Failed.TheVariants.{Fault};
 ghost use Rattle.vap_watch.specs.Given.{AreUnverified, takes};
 ghost use Rattle.vap_watch.specs.Places.{HasRoomFor, IsNext, Publishes, at, events_at, most_events, objects_at};
 ghost use Rattle.vap_watch.specs.declared.fault.PublishFault.TheVariants.{Unverified};
@@ -10,8 +10,8 @@ use crate::fault::{PublishError, StageFault};
 use crate::snapshot::{Snapshot, revision_of};
 use std::alloc::{AllocError, Global};
 use std::marker::Model;
-use vap_objects::Objects;
 use vap_read::Event;
+use vap_read_objects::Objects;
 
 /// The most events of a log.
 pub const MOST_EVENTS: usize = 65_536;
@@ -95,7 +95,7 @@ impl Desk {
         self.objects.takes(event)
     }
 
-    /// Publishes all that is staged, once and in order, and answers the revision. Where it is refused, all stays as it was.
+    /// Publishes all that is staged, once and in order, and answers the revision. If it is refused, all stays as it was.
     pub fn publish(&mut self) -> Result<usize, PublishError>
         ensures all { OnOk result (Publishes self.old self.new) }
         ensures revision { IfOk result (λ revision. revision ≡ length self.new.published) }

@@ -20,7 +20,7 @@ impl Model for Entrance {
     ghost use Rattle.std.specs.Prelude.{◌≡◌, [], ◌∷◌};
     ghost use Rattle.left_right.specs.Sides.{view as view_of};
     ghost use Rattle.std.specs.Coded.{codes};
-    ghost use Rattle.board.specs.Shown.{Shown};
+    ghost use Rattle.vap_watch.specs.Shown.{Shown};
     ghost use Rattle.vap_read.specs.contracts.event.Event as event;
     ghost use Rattle.vap_watch.specs.declared.log.Logged.{Logged};
     ghost use Rattle.vap_watch.specs.Seen.{first_of};
@@ -42,8 +42,8 @@ impl Entrance {
         Entrance { inner }
     }
 
-    /// What is published, as of one moment of the call: none if it is what was seen. If its share is refused the place has seen it all
-    /// the same, and `None` says that the writer is gone.
+    /// What is published, as of one moment of the call: none if it is what was seen. If its share is refused, the place has seen it
+    /// nevertheless. `None` says that the writer is gone.
     pub(crate) fn enter(
         self,
         seen: &Posted,

@@ -2,9 +2,9 @@
 
 ghost use Rattle.std.specs.Prelude.{◌≡◌};
 
-use failing::Failed;
+use base_containers::Failed;
 use thiserror::Error;
-use vap_judge::BuildFault;
+use vap_policy::BuildFault;
 
 /// The faults of staging by their numbers, from 1 on, and out of memory.
 #[derive(Clone, Copy, Debug, PartialEq, Eq, Error)]

@@ -6,17 +6,25 @@
 //! patterns that the set was built by. [`Snapshot::judge`] answers the verdict at the snapshot's log.
 //!
 //! A [`Writer`] is a desk that shows what is published to [`Reader`]s, which may be in other threads: [`Reader::enter`] answers the
-//! published snapshot, and neither waits for the other. What a reader sees begins with all that it had seen, and with all that it was
-//! told of: a [`Told`] of [`Writer::tell`] is taken in by [`Reader::learn`].
+//! published snapshot and waits for nobody; a publication waits only for readers that are in the middle of this one step. What a
+//! reader sees begins with all that it had seen, and with all that it was told of: a [`Told`] of [`Writer::tell`] is taken in by
+//! [`Reader::learn`].
 //!
-//! Readers and the writer stand on `left_right` under a rule (`rule.rt`): what is published follows all that each place has seen. Which
-//! log stands where is kept on a board of the crate `board`, whose notes say of two logs which is the later by comparing two numbers.
+//! Readers and the writer use `left_right` under a rule (`rule.rt`): what is published follows all that each place has seen. Which log
+//! is at which number is kept on a board (`board.rt`), whose notes say which of two logs is the later by comparing two numbers. One
+//! writer puts a log on the board before it is published, and then says that it was published, or that it was not. The lists are in
+//! the proofs alone: the board itself is one word in memory.
 #![tactic(auto)]
 
+mod board;
+mod board_rule;
 mod desk;
 mod entrance;
+mod entry;
 mod fault;
+mod listed;
 mod log;
+mod note;
 mod pool;
 mod posted;
 mod publisher;

@@ -47,7 +47,7 @@ impl Play<Option<Entrance>, Told> for Free {
 
 type Places = Table<Option<Entrance>, Told, Told, Homes, Global>;
 
-/// The places of a board, which contracts see it as.
+/// The places of a board. Contracts see it as the board.
 #[derive(Drop)]
 pub(crate) struct Pool {
     table: Arc<Places>,
@@ -57,7 +57,7 @@ impl Model for Pool {
     ghost use Rattle.std.specs.Prelude.{◌≡◌, ◌<◌};
     ghost use Rattle.std.specs.Arc.{arc_value};
     ghost use Rattle.std.specs.Coded.{codes};
-    ghost use Rattle.board.specs.Shown.{Shown};
+    ghost use Rattle.vap_watch.specs.Shown.{Shown};
     ghost use Rattle.vap_read.specs.contracts.event.Event as event;
     ghost use Rattle.vap_watch.specs.declared.log.Logged.{Logged};
 
@@ -83,7 +83,7 @@ impl Model for Lent {
     ghost use Rattle.std.specs.Prelude.{◌≡◌, ◌<◌, [], ◌∷◌, None, IsSome};
     ghost use Rattle.std.specs.Arc.{arc_value};
     ghost use Rattle.std.specs.Coded.{codes};
-    ghost use Rattle.board.specs.Shown.{Shown};
+    ghost use Rattle.vap_watch.specs.Shown.{Shown};
     ghost use Rattle.vap_read.specs.contracts.event.Event as event;
     ghost use Rattle.vap_watch.specs.declared.log.Logged.{Logged};
     ghost use Rattle.vap_watch.specs.Seen.{shown_in};
@@ -130,7 +130,7 @@ impl Pool {
         })
     }
 
-    /// A place that waits. None may be found while one comes back.
+    /// A place that waits. It is possible that none is found while one comes back.
     pub(crate) fn take(&self) -> Result<Option<Lent>, AllocError>
         ensures { IfOk result (λ lent. IfSome lent (λ e. e.board ≡ self.now.board)) }
     {

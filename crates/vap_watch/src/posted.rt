@@ -3,8 +3,8 @@
 ghost use Rattle.std.specs.Prelude.{◌≡◌, IfOk, MatchOption};
 
 use crate::log::Logged;
+use crate::note::Note;
 use crate::snapshot::Snapshot;
-use board::Note;
 use std::alloc::AllocError;
 use std::marker::Model;
 
@@ -18,7 +18,7 @@ pub(crate) struct Posted {
 impl Model for Posted {
     ghost use Rattle.std.specs.Prelude.{◌≡◌};
     ghost use Rattle.std.specs.Coded.{codes};
-    ghost use Rattle.board.specs.Shown.{Shown};
+    ghost use Rattle.vap_watch.specs.Shown.{Shown};
     ghost use Rattle.vap_read.specs.contracts.event.Event as event;
     ghost use Rattle.vap_watch.specs.declared.log.Logged.{Logged};
 
@@ -61,7 +61,7 @@ impl Posted {
         &self.snapshot
     }
 
-    /// A share of the same, if it is another than the one that was seen: two of one board are of one number only where they are the
+    /// A share of the same, if it is another than the one that was seen: two of one board are of one number only if they are the
     /// same.
     pub(crate) fn newer(&self, seen: &Posted) -> Result<Option<Posted>, AllocError>
         requires { seen.now.board ≡ self.now.board }

@@ -2,10 +2,11 @@
 
 ghost use Rattle.std.specs.Prelude.{◌≡◌, ◌<◌, ◌≤◌, [], ◌∷◌, length, IfOk, IsSome, MatchResult};
 ghost use Rattle.std.specs.List.{All};
-ghost use Rattle.board.specs.Begins.{StartsWith};
-ghost use Rattle.board.specs.Shown.{shows};
+ghost use Rattle.vap_watch.specs.Begins.{StartsWith};
+ghost use Rattle.vap_watch.specs.Shown.{shows};
 ghost use Rattle.vap_watch.specs.Seen.{shown_in};
 
+use crate::board::Board;
 use crate::entrance::Entrance;
 use crate::log::Logged;
 use crate::pool::Pool;
@@ -14,7 +15,6 @@ use crate::reader::ReaderSource;
 use crate::rule::{Both, Grows, Look, Sight, Taken};
 use crate::snapshot::Snapshot;
 use crate::told::Told;
-use board::Board;
 use left_right::writer::Writer as RuledWriter;
 use std::alloc::{AllocError, Global};
 use std::marker::Model;
@@ -31,7 +31,7 @@ impl Model for Publisher {
     ghost use Rattle.std.specs.Prelude.{◌≡◌, [], ◌∷◌};
     ghost use Rattle.left_right.specs.Sides.{view as view_of};
     ghost use Rattle.std.specs.Coded.{codes};
-    ghost use Rattle.board.specs.Shown.{Shown};
+    ghost use Rattle.vap_watch.specs.Shown.{Shown};
     ghost use Rattle.vap_read.specs.contracts.event.Event as event;
     ghost use Rattle.vap_watch.specs.declared.log.Logged.{Logged};
 
@@ -154,8 +154,8 @@ impl Publisher {
         self.board.told()
     }
 
-    /// Publishes a snapshot that goes on from the published one. Where it is refused, the published one stays. It waits for readers that
-    /// are in the midst of their one step.
+    /// Publishes a snapshot that goes on from the published one. If it is refused, the published one stays. It waits for readers that
+    /// are in the middle of their one step.
     pub(crate) fn publish<R: Wait>(
         self,
         rt: &R,
@@ -182,7 +182,7 @@ impl Publisher {
         (Publisher { inner, board }, Ok(()))
     }
 
-    /// Gives the publisher up. Readers find that it is gone. It may wait, as a publication.
+    /// Gives the publisher up. Readers find that it is gone. It may wait, as a publication does.
     pub(crate) fn end<R: Wait>(self, rt: &R) {
         let Publisher {
             inner,

@@ -1,7 +1,7 @@
 //! Readers, which look at what is published.
 
 ghost use Rattle.std.specs.Prelude.{◌≡◌, [], false, IfOk, OnErr, OnOk};
-ghost use Rattle.board.specs.Begins.{StartsWith};
+ghost use Rattle.vap_watch.specs.Begins.{StartsWith};
 ghost use Rattle.vap_watch.specs.Seen.{Learns, Looks, SeesMore, knows};
 
 use crate::fault::{ReaderError, ReaderFault};
@@ -89,7 +89,7 @@ impl ReaderSource {
 
 impl Reader {
     /// Takes in what is published, as of one moment of the call, and answers whether it is another snapshot than the one that was seen
-    /// last. Its log begins with the one that was seen last and with all that this reader was told of. It is refused as `Gone` where
+    /// last. Its log begins with the one that was seen last and with all that this reader was told of. It is refused as `Gone` if
     /// the publisher is gone.
     #[tactic(auto, using(crate::proofs::Grows::looks_still, crate::proofs::Grows::looks_further, crate::proofs::Grows::follows_further))]
     pub fn look(&mut self) -> Result<bool, ReaderError>
@@ -100,7 +100,7 @@ impl Reader {
         let Some(found) = self.lent.enter(&self.seen) else {
             return Err(ReaderError::Fault(ReaderFault::Gone));
         };
-        // No run comes to a log that stands before one that was told.
+        // No run finds a log that is before one that was told.
         let Some(newer) = found? else {
             if !self.told.begins(self.seen.note()) {
                 return Err(ReaderError::Fault(ReaderFault::Gone));

@@ -1,15 +1,15 @@
 //! What is published, and the rule of it.
 
 use crate::log::Logged;
+use crate::note::Note;
 use crate::posted::Posted;
 use atomic_table::{Join, Split};
-use board::Note;
 use crossbeam_utils::rule::{Outcome, Protocol};
 use left_right::Absorb;
 use std::alloc::AllocError;
 use std::collections::LinkedList;
 
-/// What a place has seen. No value of it is made.
+/// What a place has seen. No value of this type is made.
 pub(crate) type Sight = LinkedList<Note<Logged>>;
 
 /// The one operation puts a share of another snapshot in the place of this one.
@@ -52,7 +52,7 @@ impl Outcome<Posted, Sight> for Look {
     ghost then = { λ seen before after now. Sees seen before after now };
 }
 
-/// Who tells and who is told both know.
+/// The place that tells and the place that is told both know.
 pub(crate) struct Both;
 
 impl Split<Sight> for Both {
@@ -61,7 +61,7 @@ impl Split<Sight> for Both {
     ghost right = { λ v. v };
 }
 
-/// The one place knows what the other did.
+/// The one place knows what the other knew.
 pub(crate) struct Taken;
 
 impl Join<Sight> for Taken {

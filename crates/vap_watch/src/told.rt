@@ -3,4 +3,4 @@
 use crate::log::Logged;
 
 /// Names a published log. Contracts see it as the board of its writer and the log.
-pub type Told = board::Told<Logged>;
+pub type Told = crate::note::Told<Logged>;

@@ -2,8 +2,8 @@
 
 ghost use Rattle.std.specs.Prelude.{◌≡◌, ◌≤◌, ◌<◌, ◌↔◌, ◌++◌, ◌∷◌, [], false, length};
 ghost use Rattle.std.specs.Prelude.{IfErr, IfOk, IsErrOf, IsSome, MatchResult, OnErr, OnOk};
-ghost use Rattle.failing.specs.declared.failed.Failed.TheVariants.{Fault};
-ghost use Rattle.board.specs.Shown.{shows};
+ghost use Rattle.base_containers.specs.declared.failed.Failed.TheVariants.{Fault};
+ghost use Rattle.vap_watch.specs.Shown.{shows};
 ghost use Rattle.vap_watch.specs.Given.{AreUnverified, takes};
 ghost use Rattle.vap_watch.specs.Logs.{StartsWith};
 ghost use Rattle.vap_watch.specs.Places.{HasRoomFor, Publishes, at, events_at, most_events, objects_at, place_of, writes};
@@ -78,8 +78,8 @@ impl Writer {
         self.desk.stage(event)
     }
 
-    /// Publishes all that is staged, once and in order, and answers the revision. Where it is refused, all stays as it was, for
-    /// readers too. It waits for readers that are in the midst of their one step.
+    /// Publishes all that is staged, once and in order, and answers the revision. If it is refused, all stays as it was, for
+    /// readers too. It waits for readers that are in the middle of their one step.
     #[tactic(auto, using(crate::proofs::Publication::next_begins))]
     pub fn publish<R: Wait>(&mut self, rt: &R) -> Result<usize, PublishError>
         ensures all { OnOk result (Publishes (place_of self.old) (place_of self.new)) }

@@ -48,7 +48,7 @@ fn stage_passing(out: &mut String, desk: &mut Desk, most: u64) -> Result<(), All
     write!(out, "{most}")
 }
 
-/// How many of so many passing events are staged, why the next is not, and the revision behind them.
+/// How many of so many passing events are staged, why the next is not, and the revision after them.
 fn staged(alloc: Global, most: u64) -> Result<String, AllocError> {
     let mut desk = Desk::new(alloc)?;
     let mut out = String::new(alloc);
@@ -57,7 +57,7 @@ fn staged(alloc: Global, most: u64) -> Result<String, AllocError> {
     Ok(out)
 }
 
-/// The revision after the events of these lines, where a publication that is refused is asked for once more.
+/// The revision after the events of these lines; a publication that is refused is asked for once more.
 fn published(alloc: Global, text: &str) -> Result<String, AllocError> {
     let mut desk = Desk::new(alloc)?;
     stage_lines(alloc, &mut desk, text)?;

@@ -8,9 +8,9 @@ use calls_notation::{Asked, json, request_in, unknown};
 use serde_json::Value as Json;
 use std::alloc::{AllocError, Global};
 use vap_audit::{Entry, History};
-use vap_judge::{JudgeError, Matchers, RunFault};
+use vap_match::Request;
+use vap_policy::{JudgeError, Matchers, RunFault};
 use vap_read::Event;
-use vap_request::Request;
 use vap_watch::{Desk, Snapshot};
 
 /// A review of a Pod.
@@ -26,11 +26,11 @@ pub fn answer(alloc: Global, asked: &Asked) -> Result<String, AllocError> {
     }
 }
 
-/// The revisions of the entries behind all steps, the numbers of a worker's, and which entry strays from the first desk's log.
+/// The revisions of the entries after all steps, the numbers of a worker's, and which entry strays from the first desk's log.
 fn after(alloc: Global, steps: &Json, worker: u64) -> Result<String, AllocError> {
     let (mut first, mut second) = (Desk::new(alloc)?, Desk::new(alloc)?);
     let mut history = History::new(alloc);
-    for step in json_members::items_of(steps) {
+    for step in vap_match::items_of(steps) {
         take(alloc, step, &mut first, &mut second, &mut history)?;
     }
     let mut out = String::new(alloc);

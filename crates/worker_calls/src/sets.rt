@@ -4,14 +4,12 @@
 //! others by itself. After each such step every review of the stream is judged by both sets. A line that is neither an event nor
 //! a review, or for which there is no room, is left out.
 
-use calls_notation::{Asked, json, request_in, unknown};
+use calls_notation::{Asked, json, reported, request_in, unknown};
 use std::alloc::{AllocError, Global};
-use vap_answer::answer_text;
-use vap_judge::{JudgeError, Matchers, PolicySet, RunFault, judge};
-use vap_objects::Objects;
+use vap_match::{Request, ReviewError};
+use vap_policy::{JudgeError, Matchers, PolicySet, RunFault, answer_text, judge};
 use vap_read::{Event, EventError};
-use vap_request::{Request, ReviewError};
-use vap_set::Misconfigured;
+use vap_read_objects::Objects;
 use vap_watch::{Desk, StageFault};
 
 /// The answer to a call of sets.
@@ -82,22 +80,6 @@ fn take(
 }
 
 // ---- sets
-
-fn push_item(out: &mut String, item: &Misconfigured) -> Result<(), AllocError> {
-    let (policy, kind, fault) = (item.policy.as_str(), item.kind.as_str(), item.fault.name());
-    let (group, version) = (item.group.as_str(), item.version.as_str());
-    write!(out, "{policy} {group}/{version} {kind} {fault}; ")
-}
-
-/// Where the policies of a set are misconfigured.
-fn reported(alloc: Global, set: &PolicySet) -> Result<String, AllocError> {
-    let report = set.report(alloc)?;
-    let mut out = String::new(alloc);
-    for item in report.as_slice() {
-        push_item(&mut out, item)?;
-    }
-    Ok(out)
-}
 
 /// What a set answers to a request.
 fn answered(

@@ -7,9 +7,9 @@ use calls_notation::{Asked, json, request_in, unknown};
 use serde_json::Value as Json;
 use std::alloc::{AllocError, Global};
 use vap_audit::History;
+use vap_match::Request;
+use vap_plane::{Step, World, play};
 use vap_read::Event;
-use vap_request::Request;
-use vap_steps::{Step, World, play};
 use vap_watch::revision_of;
 
 /// The answer to a call of steps.
@@ -23,7 +23,7 @@ pub fn answer(alloc: Global, asked: &Asked) -> Result<String, AllocError> {
 /// The world that steps make. One that cannot be read is left out.
 fn played(alloc: Global, steps: &Json) -> Result<String, AllocError> {
     let mut list = Vec::new(alloc);
-    for step in json_members::items_of(steps) {
+    for step in vap_match::items_of(steps) {
         if let Some(step) = step_of(alloc, step)? {
             list.push(step)?;
         }
@@ -62,7 +62,7 @@ fn own_step(json: &Json) -> Option<Step> {
         .map(|number| Step::GiveUp(worker(Some(number))))
 }
 
-/// The number of a worker, 0 where there is none.
+/// The number of a worker, 0 if there is none.
 fn worker(json: Option<&Json>) -> u8 {
     match json {
         Some(json) => json.as_u64().unwrap_or(0).min(255) as u8,

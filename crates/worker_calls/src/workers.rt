@@ -13,7 +13,6 @@ ghost use Rattle.std.specs.List.{All};
 
 use crate::steps::push_entries;
 use calls_notation::{Asked, json, request_in, unknown};
-use json_members::items_of;
 use serde_json::Value as Json;
 use std::alloc::{AllocError, Global};
 use std::marker::Brand;
@@ -23,13 +22,13 @@ use std::sync::ledger::{Blank, Ledger};
 use std::thread::Threads;
 use std::time::{Clock, Duration};
 use std::{mem, thread};
-use vap_answer::{Verdict, unfit_verdict};
+use vap_match::{Request, items_of};
 use vap_plane::{
     CloseError, Gate, GatherError, Judged, Kept, Pass, Plan, PlaneError, SharedHistory, Worker,
     close, gather, run_workers, told_to,
 };
+use vap_policy::{Verdict, unfit_verdict};
 use vap_read::{Event, EventError};
-use vap_request::Request;
 use vap_watch::{ReaderSource, StageFault, Told, Writer, open};
 
 /// The most sleeps of a thread that waits for another.
@@ -73,7 +72,7 @@ fn gathered(alloc: Global, count: u64, numbers: &[Json]) -> Result<String, Alloc
     Ok(out)
 }
 
-/// What the workers of one history come to.
+/// What results from the workers of one history.
 fn acted<L: Plan + Send + Sync, R: Threads + Wait + Clock + Sync>(
     rt: &R,
     alloc: Global,
@@ -94,7 +93,7 @@ fn acted<L: Plan + Send + Sync, R: Threads + Wait + Clock + Sync>(
     }
 }
 
-/// What comes of the steps, one after the other.
+/// What results from the steps, one after the other.
 fn served<L: Plan + Send + Sync, R: Wait>(
     rt: &R,
     alloc: Global,
@@ -227,7 +226,7 @@ fn read(alloc: Global, review: &Json) -> Result<Request, AllocError> {
     }
 }
 
-/// A writer, the workers of a history, what the first of them judged and did not record, the next call, and what is told.
+/// A writer, the workers of a history, what the first of them judged and did not record, the next call, and what is reported.
 struct Stage<L: Ledger> {
     alloc: Global,
     writer: Writer,
@@ -384,7 +383,7 @@ impl<L: Plan + Send + Sync> Stage<L> {
         writer.end(rt);
     }
 
-    /// Tells what each worker counted, and closes the history with the first workers, so many.
+    /// Reports what each worker counted, and closes the history with the first `given` workers.
     fn end<R: Wait>(
         self,
         rt: &R,
@@ -431,7 +430,7 @@ fn record_all<L: Ledger>(
     Ok(())
 }
 
-/// Tells what each worker counted, and closes the history with the first workers, so many.
+/// Reports what each worker counted, and closes the history with the first `given` workers.
 fn closed<L: Plan, R: Wait>(
     rt: &R,
     writer: Writer,
@@ -457,7 +456,7 @@ fn closed<L: Plan, R: Wait>(
     Ok(out)
 }
 
-/// The first of the workers, so many; tells what each counted.
+/// The first `given` workers; reports what each worker counted.
 fn some_of<L: Ledger>(
     mut workers: Vec<Worker<L>>,
     given: u64,
@@ -470,7 +469,7 @@ fn some_of<L: Ledger>(
     Ok(workers)
 }
 
-/// What comes of two calls that meet so many times, when the steps have published.
+/// What results from two calls that meet so many times, when the steps have published.
 fn met<L: Plan + Send + Sync, R: Threads + Wait + Clock + Sync>(
     rt: &R,
     alloc: Global,
@@ -522,7 +521,7 @@ fn publish_all<R: Wait>(
     Ok(())
 }
 
-/// Has two calls meet so many times; tells how many answers came, and how many calls waited in vain.
+/// Has two calls meet so many times; reports how many answers came, and how many calls waited in vain.
 fn meet_all<L: Plan + Send + Sync, R: Threads + Wait + Clock + Sync>(
     rt: &R,
     alloc: Global,

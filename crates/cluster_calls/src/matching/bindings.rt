@@ -4,7 +4,7 @@ use crate::matching::policies::{or_dash, push_rules};
 use crate::matching::read::{agreed, policy_refusal, sign};
 use calls_notation::{Asked, json, unknown};
 use std::alloc::{AllocError, Global};
-use vap_bindings::{Binding, BindingSpec, NotFoundAction, ParamRef};
+use vap_read::{Binding, BindingSpec, NotFoundAction, ParamRef};
 
 /// The answer to a call of bindings.
 pub fn answer(alloc: Global, asked: &Asked) -> Result<String, AllocError> {
@@ -57,7 +57,7 @@ fn shown_of(alloc: Global, binding: Binding) -> Result<String, AllocError> {
     shown(alloc, binding.spec.get())
 }
 
-/// What a binding and its copy say, where both say the same.
+/// What a binding and its copy say, if both say the same.
 fn shown_twice(alloc: Global, binding: &Binding) -> Result<String, AllocError> {
     let copy = shown_of(alloc, binding.copy()?)?;
     let first = shown(alloc, binding.spec.get())?;

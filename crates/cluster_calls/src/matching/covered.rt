@@ -37,7 +37,7 @@ fn covered(alloc: Global, row: &str) -> Result<String, AllocError> {
     }
 }
 
-/// Rules, of which each request below has a sign.
+/// Rules; each request below has a sign for each of them.
 const RULES: [&str; 20] = [
     r#"{"resourceRules":[{"operations":["*"],"apiGroups":["*"],"apiVersions":["*"],
         "resources":["*/*"]}]}"#,

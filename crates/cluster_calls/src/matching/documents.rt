@@ -1,11 +1,11 @@
 //! What documents hold. A row is a text; what it spells is written out off its tape (`opened`) or off its tree (`read`).
 //!
-//! Texts and names are written by their bytes, behind `t`; numbers behind `u`, `n` (one below 0) and `f` (the bits of a float);
+//! Texts and names are written by their bytes, after `t`; numbers after `u`, `n` (one below 0) and `f` (the bits of a float);
 //! members in the order of their names.
 
+use base_containers::{Number, Part, opened};
 use calls_notation::{Asked, unknown};
 use json::Scratch;
-use json_documents::{Number, Part, opened};
 use serde_json::Value as Json;
 use std::alloc::{AllocError, Global};
 

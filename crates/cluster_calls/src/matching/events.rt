@@ -1,8 +1,8 @@
 //! Which events lines are, and of which kind lines are.
 
 use crate::matching::read::agreed;
+use base_containers::Part;
 use calls_notation::{Asked, json, unknown};
-use json_documents::Part;
 use std::alloc::{AllocError, Global};
 use vap_read::{Content, Event, EventError, Key, LineKind, Object, ObjectMap, line_kind};
 
@@ -88,7 +88,7 @@ fn shown_of(alloc: Global, event: Event) -> Result<String, AllocError> {
     shown(alloc, &event)
 }
 
-/// What an event and its copy do, where both do the same.
+/// What an event and its copy do, if both do the same.
 fn shown_twice(alloc: Global, event: &Event) -> Result<String, AllocError> {
     let copy = shown_of(alloc, event.copy()?)?;
     let first = shown(alloc, event)?;

@@ -3,10 +3,9 @@
 use calls_notation::{Asked, unknown};
 use std::alloc::{AllocError, Global};
 use vap_match::{MatchFault, ReviewFault};
-use vap_policies::PolicyFault;
-use vap_read::EventFault;
+use vap_read::{EventFault, PolicyFault};
 
-/// The answer to a call of faults, each asked by its name: the number, where it has one, and what is printed for it.
+/// The answer to a call of faults, each asked by its name: the number, if it has one, and what is printed for it.
 pub fn answer(alloc: Global, asked: &Asked) -> Result<String, AllocError> {
     match asked.call {
         "rules" => of_rules(alloc, rules_fault(asked.input)),
@@ -50,7 +49,7 @@ fn review_fault(name: &str) -> ReviewFault {
     }
 }
 
-/// The fault of a policy, a fault of its rules where it has no other of this name.
+/// The fault of a policy, a fault of its rules if it has no other of this name.
 fn policy_fault(name: &str) -> PolicyFault {
     match name {
         "MissingField" => PolicyFault::MissingField,
@@ -63,7 +62,7 @@ fn policy_fault(name: &str) -> PolicyFault {
     }
 }
 
-/// The fault of an event, a fault of a policy where it has no other of this name.
+/// The fault of an event, a fault of a policy if it has no other of this name.
 fn event_fault(name: &str) -> EventFault {
     match name {
         "BadType" => EventFault::BadType,

@@ -24,7 +24,7 @@ fn is_read(alloc: Global, opening: &str, length: usize, closing: &str) -> Result
     is_with(alloc, text.as_str())
 }
 
-/// How many characters may stand between an opening and a closing: the most of those that are tried.
+/// How many characters may be between an opening and a closing: the most of those that are tried.
 pub fn longest(alloc: Global, opening: &str, closing: &str) -> Result<String, AllocError> {
     let mut most = 0;
     for length in [7, 8, 253, 254, 1024, 1025] {
@@ -50,7 +50,7 @@ fn are_read(
     is_with(alloc, text.as_str())
 }
 
-/// How many texts may stand between an opening and a closing, each with this under it.
+/// How many texts may be between an opening and a closing, each with this under it.
 pub fn most(
     alloc: Global,
     opening: &str,

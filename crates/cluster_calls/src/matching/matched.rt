@@ -1,13 +1,12 @@
 //! Which requests rules match: those that they cover, whose namespace and whose object they select.
 
 use crate::matching::read::{match_refusal, review, review_refusal, sign};
+use base_containers::Part;
 use calls_notation::{Asked, json, request_in, unknown};
 use json::Scratch;
-use json_documents::Part;
-use json_members::text_of;
 use serde_json::Value as Json;
 use std::alloc::{AllocError, Global};
-use vap_match::{Labels, OpenRequest, Request, Rules, labels_of, matches};
+use vap_match::{Labels, OpenRequest, Request, Rules, labels_of, matches, text_of};
 
 /// The answer to a call of rules that match requests.
 pub fn answer(alloc: Global, asked: &Asked) -> Result<String, AllocError> {
@@ -81,7 +80,7 @@ fn matched_each(alloc: Global, namespaces: &[Json], row: &str) -> Result<String,
     Ok(out)
 }
 
-/// Rules with selectors, of which each request below has a sign.
+/// Rules with selectors; each request below has a sign for each of them.
 const CHOOSING: [&str; 7] = [
     r#"{"namespaceSelector":{"matchLabels":{"a":"b"}}}"#,
     r#"{"namespaceSelector":{}}"#,

@@ -3,20 +3,16 @@
 
 use crate::matching::events::push_key;
 use crate::matching::read::sign;
+use base_containers::{Keyed, Part, Shared, Text};
 use calls_notation::{Asked, json, unknown};
-use json_documents::Part;
-use plain::{Keyed, Shared, Text};
 use serde_json::Value as Json;
 use std::alloc::{AllocError, Global};
-use vap_bindings::Binding;
-use vap_kinds::Kind;
 use vap_match::Labels;
-use vap_objects::{
-    Objects, all_miss_definitions, all_miss_kind, all_miss_namespaces, all_miss_rules, bindings_of,
-    misses_key,
+use vap_read::{Binding, Event, EventError, Key, Object, Policy};
+use vap_read_objects::{
+    Kind, Objects, all_miss_definitions, all_miss_kind, all_miss_namespaces, all_miss_rules,
+    bindings_of, misses_key,
 };
-use vap_policies::Policy;
-use vap_read::{Event, EventError, Key, Object};
 
 /// The answer to a call of objects.
 pub fn answer(alloc: Global, asked: &Asked) -> Result<String, AllocError> {
@@ -40,7 +36,7 @@ fn take_event(alloc: Global, objects: &mut Objects, event: &Event) -> Result<(),
     }
 }
 
-/// What a line leaves, where it is an event for which there is room.
+/// What a line leaves, if it is an event for which there is room.
 pub fn take_line(alloc: Global, objects: &mut Objects, line: Json) -> Result<(), AllocError> {
     match Event::from_json(alloc, line) {
         Ok(event) => take_event(alloc, objects, &event),
@@ -132,7 +128,7 @@ fn push_kinds(out: &mut String, kinds: &[Kind]) -> Result<(), AllocError> {
     Ok(())
 }
 
-/// The kinds that definitions define, behind the two that need none.
+/// The kinds that definitions define, after the two that need none.
 fn kinds(alloc: Global, row: &str) -> Result<String, AllocError> {
     let objects = after(alloc, row)?;
     let kinds = objects.kinds(alloc)?;
@@ -177,7 +173,7 @@ fn push_held(out: &mut String, alloc: Global, objects: &Objects) -> Result<(), A
     push_labels(out, alloc, &objects.namespace_labels(alloc, "d")?)
 }
 
-/// The ConfigMaps, and the labels of the Namespace d, behind the lines of a row.
+/// The ConfigMaps, and the labels of the Namespace d, after the lines of a row.
 fn held(alloc: Global, row: &str) -> Result<String, AllocError> {
     let mut out = String::new(alloc);
     push_held(&mut out, alloc, &after(alloc, row)?)?;
@@ -186,7 +182,7 @@ fn held(alloc: Global, row: &str) -> Result<String, AllocError> {
 
 // ---- what events do not touch
 
-/// Puts the event of a line behind others.
+/// Puts the event of a line after others.
 fn push_read(alloc: Global, events: &mut Vec<Event>, line: Json) -> Result<(), AllocError> {
     match Event::from_json(alloc, line) {
         Ok(event) => {
@@ -238,7 +234,7 @@ fn missed(alloc: Global, row: &str) -> Result<String, AllocError> {
 
 // ---- limits
 
-/// Writes objects of each number from 1 on, each behind a comma.
+/// Writes objects of each number from 1 on, each after a comma.
 fn push_items(
     out: &mut String,
     count: usize,

@@ -4,7 +4,7 @@ use crate::matching::read::{agreed, policy_refusal};
 use calls_notation::{Asked, json, unknown};
 use std::alloc::{AllocError, Global};
 use vap_match::Rules;
-use vap_policies::{FailurePolicy, NamedExpression, Policy, PolicySpec, Reason, Validation};
+use vap_read::{FailurePolicy, NamedExpression, Policy, PolicySpec, Reason, Validation};
 
 /// The answer to a call of policies.
 pub fn answer(alloc: Global, asked: &Asked) -> Result<String, AllocError> {
@@ -22,7 +22,7 @@ const OPENING: &str =
     "apiVersions":["v"],"resources":["r","s"]}]},"#;
 
 /// The text of an optional member, or a dash.
-pub fn or_dash(text: &Option<plain::Text>) -> &str {
+pub fn or_dash(text: &Option<base_containers::Text>) -> &str {
     match text {
         Some(text) => text.as_str(),
         None => "-",
@@ -103,7 +103,7 @@ fn failure_name(failure_policy: FailurePolicy) -> &'static str {
     }
 }
 
-/// What a policy says, of its rules the resources.
+/// What a policy says; of its rules, the resources.
 pub fn shown(alloc: Global, spec: &PolicySpec) -> Result<String, AllocError> {
     let mut out = String::new(alloc);
     push_kind(&mut out, spec)?;
@@ -120,7 +120,7 @@ fn shown_of(alloc: Global, policy: Policy) -> Result<String, AllocError> {
     shown(alloc, policy.spec.get())
 }
 
-/// What a policy and its copy say, where both say the same.
+/// What a policy and its copy say, if both say the same.
 fn shown_twice(alloc: Global, policy: &Policy) -> Result<String, AllocError> {
     let copy = shown_of(alloc, policy.copy()?)?;
     let first = shown(alloc, policy.spec.get())?;
@@ -141,7 +141,7 @@ fn policy_with(alloc: Global, members: &str) -> Result<String, AllocError> {
     policy(alloc, text.as_str())
 }
 
-/// The fault of a policy, empty where there is none.
+/// The fault of a policy, empty if there is none.
 fn fault(alloc: Global, members: &str) -> Result<String, AllocError> {
     let text = format!(in alloc; "{OPENING}{members}}}}}")?;
     match Policy::from_json(alloc, &json(alloc, text.as_str())?) {
@@ -165,7 +165,7 @@ fn fault_of_so_many(
     fault(alloc, text.as_str())
 }
 
-/// Which numbers of items behind an opening have a fault, each item of these two parts round its number.
+/// Which numbers of items after an opening have a fault, each item of these two parts round its number.
 fn faults_of(
     alloc: Global,
     opening: &str,

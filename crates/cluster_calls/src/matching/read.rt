@@ -2,14 +2,14 @@
 
 use std::alloc::{AllocError, Global};
 use vap_match::{MatchError, ReviewError};
-use vap_policies::PolicyError;
+use vap_read::PolicyError;
 
 /// The text of the review whose request has these members, and those that it needs beside them.
 pub fn review(alloc: Global, members: &str) -> Result<String, AllocError> {
     format!(in alloc; "{{\"request\":{{\"uid\":\"u\",\"kind\":{{}},{members}}}}}")
 }
 
-/// What a value and its copy say, where both say the same.
+/// What a value and its copy say, if both say the same.
 pub fn agreed(alloc: Global, value: &str, copy: &str) -> Result<String, AllocError> {
     String::from_str(
         alloc,

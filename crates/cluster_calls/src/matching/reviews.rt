@@ -2,9 +2,9 @@
 
 use crate::matching::limits;
 use crate::matching::read::{agreed, review_refusal};
+use base_containers::Part;
 use calls_notation::{Asked, request_in, unknown};
 use json::Scratch;
-use json_documents::Part;
 use std::alloc::{AllocError, Global};
 use vap_match::{Admission, OpenRequest, Request};
 
@@ -55,7 +55,7 @@ fn objects(open: &OpenRequest<'_, '_, '_>) -> &'static str {
     }
 }
 
-/// What a review asks, of its objects which there are.
+/// What a review asks; of its objects, which there are.
 pub fn shown(alloc: Global, open: &OpenRequest<'_, '_, '_>) -> Result<String, AllocError> {
     let asked = open.request.admission();
     let mut out = String::from_str(alloc, asked.uid.as_str())?;
@@ -72,7 +72,7 @@ fn shown_of(alloc: Global, request: &Request) -> Result<String, AllocError> {
     shown(alloc, &OpenRequest::new(request, Part::new(tape.root())))
 }
 
-/// What a request and its copy ask, where both ask the same.
+/// What a request and its copy ask, if both ask the same.
 fn shown_twice(alloc: Global, request: &Request) -> Result<String, AllocError> {
     let copy = shown_of(alloc, &request.copy()?)?;
     let first = shown_of(alloc, request)?;

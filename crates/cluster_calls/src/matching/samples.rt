@@ -3,15 +3,13 @@
 use crate::matching::events::{push_key, refusal};
 use crate::matching::read::review_refusal;
 use crate::matching::{bindings, policies, reviews};
+use base_containers::{Part, Text};
 use calls_notation::{Asked, json, part_at, request_in, shown as shown_value, unknown};
 use json::Scratch;
-use json_documents::Part;
-use plain::Text;
 use serde_json::Value as Json;
 use std::alloc::{AllocError, Global};
 use vap_match::{OpenRequest, Operation, Request, Rule, Scope};
-use vap_policies::PolicySpec;
-use vap_read::{Content, Event, Object};
+use vap_read::{Content, Event, Object, PolicySpec};
 
 /// The answer to a call of a worked example.
 pub fn answer(alloc: Global, asked: &Asked) -> Result<String, AllocError> {

@@ -1,8 +1,8 @@
 //! Which labels selectors select.
 
 use crate::matching::read::{match_refusal, sign};
+use base_containers::Part;
 use calls_notation::{Asked, json, unknown};
-use json_documents::Part;
 use std::alloc::{AllocError, Global};
 use vap_match::{Labels, Selector, labels_of, selects};
 
@@ -39,7 +39,7 @@ fn selected(alloc: Global, row: &str) -> Result<String, AllocError> {
     select_signs(alloc, &labels_of(&Part::of_tree(&json(alloc, row)?)))
 }
 
-/// Selectors, of which each object below has a sign.
+/// Selectors; each object below has a sign for each of them.
 const SELECTORS: [&str; 12] = [
     r#"{}"#,
     r#"{"matchLabels":{}}"#,

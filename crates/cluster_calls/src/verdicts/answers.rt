@@ -4,7 +4,7 @@ use crate::matching::agreed;
 use crate::verdicts::found::{findings_of, notes_of};
 use calls_notation::json;
 use std::alloc::{AllocError, Global};
-use vap_answer::{Verdict, answer_text, unfit_verdict, verdict_of};
+use vap_policy::{Verdict, answer_text, unfit_verdict, verdict_of};
 
 /// The uid of each request.
 const UID: &str = "u1";
@@ -35,7 +35,7 @@ pub fn found(alloc: Global, row: &str, revision: u64, charged: u64) -> Result<St
     line_twice(alloc, &verdict)
 }
 
-/// The line that answers where the object has this fault, at revision 1.
+/// The line that answers if the object has this fault, at revision 1.
 pub fn unfit(alloc: Global, fault: &str) -> Result<String, AllocError> {
     line_of(alloc, unfit_verdict(alloc, fault, 1)?)
 }

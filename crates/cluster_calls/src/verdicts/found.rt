@@ -2,13 +2,12 @@
 //!
 //! A finding has the members `policy`, `binding`, `actions`, `reason`, `message` and `index`, a note `policy`, `key` and `value`.
 
-use json_members::{items_in, text_in, text_of};
-use plain::Text;
+use base_containers::Text;
 use serde_json::Value as Json;
 use std::alloc::{AllocError, Global};
-use vap_answer::{Finding, Note};
-use vap_bindings::ValidationActions;
-use vap_policies::Reason;
+use vap_match::{items_in, text_in, text_of};
+use vap_policy::{Finding, Note};
+use vap_read::{Reason, ValidationActions};
 
 fn has_word(words: &[Json], wanted: &str) -> bool {
     for word in words {

@@ -1,9 +1,9 @@
 //! Which policies of a set are lent for a resource of a group.
 
 use crate::matching::objects::after;
-use plain::Shared;
+use base_containers::Shared;
 use std::alloc::{AllocError, Global};
-use vap_set::{BoundPolicy, PolicySet};
+use vap_policy_set::{BoundPolicy, PolicySet};
 
 /// The names of the policies of the set of the objects that lines leave, and of those that are lent for a resource of a group.
 pub fn lent(alloc: Global, row: &str, group: &str, resource: &str) -> Result<String, AllocError> {

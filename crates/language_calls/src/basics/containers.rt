@@ -1,7 +1,7 @@
 //! Containers: what is put in stays in, by key.
 
+use base_containers::{Boxed, Items, Keyed, Shared, Text, TextMap, is_in_key_order};
 use calls_notation::{Asked, unknown};
-use plain::{Boxed, Items, Keyed, Shared, Text, TextMap, is_in_key_order};
 use std::alloc::{AllocError, Global};
 
 /// The answer to a call of containers.
@@ -29,7 +29,7 @@ fn boxed(alloc: Global, word: &str) -> Result<Boxed<Text>, AllocError> {
     Ok(Boxed::new(alloc, Text::from_str(alloc, word)?)?)
 }
 
-/// How many items a list of words has, each of them, and what is behind the last.
+/// How many items a list of words has, each of them, and what is after the last.
 fn items(alloc: Global, row: &str) -> Result<String, AllocError> {
     let mut items = Items::new(alloc);
     for word in row.split(' ') {
@@ -125,7 +125,7 @@ fn shown_under(alloc: Global, map: &TextMap<usize>, name: &str) -> Result<String
     }
 }
 
-/// The map of entries under these names, if they stand by key.
+/// The map of entries under these names, if they are in the order of their keys.
 fn order(alloc: Global, row: &str) -> Result<String, AllocError> {
     let entries = entries_of(alloc, row)?;
     if is_in_key_order(entries.as_slice()) {

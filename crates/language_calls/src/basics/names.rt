@@ -6,8 +6,7 @@ use cel_lex::{LexFault, LexFaultKind};
 use cel_value::CelError;
 use cel_verify::VerifyRule;
 use std::alloc::{AllocError, Global};
-use vap_check::CheckFailure;
-use vap_cli::{EvalError, Status};
+use vap_cli::{CheckFailure, EvalError, Status};
 use vap_schema::{FitFaultKind, SchemaFault};
 
 /// The answer to a call of names, which asks by what the code calls a thing: its number, and what is printed for it.

@@ -3,7 +3,7 @@
 //! A question is a pattern, " on " and a text.
 
 use calls_notation::{Asked, unknown, unreadable};
-use cel_patterns::{Matchers, PatternFault, Patterns, Unbuilt};
+use cel_operators::{Matchers, PatternFault, Patterns, Unbuilt};
 use std::alloc::{AllocError, Global};
 
 /// The answer to a call of patterns.
@@ -78,7 +78,7 @@ fn chosen(alloc: Global, patterns: &mut Patterns, words: &str) -> Result<String,
     Ok(out)
 }
 
-/// The choice, each text in front of a space.
+/// The choice, each text followed by a space.
 pub fn shown(alloc: Global, patterns: &Patterns) -> Result<String, AllocError> {
     let mut out = String::new(alloc);
     for text in patterns.choice() {

@@ -1,9 +1,8 @@
 //! The types of schemas and the values of documents, and the faults of both.
 
+use base_containers::Part;
 use calls_notation::{Asked, json, shown, shown_type, unknown};
-use cel_value::{CelType, Value, fits, max_weight, weight};
-use json_documents::Part;
-use json_text::to_json;
+use cel_value::{CelType, Value, fits, max_weight, to_json, weight};
 use serde_json::Value as Json;
 use std::alloc::{AllocError, Global};
 use vap_schema::{FitError, Schema, SchemaError, fit};
@@ -79,9 +78,9 @@ fn document(alloc: Global, schema: &str, root: &str, row: &str) -> Result<String
     at_root(alloc, &schema, &document, root)
 }
 
-/// What a row of a `schema`, a `document` and the `path` that names the document comes to: the value that the document is at
+/// What a row of a `schema`, a `document` and the `path` that names the document results in: the value that the document is at
 /// the schema's type, with its weight and the greatest weight of the type, or the first fault of the document or of the schema;
-/// of what is no such row, what it lacks.
+/// for what is no such row, what it lacks.
 fn row(alloc: Global, row: &str) -> Result<String, AllocError> {
     let row = json(alloc, row)?;
     match (row.get("schema"), row.get("document"), row.get("path")) {

@@ -1,14 +1,15 @@
-//! Texts: where one stands in another, letters, texts in a row, and numbers as texts.
+//! Texts: where one occurs in another, letters, texts in a row, and numbers as texts.
 
-use calls_notation::{Asked, json, parts_of, unknown, unreadable};
-use cel_text::{
+use base_containers::Text;
+use calls_notation::{Asked, json, unknown, unreadable};
+use cel_operators::{
     concat, contains, ends_with, joined, lower_ascii, printed_int, printed_uint, read_int,
     read_uint, starts_with, upper_ascii,
 };
 use cel_value::{Value, code_points};
-use plain::Text;
 use serde_json::Value as Json;
 use std::alloc::{AllocError, Global};
+use vap_match::items_of;
 
 /// The answer to a call of texts.
 pub fn answer(alloc: Global, asked: &Asked) -> Result<String, AllocError> {
@@ -36,10 +37,10 @@ fn beside(alloc: Global, text: &str, part: &str) -> Result<String, AllocError> {
     format!(in alloc; "{first} {last} {within}; {}", both.as_str())
 }
 
-/// Of two texts, whether the first begins with the second, ends with it and has it somewhere, and both in a row.
+/// For two texts, whether the first begins with the second, ends with it and has it somewhere, and both in a row.
 fn parts(alloc: Global, row: &str) -> Result<String, AllocError> {
     let row = json(alloc, row)?;
-    match parts_of(&row) {
+    match items_of(&row) {
         [Json::String(text), Json::String(part)] => beside(alloc, text.as_str(), part.as_str()),
         _ => unreadable(alloc),
     }
@@ -65,7 +66,7 @@ fn printed_number(alloc: Global, row: &str) -> Result<Text, AllocError> {
     }
 }
 
-/// The number that a row spells, printed: as an integer where it is one, else as an unsigned one.
+/// The number that a row spells, printed: as an integer if it is one, otherwise as an unsigned one.
 fn printed(alloc: Global, row: &str) -> Result<String, AllocError> {
     let text = printed_number(alloc, row)?;
     counted(alloc, &text)
@@ -99,10 +100,10 @@ fn in_a_row(alloc: Global, separator: &str, row: &[Json]) -> Result<String, Allo
     put_together(alloc, parts.as_slice(), separator)
 }
 
-/// Texts in a row, with the separator that stands first.
+/// Texts in a row, with the separator that is first.
 fn row_of(alloc: Global, row: &str) -> Result<String, AllocError> {
     let row = json(alloc, row)?;
-    match parts_of(&row) {
+    match items_of(&row) {
         [Json::String(separator), rest @ ..] => in_a_row(alloc, separator.as_str(), rest),
         _ => unreadable(alloc),
     }

@@ -1,7 +1,7 @@
-//! Types and values: copies, weights, what fits, what may stand where, joins and equality.
+//! Types and values: copies, weights, what fits, what may be used where, joins and equality.
 
 use calls_notation::{
-    Asked, json, parts_of, shown, shown_type, type_of, types_of, unknown, unreadable, value_at,
+    Asked, json, shown, shown_type, type_of, types_of, unknown, unreadable, value_at,
 };
 use cel_value::{
     CelType, Value, assignable, code_points, copy_types, equal, fits, join, length, max_length,
@@ -9,6 +9,7 @@ use cel_value::{
 };
 use serde_json::Value as Json;
 use std::alloc::{AllocError, Global};
+use vap_match::items_of;
 
 /// The answer to a call of types and values.
 pub fn answer(alloc: Global, asked: &Asked) -> Result<String, AllocError> {
@@ -52,11 +53,11 @@ fn copied_types(alloc: Global, types: &[CelType]) -> Result<String, AllocError> 
     }
 }
 
-/// Of one type its copy, its greatest weight and its greatest length; of two their join, and whether what has the first
-/// may stand where the second is asked.
+/// For one type its copy, its greatest weight and its greatest length; for two their join, and whether what has the first
+/// may be used where the second is asked for.
 fn types(alloc: Global, row: &str) -> Result<String, AllocError> {
     let row = json(alloc, row)?;
-    let types = types_of(alloc, parts_of(&row))?;
+    let types = types_of(alloc, items_of(&row))?;
     copied_types(alloc, types.as_slice())
 }
 
@@ -126,14 +127,14 @@ fn listed_values(alloc: Global, row: &[Json]) -> Result<String, AllocError> {
     }
 }
 
-/// Of a document at a type the copy of its value, the weight, the length, and whether the value fits another type; of two, each at
+/// For a document at a type the copy of its value, the weight, the length, and whether the value fits another type; for two, each at
 /// its type, whether their values are equal.
 fn values(alloc: Global, row: &str) -> Result<String, AllocError> {
     let row = json(alloc, row)?;
-    listed_values(alloc, parts_of(&row))
+    listed_values(alloc, items_of(&row))
 }
 
-/// The same of the unsigned value 7, which no document has.
+/// The same for the unsigned value 7, which no document has.
 fn unsigned(alloc: Global, row: &str) -> Result<String, AllocError> {
     let cel_type = json(alloc, row)?;
     at_other(alloc, &Value::Uint(7), &cel_type)

@@ -1,12 +1,10 @@
 //! Images as bytes, which rows write in hexadecimal digits.
 
 use calls_notation::{Asked, unknown};
-use cel_code::Image;
-use cel_image::{ImageError, ImageFault, decode, encode, has_spelling};
+use cel_code::{Image, ImageError, ImageFault, decode, encode, has_spelling};
 use cel_machine::{Matchers, Run, RunError, RunFault, Slots, run, slots_fit};
-use cel_value::{CelError, Value};
+use cel_value::{CelError, Value, to_json};
 use cel_verify::{Program, VerifyError, verify};
-use json_text::to_json;
 use std::alloc::{AllocError, Global};
 
 /// The answer to a call of bytes.
@@ -48,7 +46,7 @@ fn digit(character: u8) -> u8 {
     }
 }
 
-/// Why the bytes are no image, or why the image is not accepted, or its bounds and, where there are no slots, what a run comes to.
+/// Why the bytes are no image, or why the image is not accepted, or its bounds and, if there are no slots, what a run results in.
 fn decoded(alloc: Global, bytes: &[u8]) -> Result<String, AllocError> {
     match decode(alloc, bytes) {
         Ok(image) => spelt(alloc, bytes, image),

@@ -5,9 +5,9 @@ use calls_notation::{Asked, unknown};
 use std::alloc::{AllocError, Global};
 use std::io::{ErrorKind, Read, Write};
 use std::{io, str};
-use vap_check::{CheckFailure, Ended, check_to};
-use vap_cli::{Counted, EvalError, Status, eval_to};
-use vap_image::{decode_to, encode_to};
+use vap_cli::{
+    CheckFailure, Counted, Ended, EvalError, Status, check_to, decode_to, encode_to, eval_to,
+};
 
 /// The answer to a call of commands.
 pub fn answer(alloc: Global, asked: &Asked) -> Result<String, AllocError> {
@@ -195,7 +195,7 @@ fn told_of_check(
 }
 
 /// How the compilation of an expression ends, how many failures of the writer were counted, and what is written: in hexadecimal
-/// digits where it is the bytes of an image.
+/// digits if it is the bytes of an image.
 fn encode(alloc: Global, text: &str) -> Result<String, AllocError> {
     let mut out = Counted::new(Vec::new(alloc));
     let ended = encode_to(alloc, text, &mut out);
@@ -214,7 +214,7 @@ fn encode_narrow(alloc: Global, narrow: Narrow, text: &str) -> Result<String, Al
     told_of_eval(alloc, ended, out.failures(), b"")
 }
 
-/// How the decoding of bytes ends, which stand in hexadecimal digits, the failures that were counted, and what is written.
+/// How the decoding of bytes that are written in hexadecimal digits ends, the failures that were counted, and what is written.
 fn decode(alloc: Global, digits: &str) -> Result<String, AllocError> {
     let bytes = bytes_in(alloc, digits)?;
     decoded_by(alloc, bytes.as_slice())
@@ -238,7 +238,7 @@ fn decode_narrow(alloc: Global, narrow: Narrow, digits: &str) -> Result<String, 
     told_of_check(alloc, ended, failures, b"")
 }
 
-/// How many bytes a reader gives where four are asked, if it does not fail.
+/// How many bytes a reader gives when four are asked for, if it does not fail.
 fn read_of<R: Read>(input: &mut R) -> Option<usize> {
     let mut bytes = [0u8; 4];
     input.read(&mut bytes).ok()

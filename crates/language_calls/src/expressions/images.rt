@@ -2,15 +2,14 @@
 //! its constants, its targets with their types, and its code.
 
 use crate::expressions::made::{Wanted, verified};
-use calls_notation::{json, parts_of, put, put_type, put_types, type_of, types_of, unreadable};
+use base_containers::Items;
+use calls_notation::{json, put, put_type, put_types, type_of, types_of, unreadable};
 use cel_check::TextOperator;
 use cel_code::{Image, Instr, Target, loop_kind, loop_number};
-use cel_tree::Loop;
-use cel_value::{CelType, Value};
-use json_members::items_in;
-use plain::Items;
+use cel_value::{CelType, Loop, Value};
 use serde_json::Value as Json;
 use std::alloc::{AllocError, Global};
+use vap_match::{items_in, items_of};
 
 /// An image.
 pub fn shown(alloc: Global, image: &Image) -> Result<String, AllocError> {
@@ -84,7 +83,7 @@ fn put_instr(out: &mut String, instr: Instr) -> Result<(), AllocError> {
     }
 }
 
-/// What an instruction is called, and a space behind it where numbers follow.
+/// What an instruction is called, and a space after it if numbers follow.
 fn word_of(instr: Instr) -> &'static str {
     match instr {
         Instr::Const(_) => "const ",
@@ -121,8 +120,8 @@ fn loop_word(kind: Option<Loop>) -> &'static str {
     }
 }
 
-/// What a run of an image comes to that a row writes, or the verifier's fault. The row has the type of the outcome as `result`, the
-/// types of the `slots`, the `constants`, of which a text is an unsigned number, the `targets`, each its place and its
+/// What a run of the image that a row writes results in, or the verifier's fault. The row has the type of the outcome as `result`, the
+/// types of the `slots`, the `constants`, among which a text is an unsigned number, the `targets`, each its place and its
 /// types, and the `code`; what is `declared`, if anything; and what slots have `held`, as names are written.
 pub fn run(alloc: Global, row: &str) -> Result<String, AllocError> {
     let row = json(alloc, row)?;
@@ -191,7 +190,7 @@ fn natural(text: &str) -> u64 {
 
 fn put_targets(alloc: Global, targets: &mut Items<Target>, row: &[Json]) -> Result<(), AllocError> {
     for json in row {
-        if let [at, types @ ..] = parts_of(json) {
+        if let [at, types @ ..] = items_of(json) {
             targets.push(target(alloc, at, types)?)?;
         }
     }

@@ -2,21 +2,21 @@
 
 use crate::basics::patterns;
 use crate::expressions::{images, runs};
-use calls_notation::{Asked, json, parts_of, type_of, unknown, unreadable};
+use base_containers::{Boxed, Keyed, Text};
+use calls_notation::{Asked, json, type_of, unknown, unreadable};
 use cel_check::{CheckError, Scope, Typed, check, check_with};
 use cel_code::Image;
-use cel_compile::compile;
 use cel_estimate::estimate;
+use cel_expression::compile;
 use cel_lex::{one_answer, text_closing, text_meaning};
+use cel_operators::Patterns;
 use cel_parse::{ParseError, one_expression, parse};
-use cel_patterns::Patterns;
-use cel_tree::{Expr, Syntax, UnaryOperator};
-use cel_value::join_rules;
+use cel_value::{Expr, Syntax, UnaryOperator, join_rules};
 use cel_verify::{Program, VerifyError, verify};
-use plain::{Boxed, Keyed, Text};
 use serde_json::Value as Json;
 use std::alloc::{AllocError, Global};
 use vap_cli::one_outcome;
+use vap_match::items_of;
 
 /// What is made of an expression.
 #[derive(Clone, Copy)]
@@ -44,11 +44,11 @@ pub fn answer(alloc: Global, asked: &Asked) -> Result<String, AllocError> {
     }
 }
 
-/// What an expression comes to, or its fault. A row writes the expression, and names, each with its type and the document
-/// that its slot holds, or without one. Of two slots of one name the first counts.
+/// What an expression results in, or its fault. A row writes the expression, and names, each with its type and the document
+/// that its slot holds, or without one. If two slots have one name, the first counts.
 fn named(alloc: Global, wanted: Wanted, row: &str) -> Result<String, AllocError> {
     let row = json(alloc, row)?;
-    match parts_of(&row) {
+    match items_of(&row) {
         [text, names @ ..] => come_to(alloc, wanted, word(text), names),
         [] => unreadable(alloc),
     }
@@ -73,7 +73,7 @@ fn come_to(
 
 fn put_names(alloc: Global, scope: &mut Scope, names: &[Json]) -> Result<(), AllocError> {
     for name in names {
-        if let [name, cel_type, ..] = parts_of(name) {
+        if let [name, cel_type, ..] = items_of(name) {
             put_name(alloc, scope, word(name), cel_type)?;
         }
     }
@@ -150,7 +150,7 @@ fn estimated(alloc: Global, typed: &Typed) -> Result<String, AllocError> {
     }
 }
 
-/// What is made of an image's program. Where the image is refused: the verifier's fault, and the number of instructions of the
+/// What is made of an image's program. If the image is refused: the verifier's fault, and the number of instructions of the
 /// image that comes back.
 pub fn verified(
     alloc: Global,
@@ -192,7 +192,7 @@ fn made_of_program(
     }
 }
 
-/// One text of a list, in front of others.
+/// One text of a list, before others.
 const TEXT: &str = "\"a text of a list that no run of an expression copies\",";
 
 /// The type of a list of such texts.
@@ -209,14 +209,14 @@ fn names_of(alloc: Global, texts: usize) -> Result<String, AllocError> {
     )
 }
 
-/// What the last of so many runs of an expression comes to, where slots hold so many texts and one.
+/// What the last of so many runs of an expression results in, if slots hold so many texts and one.
 fn read(alloc: Global, texts: u64, runs: u64, text: &str) -> Result<String, AllocError> {
     let names = names_of(alloc, texts as usize)?;
     let names = json(alloc, names.as_str())?;
-    come_to(alloc, Wanted::Runs(runs as usize), text, parts_of(&names))
+    come_to(alloc, Wanted::Runs(runs as usize), text, items_of(&names))
 }
 
-/// The type of `true` behind so many `!`, which may be more than a text has.
+/// The type of `true` after so many `!`, which may be more than a text has.
 fn negated(alloc: Global, times: &str) -> Result<String, AllocError> {
     let expr = tree_of(alloc, times.parse::<u32>().unwrap_or(0))?;
     checked(alloc, Wanted::Type, expr.get(), &Scope::new(alloc), &[])
@@ -238,7 +238,7 @@ fn tree_of(alloc: Global, times: u32) -> Result<Boxed<Expr>, AllocError> {
     Ok(expr)
 }
 
-/// The patterns that are refused where the expressions of a row, one a line, are typed one after another.
+/// The patterns that are refused when the expressions of a row, one a line, are typed one after another.
 fn refused(alloc: Global, row: &str) -> Result<String, AllocError> {
     let mut patterns = Patterns::new(alloc);
     match check_lines(alloc, row, &mut patterns) {
@@ -273,7 +273,7 @@ fn check_one(alloc: Global, expr: &Expr, patterns: &mut Patterns) -> Result<(), 
     }
 }
 
-/// The laws of joins, tokens, texts, trees and outcomes, of which no line can say more than that they are there.
+/// The laws of joins, tokens, texts, trees and outcomes. No line can say more of them than that they are there.
 fn laws(alloc: Global) -> Result<String, AllocError> {
     join_rules();
     one_answer();

@@ -1,10 +1,11 @@
 //! Fields of operands, lent and not.
 
-use calls_notation::{Asked, json, parts_of, shown, unknown, unreadable, value_at};
+use calls_notation::{Asked, json, shown, unknown, unreadable, value_at};
 use cel_machine::{Operand, field};
 use cel_value::{CelError, Value};
 use serde_json::Value as Json;
 use std::alloc::{AllocError, Global};
+use vap_match::items_of;
 
 /// The answer to a call of operands.
 pub fn answer(alloc: Global, asked: &Asked) -> Result<String, AllocError> {
@@ -48,10 +49,10 @@ fn field_at(
     both_texts(alloc, &value, name)
 }
 
-/// The field of a document's value under a name, where the value is lent and where it is a copy.
+/// The field of a document's value under a name, if the value is lent and if it is a copy.
 fn fields(alloc: Global, row: &str) -> Result<String, AllocError> {
     let row = json(alloc, row)?;
-    match parts_of(&row) {
+    match items_of(&row) {
         [cel_type, document, Json::String(name)] => {
             field_at(alloc, cel_type, document, name.as_str())
         }

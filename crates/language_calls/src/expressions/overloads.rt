@@ -1,9 +1,10 @@
 //! The types that operators take, and the types of their answers.
 
-use calls_notation::{Asked, json, parts_of, shown_type, typed, types_of, unknown, unreadable};
+use calls_notation::{Asked, json, shown_type, typed, types_of, unknown, unreadable};
 use cel_check::{Operator, TypeRule, Untyped, is_natural, is_ordered, is_truth, is_whole};
 use cel_value::CelType;
 use std::alloc::{AllocError, Global};
+use vap_match::items_of;
 
 /// The answer to a call of overloads.
 pub fn answer(alloc: Global, asked: &Asked) -> Result<String, AllocError> {
@@ -56,11 +57,11 @@ fn answered(alloc: Global, number: u64, row: &str) -> Result<String, AllocError>
 
 fn at_types(alloc: Global, operator: Operator, row: &str) -> Result<String, AllocError> {
     let row = json(alloc, row)?;
-    let operands = types_of(alloc, parts_of(&row))?;
+    let operands = types_of(alloc, items_of(&row))?;
     at(alloc, operator, operands.as_slice())
 }
 
-/// Whether a type may stand where a truth value, an integer, an unsigned one, or a value with an order is asked.
+/// Whether a type may be used where a truth value, an integer, an unsigned one, or a value with an order is asked for.
 fn roles(alloc: Global, row: &str) -> Result<String, AllocError> {
     roles_of(alloc, typed(alloc, row)?)
 }

@@ -1,13 +1,14 @@
 //! Runs of programs.
 
-use calls_notation::{parts_of, shown, value_at};
+use calls_notation::{shown, value_at};
 use cel_machine::{Matchers, Run, RunError, RunFault, Slots, run, slots_fit};
 use cel_value::{CelError, Value};
 use cel_verify::Program;
 use serde_json::Value as Json;
 use std::alloc::{AllocError, Global};
+use vap_match::items_of;
 
-/// What the last of so many runs comes to where slots hold what names have.
+/// What the last of so many runs results in if slots hold what names have.
 pub fn last_of(
     alloc: Global,
     program: &Program,
@@ -32,9 +33,9 @@ fn put_held(
     Ok(())
 }
 
-/// What a slot holds: the document at the type, and an error where there is none.
+/// What a slot holds: the document at the type, and an error if there is none.
 fn held_in(alloc: Global, name: &Json) -> Result<Result<Value, CelError>, AllocError> {
-    match parts_of(name) {
+    match items_of(name) {
         [_, cel_type, document] => Ok(Ok(value_at(alloc, cel_type, document)?)),
         _ => Ok(Err(CelError::Overflow)),
     }
@@ -71,7 +72,7 @@ fn lend_all<'a>(
     Ok(lent)
 }
 
-/// What a run comes to where slots hold these, what it charges, its steps and the constants of its program.
+/// What a run results in if slots hold these, what it charges, its steps and the constants of its program.
 fn run_with(
     alloc: Global,
     program: &Program,

@@ -1,9 +1,9 @@
 //! The trees of texts. Each is written by hand from the grammar: a node as its label with its place, then the nodes
-//! inside, each behind a space and in brackets.
+//! inside, each after a space and in brackets.
 
 use calls_notation::{Asked, unknown, unreadable};
 use cel_parse::{ParseError, parse};
-use cel_tree::{BinaryOperator, Entry, Expr, Loop, Syntax, UnaryOperator};
+use cel_value::{BinaryOperator, Entry, Expr, Loop, Syntax, UnaryOperator};
 use std::alloc::{AllocError, Global};
 
 /// The answer to a call of trees.
@@ -49,7 +49,7 @@ fn loop_of(kind: Loop) -> &'static str {
     }
 }
 
-// What a node is, where it is no number.
+// What a node is, if it is no number.
 fn front(form: &Syntax<Expr>) -> &'static str {
     match form {
         Syntax::Null => "null",
@@ -107,7 +107,7 @@ fn write_each(out: &mut String, items: &[Expr]) -> Result<(), AllocError> {
     Ok(())
 }
 
-// Writes a node behind what stands before it, where that was written.
+// Writes a node after what is before it, if that was written.
 #[cycle(shown)]
 fn write_behind(
     out: &mut String,

@@ -1,6 +1,6 @@
 use Rattle.std.proofs.Common.{◌≡◌, Bool, true, false, codes, sym, ◌∙◌, subst, if◌then◌else◌}
 use Rattle.std.specs.Str.{bytes_eq}
-use Rattle.failing.specs.Failures.{Answers}
+use Rattle.base_containers.specs.Failures.{Answers}
 use Rattle.cel_check.specs.Typing.{after, matched, over_two, method_overloads_with, refused_by}
 use Rattle.cel_check.proofs.matches_method.method_with.Goals as goal
 

@@ -1,6 +1,6 @@
 use Rattle.std.proofs.Common.{◌≡◌, ◌+◌, ◌-◌, ◌^◌, ◌<◌, drop}
 use Rattle.std.specs.Prelude.{min}
-use Rattle.cel_tree.specs.Turns.{by_turns}
+use Rattle.cel_value.specs.Turns.{by_turns}
 use Rattle.cel_estimate.specs.Estimate.{estimates_of}
 use Rattle.cel_estimate.proofs.measure.+estimating.Given as goal
 

@@ -1,7 +1,7 @@
 use Rattle.std.proofs.Common.{◌≡◌, rules, ap, subst}
 use Rattle.std.specs.Prelude.{Err}
 use Rattle.cel_check.specs.Typing.{types_in}
-use Rattle.failing.specs.declared.failed.Failed.TheVariants.{Fault}
+use Rattle.base_containers.specs.declared.failed.Failed.TheVariants.{Fault}
 use Rattle.cel_expression.specs.declared.refusal.CompileFault.TheVariants.{Unverified}
 use Rattle.cel_expression.specs.Expressions.{accepted_of}
 use Rattle.cel_expression.specs.Faulty.{IsFaulty}

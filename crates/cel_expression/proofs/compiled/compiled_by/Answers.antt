@@ -1,6 +1,6 @@
 use Rattle.std.proofs.Common.{◌≡◌, ap}
 use Rattle.std.specs.Prelude.{Err}
-use Rattle.failing.specs.declared.failed.Failed.TheVariants.{Fault}
+use Rattle.base_containers.specs.declared.failed.Failed.TheVariants.{Fault}
 use Rattle.cel_expression.specs.declared.refusal.CompileFault.TheVariants.{Unverified}
 use Rattle.cel_expression.proofs.compiled.compiled_by.Goals as goal
 

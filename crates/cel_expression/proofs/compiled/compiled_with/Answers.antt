@@ -1,7 +1,7 @@
 use Rattle.std.proofs.Common.{rules, sym, subst, ap, ◌∙◌}
 use Rattle.cel_check.specs.Typing.{types_in}
-use Rattle.cel_compile.specs.Compiled.{IsCompiled as IsImageOf}
-use Rattle.cel_compile.specs.Correct.{Computes, Preserves}
+use Rattle.cel_expression.specs.Compiled.{IsCompiled as IsImageOf}
+use Rattle.cel_expression.specs.Correct.{Computes, Preserves}
 use Rattle.cel_expression.specs.Stages.{Bounds}
 use Rattle.cel_expression.proofs.compiled.compiled_with.Goals as goal
 

@@ -2,7 +2,7 @@ use Rattle.std.proofs.Common.{◌+◌, sym, ap, ◌∙◌, subst, arith}
 use Rattle.cel_verify.specs.Paths.{IsRouteCharge, IsRouteLength, IsWithin}
 use Rattle.cel_verify.specs.Accepted.{IsDeclared}
 use Rattle.cel_verify.specs.Depths.{greatest_depth, greatest_nesting}
-use Rattle.cel_verify.proofs.Walking.{no_end}
+use Rattle.cel_verify.proofs.Falling.{no_end}
 use Rattle.cel_machine.proofs.Running.{begun, here, deep, nested, goes, next, outcome_fits, has_top, not_stuck}
 use Rattle.cel_machine.proofs.machine.run.Goals as goal
 

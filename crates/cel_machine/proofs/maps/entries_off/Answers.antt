@@ -2,8 +2,8 @@ use Rattle.std.proofs.Common.{List, Some, length, sym, ap, ◌∙◌, arith}
 use Rattle.cel_operators.specs.Outcomes.{Outcome}
 use Rattle.cel_operators.specs.Wants.{taken}
 use Rattle.cel_operators.specs.declared.operands.Want.TheVariants.{Characters}
-use Rattle.cel_apply.specs.Lent.{lent}
-use Rattle.cel_apply.specs.Pairs.{entry_of, turned}
+use Rattle.cel_operators_applied.specs.Lent.{lent}
+use Rattle.cel_operators_applied.specs.Pairs.{entry_of, turned}
 use Rattle.cel_machine.proofs.Gathering.{keyless, one_more_off}
 use Rattle.cel_machine.proofs.maps.entries_off.Goals as goal
 

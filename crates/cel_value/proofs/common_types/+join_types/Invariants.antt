@@ -1,6 +1,6 @@
 use Rattle.std.proofs.Common.{◌≡◌, ◌++◌, drop}
 use Rattle.std.specs.Option.{option_map}
-use Rattle.plain.specs.Keys.{keys_in}
+use Rattle.base_containers.specs.Keys.{keys_in}
 use Rattle.cel_value.specs.JoinRules.{joined_fields}
 use Rattle.cel_value.proofs.common_types.+join_types.Given as goal
 

@@ -1,6 +1,6 @@
 use Rattle.std.proofs.Common.{◌≡◌, ◌&&◌, nat_le, drop}
 use Rattle.std.specs.List.{list_all}
-use Rattle.plain.specs.declared.text.Keyed.{Keyed}
+use Rattle.base_containers.specs.declared.text.Keyed.{Keyed}
 use Rattle.cel_value.specs.declared.value.Value.{Value}
 use Rattle.cel_value.specs.Value.{code_points}
 use Rattle.cel_value.specs.Fits.{fits, object_fits, admitted_by}

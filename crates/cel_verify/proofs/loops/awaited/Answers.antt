@@ -1,7 +1,7 @@
 use Rattle.std.proofs.Common.{ap, ◌∙◌}
 use Rattle.std.specs.Prelude.{reverse}
 use Rattle.cel_value.specs.declared.cel_type.CelType as type
-use Rattle.cel_loops.specs.Loops.{loop_type}
+use Rattle.cel_operators.specs.Loops.{loop_type}
 use Rattle.cel_verify.specs.Sound.{empty_rule, no_items}
 use Rattle.cel_verify.proofs.Openings.{no_entry, awaits}
 use Rattle.cel_verify.proofs.loops.awaited.Goals as goal

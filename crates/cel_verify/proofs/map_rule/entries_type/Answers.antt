@@ -1,5 +1,5 @@
 use Rattle.std.proofs.Common.{subst}
-use Rattle.failing.specs.Failures.{Answers}
+use Rattle.base_containers.specs.Failures.{Answers}
 use Rattle.cel_verify.proofs.Mapping.{entries_typed}
 use Rattle.cel_verify.proofs.map_rule.entries_type.Goals as goal
 

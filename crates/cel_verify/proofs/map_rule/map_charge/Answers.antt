@@ -19,8 +19,8 @@ returns-in_default c =
 pub loop-left-preserved : goal.loop-left-preserved
 loop-left-preserved c =
     let l = c.loop-left in
-    charge_next c.args.count c.args.types.now l.rest.now c.in-Some.below.now l.left l.charge c.key_charge.result
-    c.saturating_add-charge.result c.in-Some.key.now _ l.invariant c.loop-left-test.true c.in-Some.ensures c.key_charge.ensures
+    charge_next c.args.count c.args.types.now l.rest.now c.in-Some.below.now l.left l.charge c.greatest_of_key.result
+    c.saturating_add-charge.result c.in-Some.key.now _ l.invariant c.loop-left-test.true c.in-Some.ensures c.greatest_of_key.ensures
     (grind (arith, common_steps))
 
 pub returns : goal.returns

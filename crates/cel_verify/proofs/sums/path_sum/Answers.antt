@@ -5,8 +5,8 @@ use Rattle.cel_verify.specs.Walked.{behind}
 use Rattle.cel_verify.proofs.Labels.{walks}
 use Rattle.cel_verify.proofs.Routes.{greatest_path}
 use Rattle.cel_verify.proofs.ToGo.{path_from, AreSums}
-use Rattle.cel_verify.proofs.Walking.{no_end}
 use Rattle.cel_verify.proofs.Summing.{sums_first, sums_next}
+use Rattle.cel_verify.proofs.Falling.{no_end}
 use Rattle.cel_verify.proofs.sums.path_sum.Goals as goal
 
 pub loop-at-init : goal.loop-at-init

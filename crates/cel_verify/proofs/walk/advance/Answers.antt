@@ -1,6 +1,6 @@
 use Rattle.std.proofs.Common.{◌≡◌, true, ◌&&◌, sym, subst, rules}
 use Rattle.std.proofs.lemmas.Result.{err_from_is_err_and}
-use Rattle.failing.specs.Failures.{Fails}
+use Rattle.base_containers.specs.Failures.{Fails}
 use Rattle.cel_verify.specs.Sound.{every, jumps_of, is_wanted, is_target}
 use Rattle.cel_verify.proofs.Walking.{rule_is, advances}
 use Rattle.cel_verify.proofs.walk.advance.Goals as goal

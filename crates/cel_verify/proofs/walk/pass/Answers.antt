@@ -1,7 +1,7 @@
 use Rattle.std.proofs.Common.{sym, subst}
 use Rattle.std.specs.Prelude.{MatchResult}
 use Rattle.std.proofs.lemmas.Result.{err_from_is_err_and}
-use Rattle.failing.specs.Failures.{Fails}
+use Rattle.base_containers.specs.Failures.{Fails}
 use Rattle.cel_verify.specs.Walked.{Passes, typed_here}
 use Rattle.cel_verify.proofs.Openings.{plain_is, refused_loop, told_typed, passes_on, passes_in}
 use Rattle.cel_verify.proofs.walk.pass.Goals as goal

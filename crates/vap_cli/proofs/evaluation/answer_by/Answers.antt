@@ -1,5 +1,5 @@
 use Rattle.std.proofs.Common.{ap, ◌∙◌, subst}
-use Rattle.failing.specs.declared.failed.Failed.TheVariants.{Fault}
+use Rattle.base_containers.specs.declared.failed.Failed.TheVariants.{Fault}
 use Rattle.std.specs.Prelude.{Err}
 use Rattle.cel_expression.specs.Faulty.{IsUnverified}
 use Rattle.vap_cli.specs.Evaluation.{source_of}

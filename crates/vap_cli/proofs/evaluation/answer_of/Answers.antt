@@ -1,6 +1,6 @@
 use Rattle.std.proofs.Common.{◌≡◌, [], sym, ap, rules, ◌∙◌}
 use Rattle.std.specs.Prelude.{Ok, Err}
-use Rattle.failing.specs.declared.failed.Failed.TheVariants.{Fault}
+use Rattle.base_containers.specs.declared.failed.Failed.TheVariants.{Fault}
 use Rattle.vap_cli.proofs.Only.{only_pattern}
 use Rattle.vap_cli.proofs.Outcomes.{no_slots, runs_to}
 use Rattle.vap_cli.proofs.evaluation.answer_of.Goals as goal

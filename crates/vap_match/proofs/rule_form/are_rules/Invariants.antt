@@ -1,6 +1,6 @@
 use Rattle.std.proofs.Common.{◌≡◌, drop}
 use Rattle.serde_json.specs.View.{items_view}
-use Rattle.json_members.specs.Forms.{all_items}
+use Rattle.vap_match.specs.Forms.{all_items}
 use Rattle.vap_match.specs.RuleForm.{is_rule}
 use Rattle.vap_match.proofs.rule_form.are_rules.Given as goal
 

@@ -1,6 +1,6 @@
 use Rattle.std.proofs.Common.{◌≡◌, ◌++◌, drop}
 use Rattle.serde_json.specs.View.{items_view}
-use Rattle.json_members.specs.Parts.{each_item}
+use Rattle.vap_match.specs.Parts.{each_item}
 use Rattle.vap_match.specs.RuleForm.{operation_of}
 use Rattle.vap_match.proofs.rule_form.operations_of.Given as goal
 

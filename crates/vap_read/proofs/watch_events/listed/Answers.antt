@@ -1,7 +1,7 @@
 use Rattle.std.proofs.Common.{sym, ap, subst, ◌∙◌}
 use Rattle.serde_json.specs.View.{view, items_view}
 use Rattle.serde_json.proofs.Views.{view-Array}
-use Rattle.failing.specs.Failures.{Answers}
+use Rattle.base_containers.specs.Failures.{Answers}
 use Rattle.vap_read.specs.Reading.{read_list, read_all}
 use Rattle.vap_read.proofs.watch_events.listed.Goals as goal
 

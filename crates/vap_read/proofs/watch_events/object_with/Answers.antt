@@ -1,6 +1,6 @@
 use Rattle.std.proofs.Common.{subst}
 use Rattle.serde_json.specs.View.{view}
-use Rattle.failing.specs.Failures.{Answers}
+use Rattle.base_containers.specs.Failures.{Answers}
 use Rattle.vap_read.proofs.Keyed.{content_fails}
 use Rattle.vap_read.proofs.watch_events.object_with.Goals as goal
 

@@ -1,10 +1,10 @@
 use Rattle.std.proofs.Common.{◌≡◌, ℕ, List, ◌-◌, ◌<◌, Ok, Err, ap, sym, ◌∙◌, subst, string_bytes, rules, arith}
 use Rattle.std.proofs.lemmas.Result.{err_from_is_err_and}
-use Rattle.failing.specs.Failures.{Answers}
+use Rattle.base_containers.specs.Failures.{Answers}
 use Rattle.serde_json.specs.View.{view, items_view, members_view}
 use Rattle.vap_schema.specs.Forms.{form_in}
 use Rattle.vap_schema.specs.Schemas.{schema_type, form_type, nested_type, fields_of, is_named, is_among}
-use Rattle.vap_fit.proofs.Rest.{behind, behind-none, behind-all}
+use Rattle.vap_schema.proofs.Rest.{behind, behind-none, behind-all}
 use Rattle.vap_schema.proofs.InOrder.{names_in_order}
 use Rattle.vap_schema.proofs.Levels.{too_deep, one_level, fields_stop, fields_go, field_named, same_fields, fields_in_order}
 use Rattle.vap_schema.proofs.schema.+read_schema.Goals as goal

@@ -1,7 +1,7 @@
 use Rattle.std.proofs.Common.{◌≡◌, ◌+◌, ◌*◌}
 use Rattle.serde_json.specs.View.{members_view}
 use Rattle.vap_schema.specs.Schemas.{schema_type, fields_of, is_named}
-use Rattle.vap_fit.proofs.Rest.{behind}
+use Rattle.vap_schema.proofs.Rest.{behind}
 use Rattle.vap_schema.proofs.schema.+read_schema.Given as goal
 
 abbrev pub invariant-read_fields-loop-name : goal.invariant-read_fields-loop-name

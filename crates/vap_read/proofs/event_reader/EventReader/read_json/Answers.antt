@@ -1,7 +1,7 @@
 use Rattle.std.proofs.Common.{◌≡◌, ◌∙◌, ap, sym, subst}
 use Rattle.std.specs.Prelude.{IfErr}
 use Rattle.serde_json.specs.View.{view}
-use Rattle.failing.specs.Failures.{IfFault}
+use Rattle.base_containers.specs.Failures.{IfFault}
 use Rattle.vap_read.specs.Lines.{line_kind}
 use Rattle.vap_read.specs.Told.{IsOfLine}
 use Rattle.vap_read.specs.declared.line.LineKind.TheVariants.{WatchEvent, ObjectList}

@@ -1,6 +1,6 @@
 use Rattle.serde_json.specs.View.{view}
 use Rattle.vap_read.specs.declared.line.LineKind.TheVariants.{WatchEvent}
-use Rattle.vap_read.proofs.Least.{told_of_kind}
+use Rattle.vap_read.proofs.LeastEventFault.{told_of_kind}
 use Rattle.vap_read.proofs.event_reader.EventReader.read_watch_event.Goals as goal
 
 pub returns-clause-told : goal.returns-clause-told

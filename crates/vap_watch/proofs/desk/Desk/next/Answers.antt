@@ -1,7 +1,7 @@
 use Rattle.std.proofs.Common.{◌≡◌, Err, List, ◌++◌, sym, ap, ◌∙◌, subst}
-use Rattle.failing.specs.declared.failed.Failed.TheVariants.{Fault}
+use Rattle.base_containers.specs.declared.failed.Failed.TheVariants.{Fault}
 use Rattle.vap_read.specs.declared.event.Event.{Event}
-use Rattle.vap_set.specs.Reuse.{IsBefore}
+use Rattle.vap_policy_set.specs.Reuse.{IsBefore}
 use Rattle.vap_watch.specs.Given.{PolicySet, AreUnverified}
 use Rattle.vap_watch.specs.Logs.{objects_after, objects_of, publication}
 use Rattle.vap_watch.specs.Places.{IsNext, Position, objects_at}

@@ -1,5 +1,5 @@
 use Rattle.std.proofs.Common.{◌≡◌, List, [], ◌∷◌, ap, sym, subst, ◌∙◌, arith}
-use Rattle.board.specs.Shown.{Shown}
+use Rattle.vap_watch.specs.Shown.{Shown}
 use Rattle.vap_watch.specs.Seen.{Follows, FollowsAll, first_of}
 use Rattle.vap_watch.specs.declared.log.Logged.{Logged}
 use Rattle.vap_watch.proofs.Grows.{grows, follows_here}

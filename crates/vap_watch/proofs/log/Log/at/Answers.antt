@@ -1,7 +1,7 @@
 use Rattle.std.proofs.Common.{◌≡◌, ◌<◌, ◌≤◌, List, [], Some, get_or, drop, length, sym, ap, ◌∙◌, subst, arith}
 use Rattle.std.specs.Prelude.{slice_get}
 use Rattle.std.proofs.lemmas.List.{drop_all}
-use Rattle.vap_watch.specs.Blocks.{joined}
+use Rattle.vap_read_objects.specs.Blocks.{joined}
 use Rattle.vap_watch.specs.declared.log.Logged.{Logged}
 use Rattle.vap_watch.proofs.Blocks.{found, behind}
 use Rattle.vap_watch.proofs.log.Log.at.Goals as goal

@@ -1,6 +1,6 @@
 use Rattle.std.proofs.Common.{◌≡◌, ◌<◌, drop, length}
 use Rattle.std.specs.Prelude.{slice_get}
-use Rattle.vap_watch.specs.Blocks.{joined}
+use Rattle.vap_read_objects.specs.Blocks.{joined}
 use Rattle.vap_watch.proofs.log.Log.at.Given as goal
 
 -- the place is after the blocks so far

@@ -1,5 +1,5 @@
 use Rattle.std.proofs.Common.{◌≡◌, ◌∙◌, ap, refl, drop}
-use Rattle.board.specs.Shown.{shows}
+use Rattle.vap_watch.specs.Shown.{shows}
 use Rattle.vap_watch.specs.Seen.{Follows}
 use Rattle.vap_watch.proofs.Grows.{grows, fold_last}
 use Rattle.vap_watch.proofs.publisher.Publisher.publish.Goals as goal

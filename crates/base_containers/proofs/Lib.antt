@@ -1,0 +1,12 @@
+pub mod Order
+pub mod Removal
+pub mod Splits
+pub mod Taken
+pub mod WorkedRows
+pub mod Accepts
+pub mod Crossing
+pub mod Escapes
+pub mod Gathers
+pub mod InOrder
+pub mod Lookups
+pub mod Spelled

@@ -1,0 +1,13 @@
+pub mod Keys
+pub mod formers
+pub mod Failures
+pub mod Counted
+pub mod Handing
+pub mod Lines
+pub mod Accepted
+pub mod DocumentCode
+pub mod Gathered
+pub mod Numbers
+pub mod Parts
+pub mod Places
+pub mod Texts

@@ -1,7 +1,0 @@
-use Rattle.std.proofs.Common.{rules}
-use Rattle.cel_grammar.specs.Descent.{node}
-use Rattle.cel_grammar.proofs.nodes.grown.Goals as goal
-
-pub returns-then-is_too_deep : goal.returns-then-is_too_deep
-unfolding node
-returns-then-is_too_deep c = search rules

@@ -1,5 +1,0 @@
-use Rattle.std.proofs.Common.{rules}
-use Rattle.cel_grammar.proofs.nodes.negative.Goals as goal
-
-pub returns : goal.returns
-returns c = search rules

@@ -1,3 +1,0 @@
-pub mod Literals
-pub mod MapLiterals
-pub mod Slots

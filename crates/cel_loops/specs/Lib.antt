@@ -1,2 +1,0 @@
-pub mod Literals
-pub mod Loops

@@ -1,5 +1,0 @@
-use Rattle.cel_patterns.proofs.Asked.{honours_own}
-use Rattle.cel_patterns.proofs.patterns.Patterns.choice.Goals as goal
-
-pub returns-clause-honours : goal.returns-clause-honours
-returns-clause-honours c = honours_own _ _ c.self.view_is c.self.invariant

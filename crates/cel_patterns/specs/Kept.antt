@@ -1,8 +1,0 @@
--- The patterns that are kept.
-use Rattle.std.specs.Prelude.{ℕ, List, map}
-use Rattle.cel_patterns.specs.BuiltText.{built_text}
-use Rattle.cel_patterns.specs.declared.matchers.Matchers.{Matchers}
-
--- their texts, by place
-abbrev pub texts_of : Matchers → List (List ℕ)
-texts_of m = map built_text m.kept.items

@@ -1,5 +1,0 @@
-mod Runs
-mod Matches
-mod PlainCode
-mod PlainTrees
-mod Spelled

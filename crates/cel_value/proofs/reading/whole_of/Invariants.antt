@@ -1,0 +1,7 @@
+use Rattle.std.proofs.Common.{◌≡◌, take}
+use Rattle.std.specs.Str.Parse.{digits_value}
+use Rattle.cel_value.specs.Views.{capped}
+use Rattle.cel_value.proofs.reading.whole_of.Given as goal
+
+abbrev pub invariant-loop-digit : goal.invariant-loop-digit
+invariant-loop-digit l = l.number ≡ capped (digits_value 10 (take l.digit-index l.digits))

@@ -1,5 +1,0 @@
-use Rattle.std.proofs.Common.{rules}
-use Rattle.json_members.proofs.forms.has_text.Goals as goal
-
-pub returns-in-None : goal.returns-in-None
-returns-in-None c = search rules

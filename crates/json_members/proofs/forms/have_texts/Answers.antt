@@ -1,5 +1,0 @@
-use Rattle.std.proofs.Common.{rules}
-use Rattle.json_members.proofs.forms.have_texts.Goals as goal
-
-pub loop-member-preserved : goal.loop-member-preserved
-loop-member-preserved c = search rules

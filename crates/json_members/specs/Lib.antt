@@ -1,4 +1,0 @@
-pub mod Forms
-pub mod Limits
-pub mod Parts
-pub mod Reading

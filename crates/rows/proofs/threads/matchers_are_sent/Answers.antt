@@ -1,6 +1,0 @@
-use denote.Param.Send.{sendable}
-use Rattle.cel_patterns.proofs.Crossing.{matchers_send}
-use Rattle.rows.proofs.threads.matchers_are_sent.Goals as goal
-
-pub is_sent-requires-send-T : goal.is_sent-requires-send-T
-is_sent-requires-send-T c κs = search (matchers_send, sendable)

@@ -1,6 +1,0 @@
-pub mod ByKey
-pub mod Floors
-pub mod Grouped
-pub mod Once
-pub mod WorkedRows
-pub mod Crossing

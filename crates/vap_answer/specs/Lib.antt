@@ -1,7 +1,0 @@
-pub mod Annotations
-pub mod AnswerText
-pub mod Cut
-pub mod Failures
-pub mod Members
-pub mod Sentences
-pub mod Verdicts

@@ -1,2 +1,0 @@
-pub mod WorkedRows
-pub mod Crossing

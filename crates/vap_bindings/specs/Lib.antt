@@ -1,2 +1,0 @@
-pub mod BindingForm
-pub mod BindingReading

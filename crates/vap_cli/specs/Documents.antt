@@ -1,0 +1,33 @@
+-- The document of a file.
+use Rattle.std.specs.Prelude.{◌≡◌, ◌≤◌, ◌<◌, ℕ, List, length, None, Some, Result, Ok, Err, IsUtf8}
+use Rattle.serde_json.specs.Data.{Data}
+use Rattle.serde_json.specs.Read.{read}
+use Rattle.serde_json.specs.View.{view}
+use Rattle.serde_json.specs.declared.value.Value.{Value as Json}
+use Rattle.vap_cli.specs.declared.refusal.FileRefusal.{FileRefusal}
+use Rattle.vap_cli.specs.declared.refusal.FileRefusal.TheVariants as refusal
+
+-- the most bytes of a file
+abbrev pub longest : ℕ
+longest = 1048576
+
+-- the bytes are UTF-8 and spell this value
+abbrev pub Spells : List ℕ → Data → Type 0
+Spells bytes d = IsUtf8 bytes × (read bytes ≡ Some d)
+
+-- the bytes spell no value
+abbrev pub SpellsNone : List ℕ → Type 0
+SpellsNone bytes = IsUtf8 bytes → read bytes ≡ None
+
+-- why the bytes are no document: they are too many, or else spell no value
+abbrev pub IsUnread : List ℕ → FileRefusal → Type 0
+IsUnread bytes refusal.TooLong = longest < length bytes
+IsUnread bytes refusal.BadJson = (length bytes ≤ longest) × SpellsNone bytes
+IsUnread bytes (refusal.Schema fault) = ⊥
+IsUnread bytes (refusal.Text why) = ⊥
+IsUnread bytes (refusal.Unverified at) = ⊥
+
+-- the document that the bytes are, or why they are none
+abbrev pub IsDocumentOf : List ℕ → Result Json FileRefusal → Type 0
+IsDocumentOf bytes (Ok json) = (length bytes ≤ longest) × Spells bytes (view json)
+IsDocumentOf bytes (Err why) = IsUnread bytes why

@@ -1,0 +1,150 @@
+-- What the lines of each kind result in.
+use Rattle.std.proofs.Common.{◌≡◌, ℕ, ◌+◌, ◌<◌, ◌≤◌, List, [], ◌∷◌, ◌++◌, length, Option, Result, Ok, Err}
+use Rattle.std.proofs.Common.{sym, ap, ◌∙◌, append_assoc, arith, length-append}
+use Rattle.std.specs.Prelude.{OnOk}
+use Rattle.std.specs.Io.KnownBytes.{Appends}
+use Rattle.vap_read.specs.declared.event.Event.{Event}
+use Rattle.vap_match.specs.declared.request.Request.{Request}
+use Rattle.base_containers.specs.Counted.{inner_of}
+use Rattle.base_containers.specs.declared.counted.Counted.{Counted}
+use Rattle.vap_watch.specs.Places.{Written}
+use Rattle.vap_watch.specs.declared.log.Logged.{Logged}
+use Rattle.vap_audit.specs.Entries.{most_entries}
+use Rattle.vap_audit.specs.declared.entry.Entry.{Entry}
+use Rattle.vap_cli_replay.specs.Moves.{IsRefusal, RefusesAt, Takes}
+use Rattle.vap_cli_replay.specs.Replay.{answers_text, entry_of}
+use Rattle.vap_cli_replay.specs.Sessions.{Answered, HasRoom, IsInStep, RefusesEvent, TakesEvent, TakesReview}
+use Rattle.vap_cli_replay.specs.Sessions.{group_entries, sofar_of, waiting_entries}
+use Rattle.vap_cli_replay.specs.declared.fault.LineFault.{LineFault}
+use Rattle.vap_cli_replay.specs.declared.fault.LineFault.TheVariants as fault
+use Rattle.vap_cli_replay.specs.declared.line.Line.TheVariants.{Happens, Asks, Refused}
+use Rattle.vap_cli_replay.specs.declared.session.Session.{Session}
+use Rattle.vap_cli_replay.proofs.Groups.{group_last, group_length}
+use Rattle.vap_cli_replay.proofs.Taking.{event_refused, review_refused, took_event}
+use Rattle.vap_cli_replay.proofs.Told.{none_waiting}
+
+-- after an answered group there is room as before
+pub answered_step : (old new : Session) → HasRoom old → Answered old new → new.writer.staged ≡ [] → IsInStep new
+answered_step old new room done published =
+    let none : length new.group.items ≡ 0 = ap (λ (l : List Request). length l) done.none in
+    let longer : length new.history ≡ length old.history + length old.group.items =
+    ap (λ (l : List Entry). length l) done.entries
+    ∙ (length-append old.history (waiting_entries old)
+    ∙ ap (λ (n : ℕ). length old.history + n) (group_length old.writer.published (length old.history) old.group.items)) in
+    record { published = published; few = omega (arith, none); room = omega (arith, none, longer, room.room) }
+
+-- how many entries there are if the group is taken as answered
+pub entries_length : (s : Session) → length (sofar_of s).entries ≡ length s.history + length s.group.items
+entries_length s =
+    length-append s.history (waiting_entries s)
+    ∙ ap (λ (n : ℕ). length s.history + n) (group_length s.writer.published (length s.history) s.group.items)
+
+-- ---- lines
+
+-- an event is taken after an answered group
+took_behind : (event : Event) (old one two new : Session) → Answered one two → one.writer ≡ old.writer → one.lines ≡ old.lines + 1
+    → (sofar_of one).entries ≡ (sofar_of old).entries
+    → (new.history ≡ two.history) × (new.group ≡ two.group) × (new.lines ≡ two.lines)
+    → TakesEvent two.writer.published event new.writer.published → Takes (Happens event) old new
+took_behind event old one two new done writer lines entries rest taken =
+    let none : new.group.items ≡ [] = rw rest.1 done.none in
+    let same : two.writer ≡ old.writer = done.log ∙ writer in
+    let on : TakesEvent old.writer.published event new.writer.published = rw (← same) taken in
+    took_event event old new on (rest.2 ∙ (done.lines ∙ lines))
+    (none_waiting new none ∙ (rest.0 ∙ (done.entries ∙ entries)))
+
+pub took_each : {A E : Type 0} (r : Result A E) (event : Event) (old one two new : Session) → Answered one two
+    → one.writer ≡ old.writer → one.lines ≡ old.lines + 1 → (sofar_of one).entries ≡ (sofar_of old).entries
+    → (new.history ≡ two.history) × (new.group ≡ two.group) × (new.lines ≡ two.lines)
+    → OnOk r (TakesEvent two.writer.published event new.writer.published) → OnOk r (Takes (Happens event) old new)
+took_each (Ok x) event old one two new done writer lines entries rest taken =
+    took_behind event old one two new done writer lines entries rest taken
+took_each (Err e) event old one two new done writer lines entries rest taken = tt
+
+-- and the next line may be taken then
+pub event_step : {A E : Type 0} (r : Result A E) (one two new : Session) → Answered one two
+    → length one.history + length one.group.items ≤ most_entries
+    → (new.history ≡ two.history) × (new.group ≡ two.group) × (new.lines ≡ two.lines) → OnOk r (new.writer.staged ≡ [])
+    → OnOk r (IsInStep new)
+event_step (Ok x) one two new done room rest published =
+    let empty : new.group.items ≡ [] = rw rest.1 done.none in
+    let none : length new.group.items ≡ 0 = ap (λ (l : List Request). length l) empty in
+    let longer : length new.history ≡ length one.history + length one.group.items =
+    ap (λ (l : List Entry). length l) (rest.0 ∙ done.entries) ∙ entries_length one in
+    record { published = published; few = omega (arith, none); room = omega (arith, none, longer, room) }
+event_step (Err e) one two new done room rest published = tt
+
+-- an event is refused after an answered group
+pub refused_event : {W : Type 0} (contents : W → Option (List ℕ)) (event : Event) (old one two : Session) (before after : Counted W)
+    (number : ℕ) (why : LineFault) → Answered one two
+    → Appends (contents (inner_of before)) (contents (inner_of after)) (answers_text (waiting_entries one))
+    → (number ≡ two.lines) × RefusesEvent two.writer.published event why → one.writer ≡ old.writer → one.lines ≡ old.lines + 1
+    → waiting_entries one ≡ waiting_entries old → RefusesAt contents (Happens event) old before after number why
+refused_event contents event old one two before after number why done written refuses writer lines waiting =
+    let same : two.writer ≡ old.writer = done.log ∙ writer in
+    let not : RefusesEvent old.writer.published event why = rw (← same) refuses.1 in
+    record {
+      numbered = refuses.0 ∙ (done.lines ∙ lines);
+      refused = λ choices agrees. event_refused event (sofar_of old) why choices not;
+      written = rw (← waiting) written;
+    }
+
+-- a review for which the history has no room is refused
+pub refused_review : {W : Type 0} (contents : W → Option (List ℕ)) (request : Request) (old one : Session) (before after : Counted W)
+    (number : ℕ) (why : LineFault) → IsRefusal contents fault.AuditFull one before after number why
+    → length (sofar_of one).entries ≡ most_entries → one.lines ≡ old.lines + 1 → waiting_entries one ≡ waiting_entries old
+    → (sofar_of one).entries ≡ (sofar_of old).entries → RefusesAt contents (Asks request) old before after number why
+refused_review contents request old one before after number why not full lines waiting entries =
+    let all : length (sofar_of old).entries ≡ most_entries = ap (λ (es : List Entry). length es) (sym entries) ∙ full in
+    record {
+      numbered = not.numbered ∙ lines;
+      refused = λ choices agrees. review_refused request (sofar_of old) all ∙ ap (λ (f : LineFault). Err f) (sym not.same);
+      written = rw (← waiting) not.written;
+    }
+
+-- a line that is refused as it is read
+pub refused_line : {W : Type 0} (contents : W → Option (List ℕ)) (f : LineFault) (old one : Session) (before after : Counted W)
+    (number : ℕ) (why : LineFault) → IsRefusal contents f one before after number why → one.lines ≡ old.lines + 1
+    → waiting_entries one ≡ waiting_entries old → RefusesAt contents (Refused f) old before after number why
+refused_line contents f old one before after number why not lines waiting =
+    record {
+      numbered = not.numbered ∙ lines;
+      refused = λ choices agrees. ap (λ (g : LineFault). Err g) (sym not.same);
+      written = rw (← waiting) not.written;
+    }
+
+-- ---- reviews
+
+-- a review that waits as the last
+pub waits_last : (request : Request) (old new : Session) → length (sofar_of old).entries < most_entries → new.writer ≡ old.writer
+    → new.lines ≡ old.lines → new.history ≡ old.history → new.group.items ≡ old.group.items ++ request ∷ []
+    → TakesReview request old new
+waits_last request old new room writer lines history group =
+    let log : List Logged = old.writer.published in
+    let n : ℕ = length old.history in
+    let last : group_entries log n (old.group.items ++ request ∷ [])
+    ≡ waiting_entries old ++ entry_of log (length (sofar_of old).entries) request ∷ [] =
+    group_last log n old.group.items request
+    ∙ ap (λ (k : ℕ). waiting_entries old ++ entry_of log k request ∷ []) (sym (entries_length old)) in
+    record {
+      room = room;
+      log = writer;
+      lines = lines;
+      entries =
+          ap (λ (p : Written). new.history ++ group_entries p.published (length new.history) new.group.items) writer
+          ∙ (ap (λ (es : List Entry). es ++ group_entries log (length es) new.group.items) history
+          ∙ (ap (λ (g : List Request). old.history ++ group_entries log n g) group
+          ∙ (ap (λ (es : List Entry). old.history ++ es) last
+          ∙ sym (append_assoc old.history (waiting_entries old)
+          (entry_of log (length (sofar_of old).entries) request ∷ [])))));
+    }
+
+-- the same if the group is answered then
+pub answered_last : (request : Request) (old one new : Session) → TakesReview request old one → Answered one new
+    → TakesReview request old new
+answered_last request old one new taken done = record {
+  room = taken.room;
+  log = done.log ∙ taken.log;
+  lines = done.lines ∙ taken.lines;
+  entries = none_waiting new done.none ∙ (done.entries ∙ taken.entries);
+}

@@ -1,0 +1,140 @@
+use Rattle.std.proofs.Common.{◌≡◌, ◌≢◌, ◌^◌, ◌+◌, ◌∙◌, rules, sym}
+use Rattle.std.proofs.lemmas.Bool.{false≢true}
+use Rattle.std.specs.Prelude.{IsErrOf}
+use Rattle.std.specs.Io.KnownBytes.{IsAtEnd}
+use Rattle.std.proofs.lemmas.Result.{err_from_is_err_and}
+use Rattle.base_containers.specs.Counted.{inner_of}
+use Rattle.base_containers.specs.Lines.{room, unread}
+use Rattle.base_containers.specs.declared.lines.Ending.TheVariants.{Feed}
+use Rattle.vap_cli_replay.specs.declared.fault.ReplayError.TheVariants.{Line, Read}
+use Rattle.vap_cli_replay.proofs.Given.{given_next, spent_reading}
+use Rattle.vap_cli_replay.proofs.Next.{ended_of, lines_within, stops_first}
+use Rattle.vap_cli_replay.specs.declared.fault.LineFault.TheVariants.{Pattern, Unverified}
+use Rattle.vap_cli_replay.proofs.Told.{read_last, refused_next, stopped_last, stopped_next, taken_next, told_unwritten, unanswered_last}
+use Rattle.vap_cli_replay.proofs.Told.{unanswered_next, unverified_next, written_next}
+use Rattle.vap_cli_replay.proofs.stream.take_all.Goals as goal
+
+pub returns-in_err-reader-clause-stopped : goal.returns-in_err-reader-clause-stopped
+returns-in_err-reader-clause-stopped g c =
+    let p = err_from_is_err_and c.from_residual.result c.from_residual.ensures.1 in
+    rw p.1 (λ not audit.
+    stops_first audit (g.R.Read.remaining (inner_of c.args.input.now)) (g.W.Write.contents (inner_of c.args.output.now)))
+
+pub returns-in_err-ending-clause-refused : goal.returns-in_err-ending-clause-refused
+returns-in_err-ending-clause-refused g c =
+    let from = c.from_residual-in_err-ending in
+    let p = err_from_is_err_and from.result from.ensures.1 in
+    λ number why is told audit.
+    let same : IsErrOf c.take_next.result (Line number why) = cc (c.in_err-ending.was) in
+    refused_next g.W.Write.contents audit (g.R.Read.remaining (inner_of c.args.input.now))
+    (unread g.R.Read.remaining c.loop-session.input c.loop-session.reader) c.loop-session.session
+    (g.W.Write.contents (inner_of c.args.output.now)) c.loop-session.output c.take_next.new.output number why
+    c.loop-session.invariant.taken c.loop-session.invariant.written (c.take_next.ensures.refused number why is same)
+
+pub returns-in_err-ending-clause-stopped : goal.returns-in_err-ending-clause-stopped
+returns-in_err-ending-clause-stopped g c =
+    let from = c.from_residual-in_err-ending in
+    let p = err_from_is_err_and from.result from.ensures.1 in
+    rw (p.1, p.2) (λ not audit.
+    stopped_next g.W.Write.contents audit (g.R.Read.remaining (inner_of c.args.input.now))
+    (unread g.R.Read.remaining c.loop-session.input c.loop-session.reader) c.loop-session.session
+    (g.W.Write.contents (inner_of c.args.output.now)) c.loop-session.output c.take_next.new.output
+    c.loop-session.invariant.taken c.loop-session.invariant.written (c.in_err-ending.ensures.stopped not))
+
+pub loop-session-preserved : goal.loop-session-preserved
+loop-session-preserved g c =
+    let at = c.loop-session.invariant in
+    let on = c.in_ok-ending.ensures in
+    let feed : c.loop-session.ending ≡ Feed = search rules in
+    record {
+      step = on.step;
+      home = on.home;
+      taken =
+          taken_next c.in_ok-ending.ending (g.R.Read.remaining (inner_of c.args.input.now))
+          (unread g.R.Read.remaining c.loop-session.input c.loop-session.reader)
+          (unread g.R.Read.remaining c.take_next.new.input c.take_next.new.reader) c.loop-session.session c.take_next.new.session
+          at.taken on.taken;
+      ended =
+          ended_of c.in_ok-ending.ending (IsAtEnd (unread g.R.Read.remaining c.take_next.new.input c.take_next.new.reader))
+          on.taken.short on.taken.at_end;
+      written =
+          written_next g.W.Write.contents (g.W.Write.contents (inner_of c.args.output.now)) c.loop-session.session
+          c.take_next.new.session c.loop-session.output c.take_next.new.output at.written on.written;
+      counted = on.counts.all ∙ at.counted;
+      given =
+          given_next c.loop-session.ending c.in_ok-ending.ending (g.R.Read.remaining (inner_of c.args.input.now))
+          (g.R.Read.remaining (inner_of c.loop-session.input)) (g.R.Read.remaining (inner_of c.take_next.new.input)) c.in_ok-reader.reader
+          c.loop-session.reader c.take_next.new.reader feed at.given on.given;
+      no_failure = on.no_failure ∙ at.no_failure;
+      lines =
+          lines_within c.loop-session.ending c.in_ok-ending.ending c.loop-session.session.lines c.take_next.new.session.lines
+          (room c.loop-session.reader) (room c.take_next.new.reader) (2 ^ 56 + 1) feed at.lines on.lines on.less on.no_more;
+    }
+
+pub returns-clause-stopped : goal.returns-clause-stopped
+returns-clause-stopped g c =
+    stopped_last c.answer_group.result g.W.Write.contents (g.R.Read.remaining (inner_of c.args.input.now))
+    (unread g.R.Read.remaining c.loop-session.input c.loop-session.reader) c.loop-session.session
+    (g.W.Write.contents (inner_of c.args.output.now)) c.loop-session.output c.answer_group.new.out c.loop-session.invariant.taken
+    c.loop-session.invariant.written c.answer_group.ensures.stopped
+
+pub returns-in_err-ending-clause-read : goal.returns-in_err-ending-clause-read
+returns-in_err-ending-clause-read g c =
+    let from = c.from_residual-in_err-ending in
+    let p = err_from_is_err_and from.result from.ensures.1 in
+    let at = c.loop-session.invariant in
+    let feed : c.loop-session.ending ≡ Feed = search rules in
+    λ told.
+    let same : IsErrOf c.take_next.result Read = cc (c.in_err-ending.was) in
+    spent_reading g.R.Read.remaining c.loop-session.ending c.args.input.now c.loop-session.input c.take_next.new.input
+    c.in_ok-reader.reader c.loop-session.reader c.take_next.new.reader feed c.in_ok-reader.ensures.reads at.given at.no_failure
+    (c.take_next.ensures.read same)
+
+pub returns-in_err-ending-clause-pattern : goal.returns-in_err-ending-clause-pattern
+returns-in_err-ending-clause-pattern g c =
+    let from = c.from_residual-in_err-ending in
+    let p = err_from_is_err_and from.result from.ensures.1 in
+    λ number told.
+    let same : IsErrOf c.take_next.result (Line number Pattern) = cc (c.in_err-ending.was) in
+    unanswered_next g.W.Write.contents (g.R.Read.remaining (inner_of c.args.input.now))
+    (unread g.R.Read.remaining c.loop-session.input c.loop-session.reader) c.loop-session.session
+    (g.W.Write.contents (inner_of c.args.output.now)) c.loop-session.output c.take_next.new.output number
+    c.loop-session.invariant.taken c.loop-session.invariant.written (c.take_next.ensures.pattern number same)
+
+pub returns-in_err-ending-clause-unverified : goal.returns-in_err-ending-clause-unverified
+returns-in_err-ending-clause-unverified g c =
+    let from = c.from_residual-in_err-ending in
+    let p = err_from_is_err_and from.result from.ensures.1 in
+    λ number told.
+    let same : IsErrOf c.take_next.result (Line number Unverified) = cc (c.in_err-ending.was) in
+    unverified_next g.W.Write.contents (g.R.Read.remaining (inner_of c.args.input.now))
+    (unread g.R.Read.remaining c.loop-session.input c.loop-session.reader) c.loop-session.session
+    (g.W.Write.contents (inner_of c.args.output.now)) c.loop-session.output c.take_next.new.output number
+    c.loop-session.invariant.taken c.loop-session.invariant.written (c.take_next.ensures.unverified number same)
+
+pub returns-clause-all : goal.returns-clause-all
+returns-clause-all g c =
+    let not : c.loop-session.ending ≢ Feed = search rules in
+    read_last c.answer_group.result g.R.Read.remaining g.W.Write.contents c.args.input.now c.loop-session.input
+    c.loop-session.reader.bytes c.args.output.now c.loop-session.output c.answer_group.new.out c.loop-session.session
+    c.answer_group.new.self c.loop-session.invariant.taken (c.loop-session.invariant.ended not) c.loop-session.invariant.written
+    c.answer_group.ensures.answered c.answer_group.ensures.written
+
+pub returns-clause-pattern : goal.returns-clause-pattern
+returns-clause-pattern g c =
+    λ number told.
+    unanswered_last g.W.Write.contents (g.R.Read.remaining (inner_of c.args.input.now))
+    (unread g.R.Read.remaining c.loop-session.input c.loop-session.reader) c.loop-session.session
+    (g.W.Write.contents (inner_of c.args.output.now)) c.loop-session.output c.answer_group.new.out number
+    c.loop-session.invariant.taken c.loop-session.invariant.written (c.answer_group.ensures.pattern number Pattern told)
+    (told_unwritten c.answer_group.result c.loop-session.output c.answer_group.new.out number Pattern told
+    c.answer_group.ensures.stopped)
+
+pub returns-clause-unverified : goal.returns-clause-unverified
+returns-clause-unverified g c = λ number told. absurd (c.answer_group.ensures.pattern number Unverified told).fault
+
+-- what the lines determine is no fault of the last group
+pub returns-clause-refused : goal.returns-clause-refused
+returns-clause-refused g c =
+    λ number why is told.
+    absurd (false≢true (sym (c.answer_group.ensures.lines number why told) ∙ is))

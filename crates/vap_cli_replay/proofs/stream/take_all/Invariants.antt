@@ -1,0 +1,28 @@
+use Rattle.std.proofs.Common.{◌≡◌, ◌≤◌, ◌+◌, ◌^◌, ◌≢◌}
+use Rattle.std.specs.Io.KnownBytes.{Appends, IsAtEnd}
+use Rattle.base_containers.specs.Counted.{failures_of, inner_of}
+use Rattle.base_containers.specs.Lines.{AllGive, empty_reads, room, unread}
+use Rattle.base_containers.specs.declared.lines.Ending.TheVariants.{Feed}
+use Rattle.vap_cli_replay.specs.Replay.{answers_text}
+use Rattle.vap_cli_replay.specs.Sessions.{IsInStep}
+use Rattle.vap_cli_replay.proofs.Next.{turns}
+use Rattle.vap_cli_replay.proofs.Told.{Taken}
+use Rattle.vap_cli_replay.proofs.stream.take_all.Given as goal
+
+abbrev pub invariant-loop-session : goal.invariant-loop-session
+invariant-loop-session g l = record {
+  step : IsInStep l.session;
+  home : l.crew.home.board ≡ l.session.writer.board;
+  taken : Taken (g.R.Read.remaining (inner_of l.fn.input)) (unread g.R.Read.remaining l.input l.reader) l.session;
+  ended : l.ending ≢ Feed → IsAtEnd (unread g.R.Read.remaining l.input l.reader);
+  written : Appends (g.W.Write.contents (inner_of l.fn.output)) (g.W.Write.contents (inner_of l.output)) (answers_text l.session.history);
+  counted : failures_of l.output ≡ failures_of l.fn.output;
+  given :
+      AllGive (empty_reads l.ending) (g.R.Read.remaining (inner_of l.fn.input)) (g.R.Read.remaining (inner_of l.input))
+      l.initial.reader l.reader;
+  no_failure : failures_of l.input ≡ failures_of l.fn.input;
+  lines : l.session.lines + (room l.reader + turns l.ending) ≤ 2 ^ 56 + 1;
+}
+
+abbrev pub decreases-loop-session : goal.decreases-loop-session
+decreases-loop-session g l = room l.reader + turns l.ending

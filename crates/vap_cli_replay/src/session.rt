@@ -1,0 +1,480 @@
+//! A replay under way.
+
+ghost use Rattle.std.specs.Prelude.{◌≡◌, ◌≢◌, ◌+◌, ◌<◌, ◌≤◌, ◌^◌, ◌∷◌, ◌++◌, ℕ, [], false, true};
+ghost use Rattle.std.specs.Prelude.{length, take, slice_get, Some, IfErr, IfOk, IsErr, IsErrOf, OnOk, string_bytes};
+ghost use Rattle.std.specs.Io.KnownBytes.{Appends, Keeps};
+ghost use Rattle.std.specs.Vec.Iter.{into_iter_items};
+ghost use Rattle.base_containers.specs.Counted.{inner_of};
+ghost use Rattle.base_containers.specs.Lines.{longest_line};
+ghost use Rattle.vap_audit.specs.Entries.{most_entries};
+ghost use Rattle.vap_audit.specs.declared.entry.Entry.{Entry as EntryOf};
+ghost use Rattle.vap_plane.specs.Answers.{verdicts_at};
+ghost use Rattle.vap_watch.specs.Given.{AreUnverified};
+ghost use Rattle.vap_watch.specs.Logs.{objects_after, objects_of, verdict_at};
+ghost use Rattle.vap_cli_replay.specs.Moves.{CountsWrites, IsRefusal, IsUnjudged, IsUnpublished, RefusesAt, StopsAt, Takes, Waits, Writes};
+ghost use Rattle.vap_cli_replay.specs.Streams.{IsPlain, is_of_the_lines};
+ghost use Rattle.vap_cli_replay.specs.declared.fault.LineFault.{LineFault as FaultOf};
+ghost use Rattle.vap_cli_replay.specs.Lines.{Reads};
+ghost use Rattle.vap_cli_replay.specs.Replay.{answer_line, answers_text, audit_line, audit_lines, audit_where, entry_of};
+ghost use Rattle.vap_cli_replay.specs.Groups.{OneMayMatch};
+ghost use Rattle.vap_cli_replay.specs.Sessions.{Answered, Decided, HasRoom, IsInStep, IsOpening, RefusesEvent, TakesEvent, TakesReview};
+ghost use Rattle.vap_cli_replay.specs.Sessions.{TellsGroup, first_with, group_entries, sofar_of, waiting_entries};
+
+use crate::audit_line::audit_text;
+use crate::crew::Crew;
+use crate::fault::{LineFault, ReplayError, unpublished, unstaged};
+use crate::line::{Line, read_line};
+use base_containers::Counted;
+use json::Scratch;
+use std::alloc::{AllocError, Global};
+use std::io::Write;
+use std::mem;
+use std::sync::Wait;
+use std::thread::Threads;
+use std::vec::IntoIter;
+use vap_audit::{AuditFault, Entry, History, MOST_ENTRIES};
+use vap_match::Request;
+use vap_plane::Plan;
+use vap_policy::{Verdict, answer_text};
+use vap_read::{Event, EventReader};
+use vap_watch::Writer;
+
+/// The most reviews that are judged together.
+pub const LARGEST_GROUP: usize = 1_024;
+
+/// A replay under way: what reads its events, what is published, what was decided, by call, and the reviews that are read and not
+/// yet answered, with the line of the first of them. It is not `Drop`: give it up by [`Session::end`].
+pub(crate) struct Session {
+    alloc: Global,
+    events: EventReader,
+    pub(crate) writer: Writer,
+    pub(crate) history: History,
+    pub(crate) group: Vec<Request>,
+    pub(crate) lines: u64,
+    pub(crate) first: u64,
+}
+
+impl Session {
+    pub(crate) fn new(alloc: Global, events: EventReader, writer: Writer) -> Session
+        requires { (writer.published ≡ []) × (writer.staged ≡ []) }
+        ensures opening { IsOpening result }
+        ensures writer { result.writer ≡ writer }
+    {
+        Session {
+            alloc,
+            events,
+            writer,
+            history: History::new(alloc),
+            group: Vec::new(alloc),
+            lines: 0,
+            first: 0,
+        }
+    }
+
+    /// Gives up what is published, and what was decided.
+    pub(crate) fn end<H: Wait>(self, rt: &H) {
+        let Session {
+            alloc: _,
+            events: _events,
+            writer,
+            history: _history,
+            group: _group,
+            lines: _,
+            first: _,
+        } = self;
+        writer.end(rt);
+    }
+
+    /// What the bytes of a line are; there are no more of them than a line may have.
+    pub(crate) fn read(&self, bytes: &[u8]) -> Result<Line, AllocError>
+        requires { length bytes.now ≤ longest_line }
+        ensures { IfOk result (Reads bytes.now) }
+    {
+        let mut scratch = Scratch::new(self.alloc);
+        read_line(self.alloc, &self.events, bytes, &mut scratch)
+    }
+
+    /// The refusal of the line that was read last.
+    fn refusal(&self, fault: LineFault) -> ReplayError
+        ensures { result ≡ ReplayError.Line self.now.lines fault }
+    {
+        ReplayError::Line {
+            line: self.lines,
+            fault,
+        }
+    }
+
+    /// Takes one line more: an event when the reviews before it are answered, a review into the group.
+    pub(crate) fn take<L: Plan + Send + Sync, H: Threads + Wait + Sync, W: Write>(
+        &mut self,
+        crew: &mut Crew<'_, L, H>,
+        line: Line,
+        out: &mut Counted<W>,
+    ) -> Result<(), ReplayError>
+        requires step { IsInStep self.old }
+        requires home { crew.old.home.board ≡ self.old.writer.board }
+        requires count { self.old.lines + 1 < 2 ^ 64 }
+        ensures home { OnOk result (crew.new.home.board ≡ self.new.writer.board) }
+        ensures step { OnOk result (IsInStep self.new) }
+        ensures taken { OnOk result (Takes line self.old self.new) }
+        ensures written { OnOk result (Writes W.contents self.old self.new out.old out.new) }
+        ensures refused { (number : ℕ) → (why : FaultOf) → is_of_the_lines why ≡ true → IsErrOf result (ReplayError.Line number why)
+            → RefusesAt W.contents line self.old out.old out.new number why }
+        ensures stopped { IfErr result (λ error. error ≢ ReplayError.Write → StopsAt W.contents self.old out.old out.new) }
+        ensures counts { CountsWrites result out.old out.new }
+        ensures waiting { OnOk result (self.new.group.items ≢ [] → Waits (λ l. line ≡ l) self.old self.new) }
+        ensures pattern { (number : ℕ) → IsErrOf result (ReplayError.Line number LineFault.Pattern) → IsPlain line
+            → IsUnjudged (λ l. line ≡ l) self.old out.old out.new number }
+        ensures unverified { (number : ℕ) → IsErrOf result (ReplayError.Line number LineFault.Unverified) → IsPlain line
+            → IsUnpublished W.contents (λ l. line ≡ l) self.old out.old out.new number }
+        ensures no_read { IsErrOf result ReplayError.Read → ⊥ }
+    {
+        self.lines += 1;
+        match line {
+            Line::Skipped => Ok(()),
+            Line::Asks(request) => self.take_review(crew, request, out),
+            Line::Happens(event) => {
+                self.answer_group(crew, out)?;
+                self.take_event(crew.rt, event)
+            }
+            Line::Refused(fault) => self.refuse(crew, fault, out),
+        }
+    }
+
+    /// Answers the reviews before the line that was read last, and refuses this line.
+    #[tactic(auto, using(crate::proofs::Taking::not_both, crate::proofs::Told::stops_here, crate::proofs::Told::stops_behind))]
+    fn refuse<L: Plan + Send + Sync, H: Threads + Wait + Sync, W: Write>(
+        &mut self,
+        crew: &mut Crew<'_, L, H>,
+        fault: LineFault,
+        out: &mut Counted<W>,
+    ) -> Result<(), ReplayError>
+        requires step { IsInStep self.old }
+        requires home { crew.old.home.board ≡ self.old.writer.board }
+        ensures refused { IsErr result }
+        ensures told { (number : ℕ) → (why : FaultOf) → is_of_the_lines why ≡ true → IsErrOf result (ReplayError.Line number why)
+            → IsRefusal W.contents fault self.old out.old out.new number why }
+        ensures stopped { IfErr result (λ error. error ≢ ReplayError.Write → StopsAt W.contents self.old out.old out.new) }
+        ensures counts { CountsWrites result out.old out.new }
+        ensures pattern { (number : ℕ) → (why : FaultOf) → is_of_the_lines why ≡ false → is_of_the_lines fault ≡ true
+            → IsErrOf result (ReplayError.Line number why) → TellsGroup self.old number why × (out.new ≡ out.old) }
+        ensures no_read { IsErrOf result ReplayError.Read → ⊥ }
+    {
+        self.answer_group(crew, out)?;
+        Err(self.refusal(fault))
+    }
+
+    /// Stages an event and publishes it.
+    #[tactic(auto, using(crate::proofs::Taking::staged_not, crate::proofs::Taking::published_not))]
+    fn take_event<H: Wait>(&mut self, rt: &H, event: Event) -> Result<(), ReplayError>
+        requires published { self.old.writer.staged ≡ [] }
+        ensures published { OnOk result (self.new.writer.staged ≡ []) }
+        ensures board { OnOk result (self.new.writer.board ≡ self.old.writer.board) }
+        ensures taken { OnOk result (TakesEvent self.old.writer.published event self.new.writer.published) }
+        ensures refused { (number : ℕ) → (why : FaultOf) → is_of_the_lines why ≡ true → IsErrOf result (ReplayError.Line number why)
+            → (number ≡ self.old.lines) × RefusesEvent self.old.writer.published event why }
+        ensures unwritten { IfErr result (λ error. error ≢ ReplayError.Write) }
+        ensures rest { (self.new.history ≡ self.old.history) × (self.new.group ≡ self.old.group) × (self.new.lines ≡ self.old.lines) }
+        ensures unverified { (number : ℕ) → IsErrOf result (ReplayError.Line number LineFault.Unverified) → (number ≡ self.old.lines)
+            × AreUnverified (objects_after (objects_of self.old.writer.published) (event ∷ [])) }
+        ensures no_pattern { (number : ℕ) → IsErrOf result (ReplayError.Line number LineFault.Pattern) → ⊥ }
+        ensures no_read { IsErrOf result ReplayError.Read → ⊥ }
+    {
+        if let Err((fault, _)) = self.writer.stage(event) {
+            return Err(unstaged(self.lines, fault));
+        }
+        match self.writer.publish(rt) {
+            Ok(_) => Ok(()),
+            Err(error) => Err(unpublished(self.lines, error)),
+        }
+    }
+
+    /// Puts a review into the group, and answers the group if it is as large as it may be, or if the history has no room for
+    /// more.
+    #[tactic(auto, using(crate::proofs::Told::stops_here, crate::proofs::Unjudged::group_first))]
+    fn take_review<L: Plan + Send + Sync, H: Threads + Wait + Sync, W: Write>(
+        &mut self,
+        crew: &mut Crew<'_, L, H>,
+        request: Request,
+        out: &mut Counted<W>,
+    ) -> Result<(), ReplayError>
+        requires step { IsInStep self.old }
+        requires home { crew.old.home.board ≡ self.old.writer.board }
+        ensures home { OnOk result (crew.new.home.board ≡ self.new.writer.board) }
+        ensures step { OnOk result (IsInStep self.new) }
+        ensures taken { OnOk result (TakesReview request self.old self.new) }
+        ensures written { OnOk result (Writes W.contents self.old self.new out.old out.new) }
+        ensures told { (number : ℕ) → (why : FaultOf) → is_of_the_lines why ≡ true → IsErrOf result (ReplayError.Line number why)
+            → IsRefusal W.contents LineFault.AuditFull self.old out.old out.new number why }
+        ensures full { (number : ℕ) → (why : FaultOf) → is_of_the_lines why ≡ true → IsErrOf result (ReplayError.Line number why)
+            → length (sofar_of self.old).entries ≡ most_entries }
+        ensures stopped { IfErr result (λ error. error ≢ ReplayError.Write → StopsAt W.contents self.old out.old out.new) }
+        ensures counts { CountsWrites result out.old out.new }
+        ensures waiting { OnOk result (self.new.group.items ≢ [] → (self.new.history ≡ self.old.history)
+            × (self.new.first ≡ first_with self.old.group.items self.old.first self.old.lines)) }
+        ensures group { OnOk result (self.new.group.items ≢ [] → self.new.group.items ≡ self.old.group.items ++ request ∷ []) }
+        ensures pattern { (number : ℕ) → IsErrOf result (ReplayError.Line number LineFault.Pattern) → (out.new ≡ out.old)
+            × (number ≡ first_with self.old.group.items self.old.first self.old.lines) }
+        ensures asked { (number : ℕ) → IsErrOf result (ReplayError.Line number LineFault.Pattern)
+            → OneMayMatch self.old.writer.published (self.old.group.items ++ request ∷ []) }
+        ensures no_image { (number : ℕ) → IsErrOf result (ReplayError.Line number LineFault.Unverified) → ⊥ }
+        ensures no_read { IsErrOf result ReplayError.Read → ⊥ }
+    {
+        if self.waiting() == MOST_ENTRIES {
+            return self.refuse(crew, LineFault::AuditFull, out);
+        }
+        self.wait(request)?;
+        if self.group.len() == LARGEST_GROUP || self.waiting() == MOST_ENTRIES {
+            self.answer_group(crew, out)?;
+        }
+        Ok(())
+    }
+
+    /// Puts a review into the group, as the last.
+    #[tactic(auto, using(crate::proofs::Unjudged::first_none, crate::proofs::Unjudged::first_some))]
+    fn wait(&mut self, request: Request) -> Result<(), ReplayError>
+        requires step { IsInStep self.old }
+        requires room { length self.old.history + length self.old.group.items < most_entries }
+        ensures taken { OnOk result (TakesReview request self.old self.new) }
+        ensures room { OnOk result (HasRoom self.new) }
+        ensures history { OnOk result (self.new.history ≡ self.old.history) }
+        ensures memory { IfErr result (λ error. error ≡ ReplayError.OutOfMemory) }
+        ensures first { OnOk result (self.new.first ≡ first_with self.old.group.items self.old.first self.old.lines) }
+        ensures group { OnOk result (self.new.group.items ≡ self.old.group.items ++ request ∷ []) }
+    {
+        self.first = if self.group.is_empty() {
+            self.lines
+        } else {
+            self.first
+        };
+        self.group.push(request)?;
+        Ok(())
+    }
+
+    /// How many reviews were read, those of the group too.
+    fn waiting(&self) -> usize
+        requires { HasRoom self.now }
+        ensures { result ≡ length self.now.history + length self.now.group.items }
+    {
+        self.history.len() + self.group.len()
+    }
+
+    /// Has the group judged, records what is decided, and then writes the answers. Before all are recorded, none is written.
+    pub(crate) fn answer_group<L: Plan + Send + Sync, H: Threads + Wait + Sync, W: Write>(
+        &mut self,
+        crew: &mut Crew<'_, L, H>,
+        out: &mut Counted<W>,
+    ) -> Result<(), ReplayError>
+        requires room { HasRoom self.old }
+        requires home { crew.old.home.board ≡ self.old.writer.board }
+        ensures home { OnOk result (crew.new.home.board ≡ self.new.writer.board) }
+        ensures answered { OnOk result (Answered self.old self.new) }
+        ensures written { OnOk result (Appends (W.contents (inner_of out.old)) (W.contents (inner_of out.new))
+            (answers_text (waiting_entries self.old))) }
+        ensures lines { (number : ℕ) → (why : FaultOf) → IsErrOf result (ReplayError.Line number why) → is_of_the_lines why ≡ false }
+        ensures stopped { IfErr result (λ error. error ≢ ReplayError.Write → out.new ≡ out.old) }
+        ensures counts { CountsWrites result out.old out.new }
+        ensures pattern { (number : ℕ) → (why : FaultOf) → IsErrOf result (ReplayError.Line number why) → TellsGroup self.old number why }
+        ensures no_read { IsErrOf result ReplayError.Read → ⊥ }
+    {
+        let text = self.decide_group(crew)?;
+        write_text(text.as_str(), out)
+    }
+
+    /// Has the group judged by all workers, and records what is decided. The text is that of the answers, read from the history.
+    fn decide_group<L: Plan + Send + Sync, H: Threads + Wait + Sync>(
+        &mut self,
+        crew: &mut Crew<'_, L, H>,
+    ) -> Result<String, ReplayError>
+        requires room { HasRoom self.old }
+        requires home { crew.old.home.board ≡ self.old.writer.board }
+        ensures home { OnOk result (crew.new.home.board ≡ self.new.writer.board) }
+        ensures answered { OnOk result (Answered self.old self.new) }
+        ensures text { IfOk result (λ text. string_bytes text
+            ≡ answers_text (waiting_entries self.old)) }
+        ensures lines { (number : ℕ) → (why : FaultOf) → IsErrOf result (ReplayError.Line number why) → is_of_the_lines why ≡ false }
+        ensures unwritten { IfErr result (λ error. error ≢ ReplayError.Write) }
+        ensures pattern { (number : ℕ) → (why : FaultOf) → IsErrOf result (ReplayError.Line number why) → TellsGroup self.old number why }
+        ensures no_read { IsErrOf result ReplayError.Read → ⊥ }
+    {
+        let first = self.history.len() as u64;
+        let snapshot = self.writer.snapshot();
+        let told = self.writer.tell();
+        let verdicts = crew.judge(self.first, first, &told, snapshot, self.group.as_slice())?;
+        let group = mem::replace(&mut self.group, Vec::new(self.alloc));
+        let text = self.decide_all(group, verdicts)?;
+        Ok(text)
+    }
+
+    /// Records what is decided on requests, in order. The text is that of the answers, read from the history.
+    fn decide_all(
+        &mut self,
+        group: Vec<Request>,
+        verdicts: Vec<Verdict>,
+    ) -> Result<String, ReplayError>
+        requires right { verdicts.items ≡ verdicts_at self.old.writer.published group.items }
+        requires room { length self.old.history + length group.items ≤ most_entries }
+        requires none { self.old.group.items ≡ [] }
+        ensures decided { OnOk result
+            (Decided self.old self.new (group_entries self.old.writer.published (length self.old.history) group.items)) }
+        ensures none { OnOk result (self.new.group.items ≡ []) }
+        ensures text { IfOk result (λ text. string_bytes text
+            ≡ answers_text (group_entries self.old.writer.published (length self.old.history) group.items)) }
+        ensures memory { IfErr result (λ error. error ≡ ReplayError.OutOfMemory) }
+    {
+        let mut text = String::new(self.alloc);
+        let mut answers = verdicts.into_iter();
+        for request in group {
+            let verdict = next_of(&mut answers);
+            self.decide(request, verdict, &mut text)?;
+        }
+        Ok(text)
+    }
+
+    /// Records what is decided on one request, and adds its answer to the end of the text.
+    fn decide(
+        &mut self,
+        request: Request,
+        verdict: Verdict,
+        text: &mut String,
+    ) -> Result<(), ReplayError>
+        requires right { verdict ≡ verdict_at self.old.writer.published request }
+        requires room { length self.old.history < most_entries }
+        ensures decided { OnOk result
+            (Decided self.old self.new (entry_of self.old.writer.published (length self.old.history) request ∷ [])) }
+        ensures group { self.new.group ≡ self.old.group }
+        ensures text { OnOk result (string_bytes text.new ≡ string_bytes text.old
+            ++ answers_text (entry_of self.old.writer.published (length self.old.history) request ∷ [])) }
+        ensures memory { IfErr result (λ error. error ≡ ReplayError.OutOfMemory) }
+    {
+        let number = self.record(request, verdict)?;
+        let line = self.answer_line(number)?;
+        text.push_str(line.as_str())?;
+        Ok(())
+    }
+
+    /// The line that answers an entry's request.
+    fn answer_line(&self, number: usize) -> Result<String, ReplayError>
+        requires { number < length self.now.history }
+        ensures line { IfOk result (λ line. (e : EntryOf) → slice_get self.now.history number ≡ Some e
+            → string_bytes line ≡ answer_line e) }
+        ensures memory { IfErr result (λ error. error ≡ ReplayError.OutOfMemory) }
+    {
+        let entry = self.history.at(number);
+        let mut answer = answer_text(
+            self.alloc,
+            entry.request.admission().uid.as_str(),
+            &entry.verdict,
+        )?;
+        answer.push('\n')?;
+        Ok(answer)
+    }
+
+    /// Records what is decided on one request at the published log, under the next number.
+    fn record(&mut self, request: Request, verdict: Verdict) -> Result<usize, ReplayError>
+        requires right { verdict ≡ verdict_at self.old.writer.published request }
+        requires room { length self.old.history < most_entries }
+        ensures decided { OnOk result
+            (Decided self.old self.new (entry_of self.old.writer.published (length self.old.history) request ∷ [])) }
+        ensures number { IfOk result (λ number. number ≡ length self.old.history) }
+        ensures group { self.new.group ≡ self.old.group }
+        ensures memory { IfErr result (λ error. error ≡ ReplayError.OutOfMemory) }
+    {
+        let entry = Entry {
+            call: self.history.len() as u64,
+            log: self.writer.snapshot().share_log()?,
+            request,
+            verdict,
+            worker: 0,
+        };
+        match self.history.append(entry) {
+            Ok(number) => Ok(number),
+            Err((AuditFault::AuditFull, _)) => unreachable!(),
+            Err((AuditFault::OutOfMemory, _)) => Err(ReplayError::OutOfMemory),
+        }
+    }
+
+    /// Writes the audit if it is wanted, and flushes.
+    #[tactic(auto, using(crate::proofs::Told::appends_kept))]
+    pub(crate) fn finish<W: Write>(
+        &self,
+        audit: bool,
+        out: &mut Counted<W>,
+    ) -> Result<(), ReplayError>
+        ensures written { OnOk result
+            (Appends (W.contents (inner_of out.old)) (W.contents (inner_of out.new)) (audit_where audit self.now.history)) }
+        ensures stopped { IfErr result (λ error. error ≢ ReplayError.Write → (audit ≡ true) × ((n : ℕ)
+            × Appends (W.contents (inner_of out.old)) (W.contents (inner_of out.new)) (audit_lines (take n self.now.history)))) }
+        ensures no_line { (number : ℕ) → (why : FaultOf) → IsErrOf result (ReplayError.Line number why) → ⊥ }
+        ensures counts { CountsWrites result out.old out.new }
+        ensures no_read { IsErrOf result ReplayError.Read → ⊥ }
+    {
+        if audit {
+            self.write_audit(out)?;
+        }
+        flush(out)
+    }
+
+    /// Writes a line for each entry of the history, by call.
+    fn write_audit<W: Write>(&self, out: &mut Counted<W>) -> Result<(), ReplayError>
+        ensures written { OnOk result
+            (Appends (W.contents (inner_of out.old)) (W.contents (inner_of out.new)) (audit_lines self.now.history)) }
+        ensures stopped { IfErr result (λ error. error ≢ ReplayError.Write → (n : ℕ)
+            × Appends (W.contents (inner_of out.old)) (W.contents (inner_of out.new)) (audit_lines (take n self.now.history))) }
+        ensures no_line { (number : ℕ) → (why : FaultOf) → IsErrOf result (ReplayError.Line number why) → ⊥ }
+        ensures counts { CountsWrites result out.old out.new }
+        ensures no_read { IsErrOf result ReplayError.Read → ⊥ }
+    {
+        for number in 0..self.history.len() {
+            let line = self.audit_line(number)?;
+            write_text(line.as_str(), out)?;
+        }
+        Ok(())
+    }
+
+    /// The line that the audit has for an entry.
+    fn audit_line(&self, number: usize) -> Result<String, ReplayError>
+        requires { number < length self.now.history }
+        ensures line { IfOk result (λ line. (e : EntryOf) → slice_get self.now.history number ≡ Some e → string_bytes line ≡ audit_line e) }
+        ensures memory { IfErr result (λ error. error ≡ ReplayError.OutOfMemory) }
+    {
+        let entry = self.history.at(number);
+        let mut line = audit_text(self.alloc, entry)?;
+        line.push('\n')?;
+        Ok(line)
+    }
+}
+
+/// Writes a text whole.
+fn write_text<W: Write>(text: &str, out: &mut Counted<W>) -> Result<(), ReplayError>
+    ensures written { OnOk result (Appends (W.contents (inner_of out.old)) (W.contents (inner_of out.new)) text.now) }
+    ensures write { IfErr result (λ error. error ≡ ReplayError.Write) }
+    ensures counts { CountsWrites result out.old out.new }
+{
+    match out.write_all(text.as_bytes()) {
+        Ok(()) => Ok(()),
+        Err(_) => Err(ReplayError::Write),
+    }
+}
+
+fn flush<W: Write>(out: &mut Counted<W>) -> Result<(), ReplayError>
+    ensures kept { Keeps (W.contents (inner_of out.old)) (W.contents (inner_of out.new)) }
+    ensures write { IfErr result (λ error. error ≡ ReplayError.Write) }
+    ensures counts { CountsWrites result out.old out.new }
+{
+    match out.flush() {
+        Ok(()) => Ok(()),
+        Err(_) => Err(ReplayError::Write),
+    }
+}
+
+/// The next verdict; there is one.
+fn next_of(verdicts: &mut IntoIter<Verdict>) -> Verdict
+    requires { into_iter_items verdicts.old ≢ [] }
+    ensures { into_iter_items verdicts.old ≡ result ∷ into_iter_items verdicts.new }
+{
+    let Some(verdict) = verdicts.next() else {
+        unreachable!()
+    };
+    verdict
+}

@@ -1,0 +1,382 @@
+//! The replay of a stream.
+
+ghost use Rattle.std.specs.Prelude.{◌≡◌, ◌≢◌, ◌⊎◌, ◌≤◌, ◌<◌, ◌+◌, ◌^◌, ◌-◌, ℕ, Bool, false, true};
+ghost use Rattle.std.specs.Prelude.{length, IfErr, IfOk, IfSome, IsErrOf, OnOk};
+ghost use Rattle.std.specs.Io.KnownBytes.{IsAtEnd};
+ghost use Rattle.base_containers.specs.Counted.{failures_of, inner_of, one_more};
+ghost use Rattle.base_containers.specs.Lines.{AllGive, IsSpent, empty_reads, longest_line, room, unread};
+ghost use Rattle.vap_cli_replay.specs.Moves.{Advances, BeginsWith, CountsWrites, IsRead, IsReadAs, IsUnjudged, IsUnpublished, RefusesBytes};
+ghost use Rattle.vap_cli_replay.specs.Moves.{RefusesNext, StopsAt, TakesNext, Writes};
+ghost use Rattle.vap_cli_replay.specs.Sessions.{IsInStep, IsOpening};
+ghost use Rattle.vap_cli_replay.specs.Streams.{IsUnansweredAt, IsUnverifiedAt, Refuses, Replays, Stops, StopsReading, is_of_the_lines};
+ghost use Rattle.vap_cli_replay.specs.declared.fault.LineFault.{LineFault as FaultOf};
+
+use crate::crew::Crew;
+use crate::fault::{LineFault, ReplayError};
+use crate::line::Line;
+use crate::progress::{Progress, Silent};
+use crate::session::Session;
+use base_containers::{Counted, Ending, LineReader};
+use std::alloc::Global;
+use std::io::{Read, Write};
+use std::marker::Brand;
+use std::sync::Wait;
+use std::sync::ledger::Blank;
+use std::thread::Threads;
+use vap_plane::Plan;
+use vap_read::EventReader;
+use vap_watch::{open, revision_of};
+
+/// The most workers.
+pub const MOST_WORKERS: u8 = 16;
+
+/// Reads lines, publishes events and answers reviews; with `audit` the history's lines follow. The reviews of a group are judged by
+/// as many workers as are asked for, each except the first in a thread of its own. What is written is the same however many there are:
+/// its definition does not refer to them. If it answers Ok, nothing is left unread, and the text of the lines is written and nothing
+/// else. If it reports the first line that is refused, the text up to that line is written. After a failed read, when memory runs out,
+/// and if a set or a pattern cannot be built, the first answers are written, each whole, and nothing else; after a failed write a part
+/// of an answer may be written. `Pattern` is reported with the line of the first review that is not answered, and only if the set of
+/// the log before it looks for a pattern at this review or at a later one; `Unverified` with the line of an event. `Read` is reported
+/// only if a read failed, or if there were as many as there may be and each gave a byte. `Stray`, `NoPlace` and the faults of
+/// workers exist because no proof says of threads that each answer comes, and comes once.
+pub fn replay<H: Threads + Wait + Sync, R: Read, W: Write>(
+    rt: &H,
+    alloc: Global,
+    input: &mut Counted<R>,
+    output: &mut Counted<W>,
+    workers: u8,
+    audit: bool,
+) -> Result<(), ReplayError>
+    requires reads { failures_of input.old < 2 ^ 64 - 1 }
+    requires writes { failures_of output.old < 2 ^ 64 - 1 }
+    requires workers { (1 ≤ workers) × (workers ≤ 16) }
+    ensures all_read { OnOk result (IsAtEnd (R.remaining (inner_of input.new))) }
+    ensures all_written { OnOk result (IfSome (R.remaining (inner_of input.old))
+        (λ bytes. Replays audit bytes (W.contents (inner_of output.old)) (W.contents (inner_of output.new)))) }
+    ensures refused { (line : ℕ) → (fault : FaultOf) → is_of_the_lines fault ≡ true → IsErrOf result (ReplayError.Line line fault)
+        → IfSome (R.remaining (inner_of input.old)) (λ bytes.
+        Refuses audit bytes (W.contents (inner_of output.old)) (W.contents (inner_of output.new)) (record { line = line; fault = fault })) }
+    ensures stopped { IfErr result (λ error. error ≢ ReplayError.Write → IfSome (R.remaining (inner_of input.old)) (λ bytes.
+        Stops audit bytes (W.contents (inner_of output.old)) (W.contents (inner_of output.new)))) }
+    ensures write { IsErrOf result ReplayError.Write → failures_of output.new ≡ failures_of output.old + 1 }
+    ensures pattern { (line : ℕ) → IsErrOf result (ReplayError.Line line LineFault.Pattern) → IfSome (R.remaining (inner_of input.old))
+        (λ bytes. IsUnansweredAt bytes (W.contents (inner_of output.old)) (W.contents (inner_of output.new)) line) }
+    ensures unverified { (line : ℕ) → IsErrOf result (ReplayError.Line line LineFault.Unverified)
+        → IfSome (R.remaining (inner_of input.old))
+        (λ bytes. IsUnverifiedAt bytes (W.contents (inner_of output.old)) (W.contents (inner_of output.new)) line) }
+    ensures read { IsErrOf result ReplayError.Read → StopsReading R.remaining input.old input.new }
+    ensures no_failure { OnOk result ((failures_of input.new ≡ failures_of input.old) × (failures_of output.new ≡ failures_of output.old)) }
+{
+    replay_with(rt, alloc, input, output, workers, audit, &mut Silent)
+}
+
+/// [`replay`], which reports after each line how far it is, and at the end what was decided.
+pub fn replay_with<H: Threads + Wait + Sync, R: Read, W: Write, P: Progress>(
+    rt: &H,
+    alloc: Global,
+    input: &mut Counted<R>,
+    output: &mut Counted<W>,
+    workers: u8,
+    audit: bool,
+    progress: &mut P,
+) -> Result<(), ReplayError>
+    requires reads { failures_of input.old < 2 ^ 64 - 1 }
+    requires writes { failures_of output.old < 2 ^ 64 - 1 }
+    requires workers { (1 ≤ workers) × (workers ≤ 16) }
+    ensures all_read { OnOk result (IsAtEnd (R.remaining (inner_of input.new))) }
+    ensures all_written { OnOk result (IfSome (R.remaining (inner_of input.old))
+        (λ bytes. Replays audit bytes (W.contents (inner_of output.old)) (W.contents (inner_of output.new)))) }
+    ensures refused { (line : ℕ) → (fault : FaultOf) → is_of_the_lines fault ≡ true → IsErrOf result (ReplayError.Line line fault)
+        → IfSome (R.remaining (inner_of input.old)) (λ bytes.
+        Refuses audit bytes (W.contents (inner_of output.old)) (W.contents (inner_of output.new)) (record { line = line; fault = fault })) }
+    ensures stopped { IfErr result (λ error. error ≢ ReplayError.Write → IfSome (R.remaining (inner_of input.old)) (λ bytes.
+        Stops audit bytes (W.contents (inner_of output.old)) (W.contents (inner_of output.new)))) }
+    ensures write { IsErrOf result ReplayError.Write → failures_of output.new ≡ failures_of output.old + 1 }
+    ensures pattern { (line : ℕ) → IsErrOf result (ReplayError.Line line LineFault.Pattern) → IfSome (R.remaining (inner_of input.old))
+        (λ bytes. IsUnansweredAt bytes (W.contents (inner_of output.old)) (W.contents (inner_of output.new)) line) }
+    ensures unverified { (line : ℕ) → IsErrOf result (ReplayError.Line line LineFault.Unverified)
+        → IfSome (R.remaining (inner_of input.old))
+        (λ bytes. IsUnverifiedAt bytes (W.contents (inner_of output.old)) (W.contents (inner_of output.new)) line) }
+    ensures read { IsErrOf result ReplayError.Read → StopsReading R.remaining input.old input.new }
+    ensures no_failure { OnOk result ((failures_of input.new ≡ failures_of input.old) × (failures_of output.new ≡ failures_of output.old)) }
+{
+    let blank = Blank::new(workers as u64);
+    replay_as::<Brand, H, R, W, P>(
+        rt,
+        alloc,
+        input,
+        output,
+        blank,
+        workers as u64,
+        audit,
+        progress,
+    )
+}
+
+/// [`replay_with`], by the workers among whom a ledger is divided.
+fn replay_as<L: Plan + Send + Sync, H: Threads + Wait + Sync, R: Read, W: Write, P: Progress>(
+    rt: &H,
+    alloc: Global,
+    input: &mut Counted<R>,
+    output: &mut Counted<W>,
+    blank: Blank,
+    workers: u64,
+    audit: bool,
+    progress: &mut P,
+) -> Result<(), ReplayError>
+    requires reads { failures_of input.old < 2 ^ 64 - 1 }
+    requires writes { failures_of output.old < 2 ^ 64 - 1 }
+    requires name { blank.name ≡ L.name }
+    requires parts { (blank.parts ≡ L.parts) × (blank.parts ≡ workers) × (workers ≡ L.workers) }
+    requires workers { (1 ≤ workers) × (workers ≤ 16) }
+    ensures all_read { OnOk result (IsAtEnd (R.remaining (inner_of input.new))) }
+    ensures all_written { OnOk result (IfSome (R.remaining (inner_of input.old))
+        (λ bytes. Replays audit bytes (W.contents (inner_of output.old)) (W.contents (inner_of output.new)))) }
+    ensures refused { (line : ℕ) → (fault : FaultOf) → is_of_the_lines fault ≡ true → IsErrOf result (ReplayError.Line line fault)
+        → IfSome (R.remaining (inner_of input.old)) (λ bytes.
+        Refuses audit bytes (W.contents (inner_of output.old)) (W.contents (inner_of output.new)) (record { line = line; fault = fault })) }
+    ensures stopped { IfErr result (λ error. error ≢ ReplayError.Write → IfSome (R.remaining (inner_of input.old)) (λ bytes.
+        Stops audit bytes (W.contents (inner_of output.old)) (W.contents (inner_of output.new)))) }
+    ensures write { IsErrOf result ReplayError.Write → failures_of output.new ≡ failures_of output.old + 1 }
+    ensures pattern { (line : ℕ) → IsErrOf result (ReplayError.Line line LineFault.Pattern) → IfSome (R.remaining (inner_of input.old))
+        (λ bytes. IsUnansweredAt bytes (W.contents (inner_of output.old)) (W.contents (inner_of output.new)) line) }
+    ensures unverified { (line : ℕ) → IsErrOf result (ReplayError.Line line LineFault.Unverified)
+        → IfSome (R.remaining (inner_of input.old))
+        (λ bytes. IsUnverifiedAt bytes (W.contents (inner_of output.old)) (W.contents (inner_of output.new)) line) }
+    ensures read { IsErrOf result ReplayError.Read → StopsReading R.remaining input.old input.new }
+    ensures no_failure { OnOk result ((failures_of input.new ≡ failures_of input.old) × (failures_of output.new ≡ failures_of output.old)) }
+{
+    let (mut session, mut crew) = opened::<L, H>(rt, alloc, blank, workers)?;
+    let replayed = replay_all(
+        alloc,
+        &mut session,
+        &mut crew,
+        input,
+        output,
+        audit,
+        progress,
+    );
+    progress.replayed(&session.history);
+    session.end(rt);
+    replayed
+}
+
+/// Takes all lines, and writes the audit if it is wanted.
+fn replay_all<L: Plan + Send + Sync, H: Threads + Wait + Sync, R: Read, W: Write, P: Progress>(
+    alloc: Global,
+    session: &mut Session,
+    crew: &mut Crew<'_, L, H>,
+    input: &mut Counted<R>,
+    output: &mut Counted<W>,
+    audit: bool,
+    progress: &mut P,
+) -> Result<(), ReplayError>
+    requires opening { IsOpening session.old }
+    requires home { crew.old.home.board ≡ session.old.writer.board }
+    requires reads { failures_of input.old < 2 ^ 64 - 1 }
+    requires writes { failures_of output.old < 2 ^ 64 - 1 }
+    ensures all_read { OnOk result (IsAtEnd (R.remaining (inner_of input.new))) }
+    ensures all_written { OnOk result (IfSome (R.remaining (inner_of input.old))
+        (λ bytes. Replays audit bytes (W.contents (inner_of output.old)) (W.contents (inner_of output.new)))) }
+    ensures refused { (line : ℕ) → (fault : FaultOf) → is_of_the_lines fault ≡ true → IsErrOf result (ReplayError.Line line fault)
+        → IfSome (R.remaining (inner_of input.old)) (λ bytes.
+        Refuses audit bytes (W.contents (inner_of output.old)) (W.contents (inner_of output.new)) (record { line = line; fault = fault })) }
+    ensures stopped { IfErr result (λ error. error ≢ ReplayError.Write → IfSome (R.remaining (inner_of input.old)) (λ bytes.
+        Stops audit bytes (W.contents (inner_of output.old)) (W.contents (inner_of output.new)))) }
+    ensures write { IsErrOf result ReplayError.Write → failures_of output.new ≡ failures_of output.old + 1 }
+    ensures pattern { (line : ℕ) → IsErrOf result (ReplayError.Line line LineFault.Pattern) → IfSome (R.remaining (inner_of input.old))
+        (λ bytes. IsUnansweredAt bytes (W.contents (inner_of output.old)) (W.contents (inner_of output.new)) line) }
+    ensures unverified { (line : ℕ) → IsErrOf result (ReplayError.Line line LineFault.Unverified)
+        → IfSome (R.remaining (inner_of input.old))
+        (λ bytes. IsUnverifiedAt bytes (W.contents (inner_of output.old)) (W.contents (inner_of output.new)) line) }
+    ensures read { IsErrOf result ReplayError.Read → StopsReading R.remaining input.old input.new }
+    ensures no_failure { OnOk result ((failures_of input.new ≡ failures_of input.old) × (failures_of output.new ≡ failures_of output.old)) }
+{
+    take_all(alloc, session, crew, input, output, progress)?;
+    session.finish(audit, output)
+}
+
+/// A replay that has read nothing yet, and its workers.
+fn opened<'a, L: Plan + Send + Sync, H: Threads + Wait + Sync>(
+    rt: &'a H,
+    alloc: Global,
+    blank: Blank,
+    workers: u64,
+) -> Result<(Session, Crew<'a, L, H>), ReplayError>
+    requires name { blank.name ≡ L.name }
+    requires parts { (blank.parts ≡ L.parts) × (blank.parts ≡ workers) × (workers ≡ L.workers) }
+    requires workers { (1 ≤ workers) × (workers ≤ 16) }
+    ensures opening { IfOk result (λ made. IsOpening made.0) }
+    ensures home { IfOk result (λ made. made.1.home.board ≡ made.0.writer.board) }
+    ensures lines { (number : ℕ) → (why : FaultOf) → IsErrOf result (ReplayError.Line number why) → is_of_the_lines why ≡ false }
+    ensures unwritten { IfErr result (λ error. error ≢ ReplayError.Write) }
+    ensures no_pattern { (number : ℕ) → IsErrOf result (ReplayError.Line number LineFault.Pattern) → ⊥ }
+    ensures no_image { (number : ℕ) → IsErrOf result (ReplayError.Line number LineFault.Unverified) → ⊥ }
+    ensures no_read { IsErrOf result ReplayError.Read → ⊥ }
+{
+    let events = EventReader::new(alloc)?;
+    let (writer, source) = open(rt, alloc, workers as usize)?;
+    let home = writer.tell();
+    let session = Session::new(alloc, events, writer);
+    match Crew::<L, H>::new(rt, alloc, &source, home, blank, workers) {
+        Ok(crew) => Ok((session, crew)),
+        Err(error) => {
+            session.end(rt);
+            Err(error)
+        }
+    }
+}
+
+/// Takes each line up to the end of the input, and answers the last group.
+fn take_all<L: Plan + Send + Sync, H: Threads + Wait + Sync, R: Read, W: Write, P: Progress>(
+    alloc: Global,
+    session: &mut Session,
+    crew: &mut Crew<'_, L, H>,
+    input: &mut Counted<R>,
+    output: &mut Counted<W>,
+    progress: &mut P,
+) -> Result<(), ReplayError>
+    requires opening { IsOpening session.old }
+    requires home { crew.old.home.board ≡ session.old.writer.board }
+    ensures all { OnOk result (IsRead R.remaining W.contents input.old output.old input.new output.new session.new) }
+    ensures refused { (number : ℕ) → (why : FaultOf) → is_of_the_lines why ≡ true → IsErrOf result (ReplayError.Line number why)
+        → (audit : Bool) → IfSome (R.remaining (inner_of input.old)) (λ bytes.
+        Refuses audit bytes (W.contents (inner_of output.old)) (W.contents (inner_of output.new)) (record { line = number; fault = why })) }
+    ensures stopped { IfErr result (λ error. error ≢ ReplayError.Write → (audit : Bool) → IfSome (R.remaining (inner_of input.old))
+        (λ bytes. Stops audit bytes (W.contents (inner_of output.old)) (W.contents (inner_of output.new)))) }
+    ensures counts { CountsWrites result output.old output.new }
+    ensures pattern { (line : ℕ) → IsErrOf result (ReplayError.Line line LineFault.Pattern) → IfSome (R.remaining (inner_of input.old))
+        (λ bytes. IsUnansweredAt bytes (W.contents (inner_of output.old)) (W.contents (inner_of output.new)) line) }
+    ensures unverified { (line : ℕ) → IsErrOf result (ReplayError.Line line LineFault.Unverified)
+        → IfSome (R.remaining (inner_of input.old))
+        (λ bytes. IsUnverifiedAt bytes (W.contents (inner_of output.old)) (W.contents (inner_of output.new)) line) }
+    ensures read { IsErrOf result ReplayError.Read → StopsReading R.remaining input.old input.new }
+    ensures no_failure { OnOk result (failures_of input.new ≡ failures_of input.old) }
+{
+    let mut reader = LineReader::new(alloc)?;
+    let mut line = Vec::new(alloc);
+    let mut ending = Ending::Feed;
+    while ending == Ending::Feed {
+        ending = take_next(session, crew, &mut reader, input, &mut line, output)?;
+        progress.reached(
+            session.lines,
+            session.history.len(),
+            revision_of(session.writer.snapshot()),
+        );
+    }
+    session.answer_group(crew, output)
+}
+
+/// Takes the next line, by way of `line`, and returns how it ended.
+fn take_next<L: Plan + Send + Sync, H: Threads + Wait + Sync, R: Read, W: Write>(
+    session: &mut Session,
+    crew: &mut Crew<'_, L, H>,
+    reader: &mut LineReader,
+    input: &mut Counted<R>,
+    line: &mut Vec<u8>,
+    output: &mut Counted<W>,
+) -> Result<Ending, ReplayError>
+    requires step { IsInStep session.old }
+    requires home { crew.old.home.board ≡ session.old.writer.board }
+    requires count { session.old.lines + 1 < 2 ^ 64 }
+    ensures home { OnOk result (crew.new.home.board ≡ session.new.writer.board) }
+    ensures step { OnOk result (IsInStep session.new) }
+    ensures taken { IfOk result (λ ending. TakesNext (unread R.remaining input.old reader.old) (unread R.remaining input.new reader.new)
+        ending session.old session.new) }
+    ensures written { OnOk result (Writes W.contents session.old session.new output.old output.new) }
+    ensures refused { (number : ℕ) → (why : FaultOf) → is_of_the_lines why ≡ true → IsErrOf result (ReplayError.Line number why)
+        → IfSome (unread R.remaining input.old reader.old) (λ text.
+        RefusesNext W.contents text session.old output.old output.new number why) }
+    ensures stopped { IfErr result (λ error. error ≢ ReplayError.Write → StopsAt W.contents session.old output.old output.new) }
+    ensures counts { CountsWrites result output.old output.new }
+    ensures lines { OnOk result (session.new.lines ≤ session.old.lines + 1) }
+    ensures less { IfOk result (λ ending. ending ≡ Ending.Feed → room reader.new < room reader.old) }
+    ensures no_more { room reader.new ≤ room reader.old }
+    ensures pattern { (number : ℕ) → IsErrOf result (ReplayError.Line number LineFault.Pattern)
+        → IfSome (unread R.remaining input.old reader.old) (λ text.
+        IsUnjudged (BeginsWith text) session.old output.old output.new number) }
+    ensures unverified { (number : ℕ) → IsErrOf result (ReplayError.Line number LineFault.Unverified)
+        → IfSome (unread R.remaining input.old reader.old) (λ text.
+        IsUnpublished W.contents (BeginsWith text) session.old output.old output.new number) }
+    ensures read { IsErrOf result ReplayError.Read → (failures_of input.new ≡ one_more (failures_of input.old))
+        ⊎ IsSpent R.remaining input.old input.new reader.old reader.new }
+    ensures given { IfOk result (λ ending. AllGive (empty_reads ending) (R.remaining (inner_of input.old))
+        (R.remaining (inner_of input.new)) reader.old reader.new) }
+    ensures no_failure { OnOk result (failures_of input.new ≡ failures_of input.old) }
+{
+    line.clear();
+    let ending = reader.next(input, line)?;
+    take_bytes(session, crew, line.as_slice(), ending, output)?;
+    Ok(ending)
+}
+
+/// Takes the bytes of a line with this ending. The empty end of an input is no line.
+fn take_bytes<L: Plan + Send + Sync, H: Threads + Wait + Sync, W: Write>(
+    session: &mut Session,
+    crew: &mut Crew<'_, L, H>,
+    bytes: &[u8],
+    ending: Ending,
+    output: &mut Counted<W>,
+) -> Result<(), ReplayError>
+    requires step { IsInStep session.old }
+    requires home { crew.old.home.board ≡ session.old.writer.board }
+    requires short { length bytes.now ≤ longest_line }
+    requires count { session.old.lines + 1 < 2 ^ 64 }
+    ensures home { OnOk result (crew.new.home.board ≡ session.new.writer.board) }
+    ensures step { OnOk result (IsInStep session.new) }
+    ensures taken { OnOk result (Advances ending bytes.now session.old session.new) }
+    ensures written { OnOk result (Writes W.contents session.old session.new output.old output.new) }
+    ensures ended { OnOk result (ending ≢ Ending.TooLong) }
+    ensures lines { OnOk result (session.new.lines ≤ session.old.lines + 1) }
+    ensures refused { (number : ℕ) → (why : FaultOf) → is_of_the_lines why ≡ true → IsErrOf result (ReplayError.Line number why)
+        → RefusesBytes W.contents ending bytes.now session.old output.old output.new number why }
+    ensures stopped { IfErr result (λ error. error ≢ ReplayError.Write → StopsAt W.contents session.old output.old output.new) }
+    ensures counts { CountsWrites result output.old output.new }
+    ensures pattern { (number : ℕ) → IsErrOf result (ReplayError.Line number LineFault.Pattern)
+        → IsUnjudged (IsReadAs ending bytes.now) session.old output.old output.new number }
+    ensures unverified { (number : ℕ) → IsErrOf result (ReplayError.Line number LineFault.Unverified)
+        → IsUnpublished W.contents (IsReadAs ending bytes.now) session.old output.old output.new number }
+    ensures no_read { IsErrOf result ReplayError.Read → ⊥ }
+{
+    match ending {
+        Ending::TooLong => session.take(crew, Line::Refused(LineFault::TooLong), output),
+        Ending::Feed => {
+            let line = session.read(bytes)?;
+            session.take(crew, line, output)
+        }
+        Ending::End => take_last(session, crew, bytes, output),
+    }
+}
+
+/// Takes the bytes of the last line, which the end of the input ended. The empty end of an input is no line.
+fn take_last<L: Plan + Send + Sync, H: Threads + Wait + Sync, W: Write>(
+    session: &mut Session,
+    crew: &mut Crew<'_, L, H>,
+    bytes: &[u8],
+    output: &mut Counted<W>,
+) -> Result<(), ReplayError>
+    requires step { IsInStep session.old }
+    requires home { crew.old.home.board ≡ session.old.writer.board }
+    requires short { length bytes.now ≤ longest_line }
+    requires count { session.old.lines + 1 < 2 ^ 64 }
+    ensures home { OnOk result (crew.new.home.board ≡ session.new.writer.board) }
+    ensures step { OnOk result (IsInStep session.new) }
+    ensures taken { OnOk result (Advances Ending.End bytes.now session.old session.new) }
+    ensures written { OnOk result (Writes W.contents session.old session.new output.old output.new) }
+    ensures lines { OnOk result (session.new.lines ≤ session.old.lines + 1) }
+    ensures refused { (number : ℕ) → (why : FaultOf) → is_of_the_lines why ≡ true → IsErrOf result (ReplayError.Line number why)
+        → RefusesBytes W.contents Ending.End bytes.now session.old output.old output.new number why }
+    ensures stopped { IfErr result (λ error. error ≢ ReplayError.Write → StopsAt W.contents session.old output.old output.new) }
+    ensures counts { CountsWrites result output.old output.new }
+    ensures pattern { (number : ℕ) → IsErrOf result (ReplayError.Line number LineFault.Pattern)
+        → IsUnjudged (IsReadAs Ending.End bytes.now) session.old output.old output.new number }
+    ensures unverified { (number : ℕ) → IsErrOf result (ReplayError.Line number LineFault.Unverified)
+        → IsUnpublished W.contents (IsReadAs Ending.End bytes.now) session.old output.old output.new number }
+    ensures no_read { IsErrOf result ReplayError.Read → ⊥ }
+{
+    if bytes.is_empty() {
+        return Ok(());
+    }
+    let line = session.read(bytes)?;
+    session.take(crew, line, output)
+}

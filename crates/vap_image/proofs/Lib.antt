@@ -1,2 +1,0 @@
-pub mod Spelt
-pub mod Accepted

@@ -1,4 +1,0 @@
-use Rattle.vap_judge.proofs.evaluations.Judging.run.Given as goal
-
-abbrev pub ghost-run_programs : goal.ghost-run_programs
-ghost-run_programs g a = g.types

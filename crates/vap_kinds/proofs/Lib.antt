@@ -1,3 +1,0 @@
-pub mod OwnKinds
-pub mod WorkedRows
-pub mod Crossing

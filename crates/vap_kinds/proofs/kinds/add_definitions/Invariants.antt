@@ -1,8 +1,0 @@
-use Rattle.std.proofs.Common.{◌≡◌, drop}
-use Rattle.vap_kinds.specs.Kinds.{with_definitions}
-use Rattle.vap_kinds.proofs.kinds.add_definitions.Given as goal
-
-abbrev pub invariant-loop-definition : goal.invariant-loop-definition
-invariant-loop-definition l =
-    with_definitions (drop l.definition-index l.definitions) l.kinds.items
-    ≡ with_definitions l.definitions l.initial.kinds.items

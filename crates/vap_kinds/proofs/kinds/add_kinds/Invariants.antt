@@ -1,7 +1,0 @@
-use Rattle.std.proofs.Common.{◌≡◌, drop}
-use Rattle.vap_kinds.specs.Kinds.{with_kinds}
-use Rattle.vap_kinds.proofs.kinds.add_kinds.Given as goal
-
-abbrev pub invariant-loop-kind : goal.invariant-loop-kind
-invariant-loop-kind l =
-    with_kinds (drop l.kind-index l.more) l.kinds.items ≡ with_kinds l.more l.initial.kinds.items

@@ -1,3 +1,0 @@
-pub mod Definitions
-pub mod FixedKinds
-pub mod Kinds

@@ -1,3 +1,0 @@
-pub mod Splits
-pub mod Taken
-pub mod WorkedRows

@@ -1,5 +1,0 @@
-use Rattle.std.proofs.Common.{rules}
-use Rattle.vap_lines.proofs.counted.CountedRead.read.Goals as goal
-
-pub returns-else-is_err-clause-bytes : goal.returns-else-is_err-clause-bytes
-returns-else-is_err-clause-bytes c = search rules

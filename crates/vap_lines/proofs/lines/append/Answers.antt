@@ -1,5 +1,0 @@
-use Rattle.std.proofs.Common.{rules}
-use Rattle.vap_lines.proofs.lines.append.Goals as goal
-
-pub returns-clause-memory : goal.returns-clause-memory
-returns-clause-memory c = search rules

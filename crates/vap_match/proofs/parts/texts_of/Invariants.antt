@@ -1,0 +1,9 @@
+use Rattle.std.proofs.Common.{◌≡◌, ◌++◌, drop}
+use Rattle.serde_json.specs.View.{items_view}
+use Rattle.vap_match.specs.Parts.{each_item, text_of}
+use Rattle.vap_match.proofs.parts.texts_of.Given as goal
+
+abbrev pub invariant-loop-item : goal.invariant-loop-item
+invariant-loop-item l =
+    l.texts.items ++ each_item text_of (items_view (drop l.item-index l.items))
+    ≡ each_item text_of (items_view l.items)

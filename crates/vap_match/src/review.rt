@@ -1,0 +1,258 @@
+//! From a review to its request.
+
+ghost use Rattle.std.specs.Prelude.{◌≡◌, IfOk, IfErr, IfSome, Some, None, codes, option_and_then};
+ghost use Rattle.serde_json.specs.Find.{get};
+ghost use Rattle.serde_json.specs.Read.{read};
+ghost use Rattle.base_containers.specs.Failures.{Answers, IfFault};
+ghost use Rattle.base_containers.specs.Gathered.{members_of, items_of as gathered, AreInOrder};
+ghost use Rattle.vap_match.specs.Parts.{text_of, text_in, items_of, items_in, each_item};
+ghost use Rattle.vap_match.specs.RequestReading.{asked, text_at, kind_of, resource_of, lists_under, lists_in};
+ghost use Rattle.vap_match.specs.RequestReading.{user_info_of, dry_run_of, names_of, target_of, admission_from, request_of, read_review};
+ghost use Rattle.vap_match.specs.Faults.{least_fault, IsLeast};
+
+use crate::form::is_review;
+use crate::request::{Admission, Kind, Request, Resource, UserInfo};
+use crate::review_fault::{ReviewError, ReviewFault};
+use crate::review_limits::is_short_review;
+use crate::texts::{items_in, items_of, text_in, texts_of};
+use base_containers::{Document, Items, Keyed, Part, Shared, Text, TextMap};
+use std::alloc::{AllocError, Global};
+
+impl Request {
+    /// The request of a review, given by its text and its open document, or the least of the review's faults.
+    pub fn from_text(
+        alloc: Global,
+        text: &str,
+        review: &Part<'_, '_>,
+    ) -> Result<Request, ReviewError>
+        requires { read text.now ≡ Some review.now }
+        ensures exact { Answers (read_review review.now) result }
+        ensures least { IfErr result (IfFault (IsLeast review.now)) }
+    {
+        match fault_of(alloc, review)? {
+            Some(fault) => Err(ReviewError::Fault(fault)),
+            None => Ok(request_of(alloc, text, review)?),
+        }
+    }
+}
+
+fn fault_of(alloc: Global, review: &Part<'_, '_>) -> Result<Option<ReviewFault>, AllocError>
+    ensures exact { IfOk result (λ fault. fault ≡ least_fault review.now) }
+    ensures least { IfOk result (λ fault. IfSome fault (IsLeast review.now)) }
+{
+    if !is_review(alloc, review)? {
+        Ok(Some(ReviewFault::BadReview))
+    } else if !is_short_review(alloc, review)? {
+        Ok(Some(ReviewFault::OverLimit))
+    } else {
+        Ok(None)
+    }
+}
+
+fn request_of(alloc: Global, text: &str, review: &Part<'_, '_>) -> Result<Request, AllocError>
+    requires read { read text.now ≡ Some review.now }
+    requires whole { least_fault review.now ≡ None }
+    ensures { IfOk result (λ request. request ≡ request_of review.now) }
+{
+    let document = Document::new(alloc, text)?;
+    let admission = admission_in(alloc, document, review)?;
+    Ok(Request {
+        admission: Shared::new(alloc, admission)?,
+    })
+}
+
+/// What the request of a review asks, or the review itself if it has none.
+fn admission_in(
+    alloc: Global,
+    document: Document,
+    review: &Part<'_, '_>,
+) -> Result<Admission, AllocError>
+    ensures { IfOk result (λ admission. admission ≡ admission_from document (asked review.now)) }
+{
+    match review.get("request") {
+        Some(request) => admission_of(alloc, document, &request),
+        None => admission_of(alloc, document, review),
+    }
+}
+
+fn admission_of(
+    alloc: Global,
+    document: Document,
+    part: &Part<'_, '_>,
+) -> Result<Admission, AllocError>
+    ensures { IfOk result (λ admission. admission ≡ admission_from document part.now) }
+{
+    let names = names_of(alloc, part)?;
+    let target = target_of(alloc, part)?;
+    let dry_run = dry_run_of(part);
+    Ok(Admission {
+        uid: names.uid,
+        kind: target.kind,
+        resource: target.resource,
+        sub_resource: names.sub_resource,
+        name: names.name,
+        namespace: names.namespace,
+        operation: names.operation,
+        user_info: target.user_info,
+        dry_run,
+        review: document,
+    })
+}
+
+/// A copy of the text of a member, empty if there is none.
+fn copied(alloc: Global, part: &Part<'_, '_>, name: &str) -> Result<Text, AllocError>
+    ensures { IfOk result (λ text. text ≡ text_in (get name.now part.now)) }
+{
+    Text::from_str(alloc, text_in(part, name))
+}
+
+/// A copy of the text of a member of a member, empty if there is none.
+fn text_at(alloc: Global, part: &Part<'_, '_>, outer: &str, inner: &str) -> Result<Text, AllocError>
+    ensures { IfOk result (λ text. text ≡ text_at outer.now inner.now part.now) }
+{
+    match part.get(outer) {
+        Some(found) => Ok(copied(alloc, &found, inner)?),
+        None => Ok(Text::from_str(alloc, "")?),
+    }
+}
+
+fn kind_of(alloc: Global, part: &Part<'_, '_>) -> Result<Kind, AllocError>
+    ensures { IfOk result (λ kind. kind ≡ kind_of part.now) }
+{
+    Ok(Kind {
+        group: text_at(alloc, part, "kind", "group")?,
+        version: text_at(alloc, part, "kind", "version")?,
+        kind: text_at(alloc, part, "kind", "kind")?,
+    })
+}
+
+fn resource_of(alloc: Global, part: &Part<'_, '_>) -> Result<Resource, AllocError>
+    ensures { IfOk result (λ resource. resource ≡ resource_of part.now) }
+{
+    Ok(Resource {
+        group: text_at(alloc, part, "resource", "group")?,
+        version: text_at(alloc, part, "resource", "version")?,
+        resource: text_at(alloc, part, "resource", "resource")?,
+    })
+}
+
+fn list_under(
+    alloc: Global,
+    name: &str,
+    member: &Part<'_, '_>,
+) -> Result<Keyed<Items<Text>>, AllocError>
+    ensures { IfOk result (λ list. (list.key ≡ name.now) × (list.value ≡ each_item text_of (items_of member.now))) }
+{
+    Ok(Keyed {
+        key: Text::from_str(alloc, name)?,
+        value: texts_of(alloc, items_of(alloc, member)?.as_slice())?,
+    })
+}
+
+fn lists_under(
+    alloc: Global,
+    members: &[(&str, Part<'_, '_>)],
+) -> Result<TextMap<Items<Text>>, AllocError>
+    requires { AreInOrder members.now }
+    ensures { IfOk result (λ lists. lists ≡ lists_under (members_of members.now)) }
+{
+    let mut lists = Vec::with_capacity(alloc, members.len())?;
+    for member in members {
+        lists.push(list_under(alloc, member.0, &member.1)?)?;
+    }
+    Ok(TextMap::from_vec(lists))
+}
+
+/// The texts under each name of `extra`.
+fn extra_of(alloc: Global, part: &Part<'_, '_>) -> Result<TextMap<Items<Text>>, AllocError>
+    ensures { IfOk result
+        (λ lists. lists ≡ lists_in (option_and_then (get (codes "extra")) (get (codes "userInfo") part.now))) }
+{
+    match part.get("userInfo") {
+        Some(found) => lists_at(alloc, found.get("extra")),
+        None => Ok(TextMap::new(alloc)),
+    }
+}
+
+fn lists_at(alloc: Global, part: Option<Part<'_, '_>>) -> Result<TextMap<Items<Text>>, AllocError>
+    ensures { IfOk result (λ lists. lists ≡ lists_in part.entry) }
+{
+    match part {
+        Some(found) => match found.members(alloc)? {
+            Some(members) => lists_under(alloc, members.as_slice()),
+            None => Ok(TextMap::new(alloc)),
+        },
+        None => Ok(TextMap::new(alloc)),
+    }
+}
+
+/// The texts of `groups`.
+fn groups_of(alloc: Global, part: &Part<'_, '_>) -> Result<Items<Text>, AllocError>
+    ensures { IfOk result (λ texts. texts
+        ≡ each_item text_of (items_in (option_and_then (get (codes "groups")) (get (codes "userInfo") part.now)))) }
+{
+    match part.get("userInfo") {
+        Some(found) => texts_of(alloc, items_in(alloc, &found, "groups")?.as_slice()),
+        None => Ok(Items::new(alloc)),
+    }
+}
+
+fn user_info_of(alloc: Global, part: &Part<'_, '_>) -> Result<UserInfo, AllocError>
+    ensures { IfOk result (λ user. user ≡ user_info_of part.now) }
+{
+    Ok(UserInfo {
+        username: text_at(alloc, part, "userInfo", "username")?,
+        uid: text_at(alloc, part, "userInfo", "uid")?,
+        groups: groups_of(alloc, part)?,
+        extra: extra_of(alloc, part)?,
+    })
+}
+
+fn dry_run_of(part: &Part<'_, '_>) -> bool
+    ensures { result ≡ dry_run_of part.now }
+{
+    match part.get("dryRun") {
+        Some(found) => found.as_bool().unwrap_or(false),
+        None => false,
+    }
+}
+
+/// The texts of a request itself.
+#[derive(Drop)]
+struct Names {
+    uid: Text,
+    sub_resource: Text,
+    name: Text,
+    namespace: Text,
+    operation: Text,
+}
+
+fn names_of(alloc: Global, part: &Part<'_, '_>) -> Result<Names, AllocError>
+    ensures { IfOk result (λ names. names ≡ names_of part.now) }
+{
+    Ok(Names {
+        uid: copied(alloc, part, "uid")?,
+        sub_resource: copied(alloc, part, "subResource")?,
+        name: copied(alloc, part, "name")?,
+        namespace: copied(alloc, part, "namespace")?,
+        operation: copied(alloc, part, "operation")?,
+    })
+}
+
+/// What a request is on, and whose it is.
+#[derive(Drop)]
+struct Target {
+    kind: Kind,
+    resource: Resource,
+    user_info: UserInfo,
+}
+
+fn target_of(alloc: Global, part: &Part<'_, '_>) -> Result<Target, AllocError>
+    ensures { IfOk result (λ target. target ≡ target_of part.now) }
+{
+    Ok(Target {
+        kind: kind_of(alloc, part)?,
+        resource: resource_of(alloc, part)?,
+        user_info: user_info_of(alloc, part)?,
+    })
+}

@@ -1,8 +1,0 @@
-use Rattle.std.proofs.Common.{take}
-use Rattle.vap_params.specs.Blocks.{joined}
-use Rattle.vap_params.specs.Tables.{StandBelow}
-use Rattle.vap_params.proofs.blocks.block_for.Given as goal
-
--- the blocks so far stand below the key
-abbrev pub invariant-loop-at : goal.invariant-loop-at
-invariant-loop-at g l = StandBelow l.key (joined (take l.at l.blocks))

@@ -1,3 +1,0 @@
-pub mod Least
-pub mod WorkedRows
-pub mod Crossing

@@ -1,0 +1,60 @@
+//! What is judged.
+
+ghost use Rattle.std.specs.Prelude.{◌≡◌};
+ghost use Rattle.std.specs.Option.{option_copied};
+ghost use Rattle.vap_policy_set.specs.Ready.{type_at};
+ghost use Rattle.vap_policy_set.specs.Sets.{kinds_of, namespace_in};
+ghost use Rattle.vap_policy_programs.specs.Held.{IsHeldAt};
+ghost use Rattle.vap_policy.specs.Judging.{case_with, is_matched};
+ghost use Rattle.vap_policy.specs.Places.{kind_at};
+ghost use Rattle.vap_policy.specs.Ready.{IsCase};
+ghost use Rattle.vap_policy.specs.Shown.{case_of};
+
+use vap_match::{Labels, OpenRequest, Rules, matches};
+use vap_policy_programs::Held;
+use vap_policy_set::PolicySet;
+use vap_read::Object;
+use vap_read_objects::{Kind, labels_in};
+
+/// A request at a set, with its kind, if that is known, what its names hold, and the labels of its namespace.
+#[derive(Drop)]
+pub struct Case<'a> {
+    pub set: &'a PolicySet,
+    pub request: &'a OpenRequest<'a, 'a, 'a>,
+    pub kind: Option<&'a Kind>,
+    pub held: &'a Held,
+    pub labels: Labels<'a, 'a>,
+}
+
+impl<'a> Case<'a> {
+    /// A request at a set, with the Namespace that is held under the name of its own.
+    pub fn new(
+        set: &'a PolicySet,
+        request: &'a OpenRequest<'a, 'a, 'a>,
+        kind: Option<&'a Kind>,
+        namespace: Option<&'a Object>,
+        held: &'a Held,
+    ) -> Case<'a>
+        requires kind { option_copied kind ≡ kind_at (kinds_of set.now) request.now.request.now.admission }
+        requires namespace { option_copied namespace ≡ namespace_in request.now.request.now.admission.namespace set.now }
+        requires held { IsHeldAt (type_at (option_copied kind)) held.now }
+        ensures is { case_of result ≡ case_with set.now request.now.request.now.admission (option_copied kind.entry) held.now }
+        ensures ready { IsCase result }
+    {
+        Case {
+            set,
+            request,
+            kind,
+            held,
+            labels: labels_in(namespace),
+        }
+    }
+
+    /// Whether rules match the request.
+    pub fn is_matched(&self, rules: &Rules) -> bool
+        requires { IsCase self.now }
+        ensures { result ≡ is_matched (case_of self.now) rules.now }
+    {
+        matches(rules, self.request, &self.labels)
+    }
+}

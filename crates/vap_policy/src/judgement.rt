@@ -1,0 +1,167 @@
+//! The verdict on a request.
+
+ghost use Rattle.std.specs.Prelude.{◌≡◌, ◌≤◌, [], IfOk, IsErrOf};
+ghost use Rattle.std.specs.Option.{option_copied};
+ghost use Rattle.base_containers.specs.declared.failed.Failed.TheVariants.{Fault};
+ghost use Rattle.cel_machine.specs.declared.fault.RunFault.TheVariants.{Pattern};
+ghost use Rattle.cel_value.specs.declared.cel_type.CelType as type;
+ghost use Rattle.vap_policy.specs.Verdicts.{unfit_verdict};
+ghost use Rattle.vap_schema.specs.FitNames.{fit_fault_text};
+ghost use Rattle.vap_policy_set.specs.Ready.{type_at};
+ghost use Rattle.vap_policy_set.specs.Sets.{kinds_of};
+ghost use Rattle.vap_policy.specs.Evaluations.{budget, found_by};
+ghost use Rattle.vap_policy.specs.Judging.{evaluations_of, verdict_at, verdict_by, verdict_of};
+ghost use Rattle.vap_policy.specs.PassedOver.{NoneIsPassedOver};
+ghost use Rattle.vap_policy.specs.RequestPatterns.{KindMayMatch, MayMatch, OneMayMatch};
+ghost use Rattle.vap_policy.specs.Places.{kind_at};
+ghost use Rattle.vap_policy.specs.Priced.{ArePriced};
+ghost use Rattle.vap_policy.specs.Ready.{IsCase};
+ghost use Rattle.vap_policy.specs.Shown.{case_of};
+
+use crate::case::Case;
+use crate::decision::unfit_verdict;
+use crate::evaluations::{BUDGET, Judging};
+use crate::findings::Findings;
+use crate::judge_error::JudgeError;
+use crate::places::{is_exempt, kind_at};
+use crate::verdict::Verdict;
+use base_containers::Part;
+use cel_machine::Matchers;
+use cel_value::CelType;
+use json::Scratch;
+use std::alloc::{AllocError, Global};
+use vap_match::{OpenRequest, Request};
+use vap_policy_programs::held_at;
+use vap_policy_set::PolicySet;
+use vap_read_objects::Kind;
+use vap_schema::FitFault;
+
+/// The verdict on a case.
+fn judge_case(
+    alloc: Global,
+    case: &Case<'_>,
+    matchers: &mut Matchers,
+) -> Result<Verdict, JudgeError>
+    requires { IsCase case.now }
+    ensures verdict { IfOk result (λ verdict. verdict
+        ≡ verdict_by case.now.set.now.events (found_by (evaluations_of (case_of case.now)))) }
+    ensures spent { IfOk result (λ verdict. verdict.charged ≤ budget) }
+    ensures pattern { IsErrOf result (Fault Pattern) → OneMayMatch (evaluations_of (case_of case.now)) }
+{
+    let findings = Findings::new(alloc);
+    let mut judging = Judging {
+        alloc,
+        case,
+        matchers,
+        findings,
+        left: BUDGET,
+    };
+    judging.all()?;
+    Ok(judging.findings.verdict(alloc, case.set.events())?)
+}
+
+/// The verdict if nothing is evaluated.
+fn exempt_verdict(alloc: Global, set: &PolicySet) -> Result<Verdict, AllocError>
+    ensures { IfOk result (λ verdict. verdict ≡ verdict_by set.now.events (found_by [])) }
+{
+    Findings::new(alloc).verdict(alloc, set.events())
+}
+
+/// The type of a request's objects: Opaque, if the kind is not known.
+fn type_at<'a>(kind: Option<&'a Kind>, opaque: &'a CelType) -> &'a CelType
+    requires { opaque.now ≡ type.Opaque }
+    ensures { result.now ≡ type_at (option_copied kind.entry) }
+{
+    match kind {
+        Some(kind) => match &kind.object_type {
+            Some(cel_type) => cel_type,
+            None => opaque,
+        },
+        None => opaque,
+    }
+}
+
+/// The verdict if the object is no value of its type.
+fn unfit(alloc: Global, set: &PolicySet, fault: FitFault) -> Result<Verdict, AllocError>
+    ensures { IfOk result (λ verdict. verdict ≡ unfit_verdict (fit_fault_text fault) set.now.events) }
+{
+    let message = format!(in alloc; "{fault}")?;
+    unfit_verdict(alloc, message.as_str(), set.events())
+}
+
+/// The verdict on a request of a kind, if it is known.
+fn judge_at(
+    alloc: Global,
+    set: &PolicySet,
+    request: &OpenRequest<'_, '_, '_>,
+    kind: Option<&Kind>,
+    matchers: &mut Matchers,
+) -> Result<Verdict, JudgeError>
+    requires { option_copied kind ≡ kind_at (kinds_of set.now) request.now.request.now.admission }
+    ensures verdict { IfOk result (λ verdict. verdict ≡ verdict_at set.now request.now.request.now.admission (option_copied kind.entry)) }
+    ensures spent { IfOk result (λ verdict. verdict.charged ≤ budget) }
+    ensures pattern { IsErrOf result (Fault Pattern) → KindMayMatch set.now request.now.request.now.admission (option_copied kind.entry) }
+{
+    let opaque = CelType::Opaque;
+    let name = request.request.admission().namespace.as_str();
+    let namespace = set.namespace(alloc, name)?;
+    match held_at(
+        alloc,
+        set.fixed_types(),
+        namespace,
+        type_at(kind, &opaque),
+        request,
+    ) {
+        Ok(Ok(held)) => {
+            let case = Case::new(set, request, kind, namespace, &held);
+            judge_case(alloc, &case, matchers)
+        }
+        Ok(Err(fault)) => Ok(unfit(alloc, set, fault)?),
+        Err(error) => Err(JudgeError::from(error)),
+    }
+}
+
+/// The same of a request, whose review is opened for it.
+fn judge_opened(
+    alloc: Global,
+    set: &PolicySet,
+    request: &Request,
+    kind: Option<&Kind>,
+    matchers: &mut Matchers,
+) -> Result<Verdict, JudgeError>
+    requires { option_copied kind ≡ kind_at (kinds_of set.now) request.now.admission }
+    ensures verdict { IfOk result (λ verdict. verdict ≡ verdict_at set.now request.now.admission (option_copied kind.entry)) }
+    ensures spent { IfOk result (λ verdict. verdict.charged ≤ budget) }
+    ensures pattern { IsErrOf result (Fault Pattern) → KindMayMatch set.now request.now.admission (option_copied kind.entry) }
+{
+    let mut scratch = Scratch::new(alloc);
+    let tape = request.admission().review.tape(alloc, &mut scratch)?;
+    let open = OpenRequest::new(request, Part::new(tape.root()));
+    judge_at(alloc, set, &open, kind, matchers)
+}
+
+/// The verdict of a set on a request, at the revision that is the number of the set's events. It is given up if memory runs out,
+/// or if a pattern that was built before is not built again. The latter happens only if a policy runs that gives `matches` a literal
+/// text. No policy that matches the request is passed over, none charges more than its price for one param, and all together charge
+/// at most the request's budget: a policy whose price is more than what is left of the budget is not run, which is a failure of it.
+#[tactic(auto, unfolding(crate::specs::Judging::verdict_of))]
+pub fn judge(
+    alloc: Global,
+    set: &PolicySet,
+    request: &Request,
+    matchers: &mut Matchers,
+) -> Result<Verdict, JudgeError>
+    ensures exact { IfOk result (λ verdict. verdict ≡ verdict_of set.now request.now) }
+    ensures none_passed_over { NoneIsPassedOver set.now request.now.admission }
+    ensures priced { ArePriced set.now (kind_at (kinds_of set.now) request.now.admission) }
+    ensures spent { IfOk result (λ verdict. verdict.charged ≤ budget) }
+    ensures pattern { IsErrOf result (Fault Pattern) → MayMatch set.now request.now.admission }
+{
+    let kinds = set.kinds();
+    let admission = request.admission();
+    if is_exempt(&admission.resource) {
+        return Ok(exempt_verdict(alloc, set)?);
+    }
+    let kind = kind_at(kinds, admission);
+    judge_opened(alloc, set, request, kind, matchers)
+}

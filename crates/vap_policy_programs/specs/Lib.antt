@@ -1,0 +1,10 @@
+pub mod RequestType
+pub mod RequestValue
+pub mod Held
+pub mod Names
+pub mod Scopes
+pub mod Wanted
+pub mod Pairs
+pub mod Defined
+pub mod Expressions
+pub mod Ready

@@ -1,0 +1,33 @@
+-- Resources of groups, and which of them policies name.
+use Rattle.std.specs.Prelude.{ℕ, Bool, ◌&&◌, if◌then◌else◌, List, [], map}
+use Rattle.std.specs.List.{flat_map}
+use Rattle.std.specs.Str.{bytes_eq}
+use Rattle.vap_match.specs.Cover.{before_slash}
+use Rattle.vap_match.specs.declared.rules.Rule.{Rule}
+use Rattle.vap_policy_set.specs.Covering.{is_wide, rules_in}
+use Rattle.vap_policy_set.specs.declared.bound.BoundPolicy.{BoundPolicy}
+use Rattle.vap_policy_set.specs.declared.places.Place.{Place}
+
+-- a place is this resource of this group
+abbrev pub is_place : List ℕ → List ℕ → Place → Bool
+is_place group resource k = bytes_eq k.group group && bytes_eq k.resource resource
+
+-- the resource of a pattern in a group
+abbrev pub place_of : List ℕ → List ℕ → Place
+place_of group pattern = record { group = group; resource = before_slash pattern }
+
+-- the places that patterns name in a group
+abbrev pub group_places : List (List ℕ) → List ℕ → List Place
+group_places patterns group = map (place_of group) patterns
+
+-- the places that a rule names
+abbrev pub rule_places : Rule → List Place
+rule_places rule = flat_map (group_places rule.resources) rule.api_groups
+
+-- the places that a policy names, unless it may cover more
+unfoldable pub places_of : BoundPolicy → List Place
+places_of p = if is_wide p then [] else flat_map rule_places (rules_in p)
+
+-- those that policies name
+abbrev pub places_in : List BoundPolicy → List Place
+places_in ps = flat_map places_of ps

@@ -1,0 +1,22 @@
+-- Policies that are still bound as they were.
+use Rattle.std.specs.Prelude.{◌≡◌, List}
+use Rattle.std.specs.List.{All}
+use Rattle.base_containers.specs.declared.text.Keyed.{Keyed}
+use Rattle.vap_read.specs.declared.binding.Binding.{Binding}
+use Rattle.vap_read_objects.specs.declared.kind.Kind.{Kind}
+use Rattle.vap_read.specs.declared.policy.Policy.{Policy}
+use Rattle.vap_policy_set.specs.Sets.{bound_of}
+use Rattle.vap_policy_set.specs.declared.bound.BoundPolicy.{BoundPolicy}
+use Rattle.vap_policy_set.specs.declared.choice.Choice.{Choice}
+
+-- a policy under its name
+abbrev pub named_of : BoundPolicy → Keyed Policy
+named_of b = record { key = b.name; value = b.policy }
+
+-- a policy is bound as it is by a choice, with these kinds and bindings
+abbrev pub IsBound : Choice → List Kind → List (Keyed Binding) → BoundPolicy → Type 0
+IsBound choice kinds bindings b = b ≡ bound_of choice kinds bindings (named_of b)
+
+-- so is each of these
+abbrev pub AreBound : Choice → List Kind → List (Keyed Binding) → List BoundPolicy → Type 0
+AreBound choice kinds bindings bs = All (IsBound choice kinds bindings) bs

@@ -1,5 +1,0 @@
-pub mod Standing
-pub mod Typed
-pub mod Each
-pub mod Unverified
-pub mod Crossing

@@ -1,5 +1,0 @@
-use Rattle.vap_report.proofs.Clean.{clean}
-use Rattle.vap_report.proofs.command.told_of.Goals as goal
-
-pub returns : goal.returns
-returns c = clean _ _ _ _ c.status.ensures c.in_ok-report.ensures

@@ -1,4 +1,0 @@
-pub mod Counts
-pub mod EntryOrder
-pub mod Spelled
-pub mod Within

@@ -1,5 +1,0 @@
-use Rattle.std.proofs.Common.{rules}
-use Rattle.vap_request.proofs.limits.is_short_request.Goals as goal
-
-pub returns-then-short_at-5 : goal.returns-then-short_at-5
-returns-then-short_at-5 c = search rules

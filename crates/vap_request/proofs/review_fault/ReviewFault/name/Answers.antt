@@ -1,5 +1,0 @@
-use Rattle.std.proofs.Common.{rules}
-use Rattle.vap_request.proofs.review_fault.ReviewFault.name.Goals as goal
-
-pub returns-in-OverLimit : goal.returns-in-OverLimit
-returns-in-OverLimit c = search rules

@@ -1,7 +1,0 @@
-use Rattle.std.proofs.Common.{◌≡◌, drop}
-use Rattle.json_documents.specs.Gathered.{items_of}
-use Rattle.json_members.specs.Forms.{all_items, is_text}
-use Rattle.vap_request.proofs.texts.are_texts.Given as goal
-
-abbrev pub invariant-loop-item : goal.invariant-loop-item
-invariant-loop-item l = all_items is_text (items_of (drop l.item-index l.items)) ≡ all_items is_text (items_of l.items)

@@ -1,2 +1,0 @@
-pub mod OnlyFault
-pub mod WorkedRows

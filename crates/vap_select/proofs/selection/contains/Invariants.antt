@@ -1,7 +1,0 @@
-use Rattle.std.proofs.Common.{◌≡◌, drop}
-use Rattle.std.specs.List.{list_any}
-use Rattle.std.specs.Str.{bytes_eq}
-use Rattle.vap_select.proofs.selection.contains.Given as goal
-
-abbrev pub invariant-loop-one : goal.invariant-loop-one
-invariant-loop-one l = list_any (bytes_eq l.text) (drop l.one-index l.texts) ≡ list_any (bytes_eq l.text) l.texts

@@ -1,5 +1,0 @@
-use Rattle.std.proofs.Common.{rules}
-use Rattle.vap_select.proofs.selection.meets.Goals as goal
-
-pub returns-in-Exists : goal.returns-in-Exists
-returns-in-Exists c = search rules

@@ -1,8 +1,0 @@
-use Rattle.std.proofs.Common.{rules}
-use Rattle.vap_select.proofs.selection.selects.Goals as goal
-
-pub returns-then-has_all : goal.returns-then-has_all
-returns-then-has_all c = search rules
-
-pub returns-else-has_all : goal.returns-else-has_all
-returns-else-has_all c = search rules

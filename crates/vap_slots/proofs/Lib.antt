@@ -1,3 +1,0 @@
-pub mod EntryOrder
-pub mod RequestFits
-pub mod Crossing

@@ -1,3 +1,0 @@
-pub mod RequestType
-pub mod RequestValue
-pub mod Held
