@@ -6,6 +6,8 @@ there is none, else as many failed as there are.
 import sys
 from pathlib import Path
 
+from outcome import ended_without
+
 TOP = Path(__file__).resolve().parent.parent
 LONGEST, MOST = 140, 500
 
@@ -23,11 +25,7 @@ def faults(file):
 
 def main():
     files = [it for end in ("rt", "antt") for it in sorted((TOP / "crates").glob(f"*/**/*.{end}")) if "out" not in it.parts]
-    found = [fault for file in files for fault in faults(file)]
-    for fault in found:
-        print(fault)
-    print(f"{0 if found else 1} passed, {len(found)} failed")
-    return 1 if found else 0
+    return ended_without(fault for file in files for fault in faults(file))
 
 
 if __name__ == "__main__":

@@ -7,6 +7,8 @@ import re
 import sys
 from pathlib import Path
 
+from outcome import ended_without
+
 TOP = Path(__file__).resolve().parent.parent
 # Where the first four floors end: nothing of the first three speaks of judging, nothing of the first two of Kubernetes.
 BEGINNINGS = [("base_",), ("cel_",), ("vap_schema", "vap_match", "vap_read"), ("vap_policy", "vap_watch", "vap_audit", "vap_plane", "vap_cli"), ("vap",)]
@@ -68,11 +70,7 @@ def faults():
 
 
 def main():
-    found = list(faults())
-    for fault in found:
-        print(fault)
-    print(f"{0 if found else 1} passed, {len(found)} failed")
-    return 1 if found else 0
+    return ended_without(faults())
 
 
 if __name__ == "__main__":
