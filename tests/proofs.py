@@ -23,8 +23,6 @@ from wrong_bodies import Edits
 
 # The memory, in KiB, that has to be free where a check of edits begins beside the proofs.
 ROOM = 6 * 2**20
-# The ends of the two longest chains of crates.
-ENDS = ("vap", "worker_calls")
 
 
 def has_idle_processor():
@@ -103,7 +101,7 @@ def hear(line):
 def main(words):
     origin, is_anew = Path(words[0]).resolve(), "--anew" in words[1:]
     with tempfile.TemporaryDirectory(prefix="proofs-") as room:
-        proofs = Proofs(Listed(TOP), ENDS, Path(room), hear)
+        proofs = Proofs(Listed(TOP), Path(room), hear)
         # (where a trial looks for libraries)
         edits.library = lambda crate: library(proofs, crate)
         tried = Edits(copied_edits(origin, Path(room) / "edits"), origin / "tests/refused.txt", Turns(proofs).wait)
@@ -115,7 +113,7 @@ def main(words):
         try_beside(proofs, tried, trials, os.cpu_count() or 1)
         made.join()
     tried.tell()
-    whole = proofs.whole()
+    whole = proofs.whole
     print(f"{whole.passed + tried.passed + tried.recorded} passed, {whole.failed + tried.failed} failed")
     return 1 if whole.failed + tried.failed else 0
 

@@ -1,9 +1,9 @@
 """In which order `rt ci` proves the crates, so that no processor is idle.
 
-What uses NARROW is nearly a chain: each crate uses the one before it. All that this chain needs beside itself comes first: as many
-crates side by side as there are processors, with one job each (RT_JOBS). NARROW begins as soon as what it uses is proved, in a run of its
-own, where `rt ci` chooses by itself and gives a crate that is alone more jobs. Then a run for each end of the chain proves it likewise,
-beside the run over all crates: what one has proved the others take, and each waits for what another is at.
+Each crate is proved by a run of its own, in a copy of the crates that it uses, once these are proved, and first those for which the most
+lines wait. What one run has proved the others take. A crate beside which a processor would be idle may be checked by several
+jobs, of which `rt ci` finds out how many there is memory for, if none does so for which more lines wait; any other is checked by one
+(RT_JOBS).
 """
 import os
 import re
@@ -13,10 +13,11 @@ import threading
 import time
 from pathlib import Path
 
-NARROW = "vap_policy_set"
 # What a check holds at most, in KiB. (`rt ci` by itself counts with nearly twice as much, and proves fewer side by side than there is room for.)
 HELD = 5 * 2**20
+# What `rt ci` says of a crate that is built, and of one that another run has proved or is at.
 BUILT = re.compile(r"rt: (\w+) (?:proved|is kept)")
+ELSEWHERE = re.compile(r"rt: (\w+)(?: is kept|: another run)")
 COUNT = re.compile(r"(\d+) passed, (\d+) failed")
 
 
@@ -25,9 +26,9 @@ def available():
     return int(re.search(r"MemAvailable: +(\d+)", Path("/proc/meminfo").read_text(encoding="utf-8"))[1])
 
 
-def side_by_side():
-    """How many checks there are processors and memory for."""
-    return max(1, min(os.cpu_count() or 1, available() // HELD))
+def processors():
+    """How many checks may run side by side."""
+    return int(os.environ.get("RT_JOBS") or os.cpu_count() or 1)
 
 
 class Listed:
@@ -45,13 +46,18 @@ class Listed:
             found.update(self.below[name] if name in found else ())
         return [name for name in self.below if name in found]
 
-    def before_the_chain(self, ends):
-        """All that the chain up to some crates needs beside itself."""
-        chain = set()
-        for name in self.needed(ends):
-            if name == NARROW or chain.intersection(self.below[name]):
-                chain.add(name)
-        return self.needed({it for name in chain for it in self.below[name]} - chain)
+    def length(self, crate):
+        """How many lines of code, definitions and proofs a crate has."""
+        files = [it for end in ("rt", "antt") for it in (self.top / "crates" / crate).rglob(f"*.{end}") if "out" not in it.parts]
+        return sum(it.read_text(encoding="utf-8").count("\n") for it in files)
+
+    def lengths(self):
+        """For each crate the lines of the longest chain of crates that begins with it, each of which uses the one before."""
+        found = {}
+        for name in reversed(self.below):
+            above = [found[it] for it in found if name in self.below[it]]
+            found[name] = self.length(name) + max(above, default=0)
+        return found
 
     def copy(self, crates, folder):
         """Copies some crates without their edits."""
@@ -62,11 +68,13 @@ class Listed:
 
 
 class Run:
-    """A run of `rt ci` in a folder: the crates that it has built so far, whether it has ended, and the counts of its last line. `hear` gets
-    each of its lines."""
+    """A run of `rt ci` in a folder, with some jobs or as many as it chooses: the crates that it has built so far, whether it has ended, and
+    the counts of its last line. `hear` gets each of its lines, but for those that tell what other runs did for another crate than `of`, if one
+    is named."""
 
-    def __init__(self, folder, jobs, hear):
-        self.folder, self.built, self.has_ended, self.passed, self.failed = folder, set(), False, 0, 1
+    def __init__(self, folder, jobs, hear, of=None):
+        self.folder, self.jobs, self.of, self.built = folder, jobs, of, set()
+        self.has_ended, self.passed, self.failed = False, 0, 1
         # (what RT_JOBS is from outside holds for each run)
         env = {"RT_JOBS": str(jobs), **os.environ} if jobs else {**os.environ}
         how = {"stdin": subprocess.DEVNULL, "stdout": subprocess.PIPE, "stderr": subprocess.STDOUT, "text": True, "errors": "replace"}
@@ -77,12 +85,13 @@ class Run:
     def follow(self, hear):
         """Hands its lines on, up to its end."""
         for line in self.ran.stdout:
-            built, count = BUILT.match(line), COUNT.match(line)
+            built, elsewhere, count = BUILT.match(line), ELSEWHERE.match(line), COUNT.match(line)
             if built:
                 self.built.add(built[1])
             if count:
                 self.passed, self.failed = int(count[1]), int(count[2])
-            hear(line)
+            if not (elsewhere and self.of not in (None, elsewhere[1])):
+                hear(line)
         self.failed = self.failed or int(self.ran.wait() != 0)
         self.has_ended = True
 
@@ -91,55 +100,51 @@ class Run:
         self.reader.join()
         return not self.failed
 
-    def wait_for(self, names):
-        """Waits until these crates are built, or the run has ended."""
-        while not (self.has_ended or self.built.issuperset(names)):
-            time.sleep(1)
-
 
 class Proofs:
-    """The proofs of all crates of a list, in its own folder, and those that come before, in copies below `room`. `ends` are the crates at
-    which the longest chains end, and `hear` gets each line of each run."""
+    """The proofs of all crates of a list, each in a copy below `room`, and then all of them in the list's own folder. `hear` gets each line
+    of each run."""
 
-    def __init__(self, listed, ends, room, hear):
-        self.listed, self.ends, self.room, self.hear = listed, ends, room, hear
-        self.jobs, self.runs, self.has_ended = side_by_side(), [], False
+    def __init__(self, listed, room, hear):
+        self.listed, self.room, self.hear = listed, room, hear
+        self.lengths, self.runs, self.whole, self.has_ended = listed.lengths(), {}, None, False
 
     def make(self):
         """Makes them all. Answers whether all is well."""
         try:
-            has_chain = self.jobs > 1 and "RT_JOBS" not in os.environ and self.begin_chains()
-            self.run(self.listed.top, self.jobs - has_chain)
-            return all([run.wait() for run in self.runs])
+            self.prove_each()
+            # (It takes what is proved, and says what is not.)
+            self.whole = Run(self.listed.top, None, self.hear)
+            return self.whole.wait()
         finally:
             self.has_ended = True
 
-    def begin_chains(self):
-        """Proves what comes first, and NARROW beside the last of it; then begins the chain to each end. Answers whether they have begun."""
-        first, narrow = self.listed.before_the_chain(self.ends), self.listed.needed([NARROW])
-        self.run(self.copy(first, "first"), self.jobs).wait_for(set(narrow) - {NARROW})
-        if not self.run(self.copy(narrow, "narrow"), None).wait():
-            return False
-        for end in self.ends:
-            self.run(self.copy(self.listed.needed([end]), end), None).wait_for(narrow)
-        # (until they are at the crate after NARROW)
-        time.sleep(5)
-        return True
+    def prove_each(self):
+        """Proves each crate whose libraries are proved."""
+        left = sorted(self.lengths, key=self.lengths.get, reverse=True)
+        while True:
+            ready = [it for it in left if all(map(self.place_of, self.listed.below[it]))]
+            running = [it for it, run in self.runs.items() if not run.has_ended]
+            if ready and len(running) < processors() and (not running or available() >= HELD):
+                left.remove(ready[0])
+                self.begin(ready[0], running, len(ready))
+            elif not ready and not running:
+                return
+            # (until a check holds what it needs, or ends)
+            time.sleep(1)
 
-    def copy(self, names, to):
+    def begin(self, crate, running, ready):
+        """Begins a crate beside those that are running, the first of some that are ready."""
+        has_idle = len(running) + ready < processors()
         # (for whichever user a program is run as)
         self.room.chmod(0o755)
-        self.listed.copy(names, self.room / to)
-        return self.room / to
-
-    def run(self, folder, jobs):
-        self.runs.append(Run(folder, jobs, self.hear))
-        return self.runs[-1]
-
-    def whole(self):
-        """The run over all crates, if it has begun."""
-        return next((run for run in self.runs if run.folder == self.listed.top), None)
+        self.listed.copy(self.listed.needed([crate]), self.room / crate)
+        if has_idle and all(self.lengths[crate] > self.lengths[it] for it in running if self.runs[it].jobs is None):
+            self.runs[crate] = Run(self.room / crate, None, self.hear, crate)
+        else:
+            self.runs[crate] = Run(self.room / crate, 1, self.hear, crate)
 
     def place_of(self, crate):
-        """The folder in which a library is, if it is built."""
-        return next((run.folder for run in self.runs if crate in run.built), None)
+        """The folder in which a crate is built, if it is."""
+        run = self.runs.get(crate)
+        return run.folder if run and crate in run.built else None
