@@ -1,8 +1,8 @@
 """In which order `rt ci` proves the crates, so that no processor is idle.
 
 Each crate is proved by a run of its own, in a copy of the crates that it uses, once these are proved, and first those for which the most
-lines wait. What one run has proved the others take. A crate beside which a processor would be idle may be checked by several
-jobs, of which `rt ci` finds out how many there is memory for, if none does so for which more lines wait; any other is checked by one
+lines wait. What one run has proved the others take. The crate of all these for which the most lines wait is checked by several jobs, of
+which `rt ci` finds out how many there is memory for, and so is one beside which processors would be idle; any other is checked by one
 (RT_JOBS).
 """
 import os
@@ -15,6 +15,8 @@ from pathlib import Path
 
 # What a check holds at most, in KiB. (`rt ci` by itself counts with nearly twice as much, and proves fewer side by side than there is room for.)
 HELD = 5 * 2**20
+# How many jobs `rt ci` gives a crate that is alone.
+SEVERAL = 2
 # What `rt ci` says of a crate that is built, and of one that another run has proved or is at.
 BUILT = re.compile(r"rt: (\w+) (?:proved|is kept)")
 ELSEWHERE = re.compile(r"rt: (\w+)(?: is kept|: another run)")
@@ -124,25 +126,26 @@ class Proofs:
         left = sorted(self.lengths, key=self.lengths.get, reverse=True)
         while True:
             ready = [it for it in left if all(map(self.place_of, self.listed.below[it]))]
-            running = [it for it, run in self.runs.items() if not run.has_ended]
+            running = [it for it, run in self.runs.items() if not (run.has_ended or it in run.built)]
             if ready and len(running) < processors() and (not running or available() >= HELD):
                 left.remove(ready[0])
-                self.begin(ready[0], running, len(ready))
+                self.begin(ready[0], self.jobs(ready[0], running, ready))
             elif not ready and not running:
                 return
             # (until a check holds what it needs, or ends)
             time.sleep(1)
 
-    def begin(self, crate, running, ready):
-        """Begins a crate beside those that are running, the first of some that are ready."""
-        has_idle = len(running) + ready < processors()
+    def jobs(self, crate, running, ready):
+        """How many jobs a crate may have beside some that are running and others that are ready, or None, if `rt ci` may choose."""
+        is_longest = all(self.lengths[crate] >= self.lengths[it] for it in running + ready)
+        idle = processors() - sum(self.runs[it].jobs or SEVERAL for it in running) - (len(ready) - 1)
+        return None if is_longest or idle >= SEVERAL else 1
+
+    def begin(self, crate, jobs):
         # (for whichever user a program is run as)
         self.room.chmod(0o755)
         self.listed.copy(self.listed.needed([crate]), self.room / crate)
-        if has_idle and all(self.lengths[crate] > self.lengths[it] for it in running if self.runs[it].jobs is None):
-            self.runs[crate] = Run(self.room / crate, None, self.hear, crate)
-        else:
-            self.runs[crate] = Run(self.room / crate, 1, self.hear, crate)
+        self.runs[crate] = Run(self.room / crate, jobs, self.hear, crate)
 
     def place_of(self, crate):
         """The folder in which a crate is built, if it is."""
