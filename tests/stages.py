@@ -29,8 +29,9 @@ def available():
 
 
 def processors():
-    """How many checks may run side by side."""
-    return int(os.environ.get("RT_JOBS") or os.cpu_count() or 1)
+    """How many checks may run side by side: as many as RT_JOBS says from outside, else one a processor."""
+    number = os.environ.get("RT_JOBS", "")
+    return int(number) if number.isdigit() and int(number) else os.cpu_count() or 1
 
 
 class Listed:

@@ -6,13 +6,13 @@ files (record.py) and is passed by; with names of crates it tries these alone an
 refused gets its line. With --unedited in front it tries the copies of functions without their edits, and each must be proved.
 The last line is 'N passed, M failed'.
 """
-import os
 import sys
 from concurrent.futures import ThreadPoolExecutor
 from pathlib import Path
 
 from edits import CRATES, TOP, Trial, library
 from record import Record, Tree
+from stages import processors
 
 
 class Edits:
@@ -61,17 +61,12 @@ def stale(crates):
 def unedited(names):
     """Tries the copies of functions without their edits."""
     trials = [it for it in (Trial(crate, TOP / "crates") for crate in names) if it.edits]
-    with ThreadPoolExecutor(lanes()) as pool:
+    with ThreadPoolExecutor(processors()) as pool:
         whys = [item for results in pool.map(Trial.run_unedited, trials) for item in results.items()]
     for edit, why in whys:
         if why is not None:
             print(f"{edit}: NOT PROVED: {why}")
     return sum(why is None for _, why in whys), sum(why is not None for _, why in whys)
-
-
-def lanes():
-    number = os.environ.get("RT_JOBS", "")
-    return int(number) if number.isdigit() and int(number) else os.cpu_count() or 1
 
 
 def main(words):
@@ -86,7 +81,7 @@ def main(words):
         if lacking:
             print(f"wrong_bodies: not built, or older than its sources: {' '.join(lacking)}")
             trials, edits.failed = [], 1
-        with ThreadPoolExecutor(lanes()) as pool:
+        with ThreadPoolExecutor(processors()) as pool:
             for trial, _ in zip(trials, pool.map(Trial.run, trials)):
                 edits.end(trial)
         edits.tell()
