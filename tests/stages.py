@@ -3,7 +3,8 @@
 Each crate is proved by a run of its own, in a copy of the crates that it uses, once these are proved, and first those for which the most
 lines wait. What one run has proved the others take. The crate of all these for which the most lines wait is checked by several jobs, of
 which `rt ci` finds out how many there is memory for, and so is one beside which processors would be idle; any other is checked by one
-(RT_JOBS).
+(RT_JOBS). Where memory is free, the run of the crate that comes next begins early: it takes what it uses, of hundreds of megabytes each,
+and waits for the last.
 """
 import os
 import re
@@ -13,10 +14,14 @@ import threading
 import time
 from pathlib import Path
 
-# What a check holds at most, in KiB. (`rt ci` by itself counts with nearly twice as much, and proves fewer side by side than there is room for.)
+# What a check holds at most, in KiB. (`rt ci` by itself counts with nearly twice as much, and proves fewer side by side than there is room
+# for.)
 HELD = 5 * 2**20
-# How many jobs `rt ci` gives a crate that is alone.
+# How many jobs `rt ci` gives a crate that is alone, and the memory, in KiB, by which it gives them to each.
 SEVERAL = 2
+FOR_SEVERAL = 17 * 2**20
+# After how many seconds a run has surely begun its check, so that another that needs the crate waits for it.
+UNDER_WAY = 20
 # What `rt ci` says of a crate that is built, and of one that another run has proved or is at.
 BUILT = re.compile(r"rt: (\w+) (?:proved|is kept)")
 ELSEWHERE = re.compile(r"rt: (\w+)(?: is kept|: another run)")
@@ -72,12 +77,12 @@ class Listed:
 
 class Run:
     """A run of `rt ci` in a folder, with some jobs or as many as it chooses: the crates that it has built so far, whether it has ended, and
-    the counts of its last line. `hear` gets each of its lines, but for those that tell what other runs did for another crate than `of`, if one
-    is named."""
+    the counts of its last line. `hear` gets each of its lines, but for those that tell what other runs did for another crate than `of`, if
+    one is named."""
 
     def __init__(self, folder, jobs, hear, of=None):
         self.folder, self.jobs, self.of, self.built = folder, jobs, of, set()
-        self.has_ended, self.passed, self.failed = False, 0, 1
+        self.has_ended, self.passed, self.failed, self.begun = False, 0, 1, time.monotonic()
         # (what RT_JOBS is from outside holds for each run)
         env = {"RT_JOBS": str(jobs), **os.environ} if jobs else {**os.environ}
         how = {"stdin": subprocess.DEVNULL, "stdout": subprocess.PIPE, "stderr": subprocess.STDOUT, "text": True, "errors": "replace"}
@@ -116,25 +121,49 @@ class Proofs:
         """Makes them all. Answers whether all is well."""
         try:
             self.prove_each()
-            # (It takes what is proved, and says what is not.)
-            self.whole = Run(self.listed.top, None, self.hear)
+            # (A run of all takes what is proved, and says what is not.)
+            self.whole = self.run_of_all() or Run(self.listed.top, None, self.hear)
             return self.whole.wait()
         finally:
             self.has_ended = True
+
+    def run_of_all(self):
+        """The run of a crate that uses each other one, if there is such a crate, and it is proved."""
+        return next((run for it, run in self.runs.items() if it in run.built and len(self.listed.needed([it])) == len(self.lengths)), None)
 
     def prove_each(self):
         """Proves each crate whose libraries are proved."""
         left = sorted(self.lengths, key=self.lengths.get, reverse=True)
         while True:
-            ready = [it for it in left if all(map(self.place_of, self.listed.below[it]))]
-            running = [it for it, run in self.runs.items() if not (run.has_ended or it in run.built)]
+            ready = [it for it in left if not self.lacking(it)]
+            running = [it for it, run in self.runs.items() if not (run.has_ended or it in run.built or self.lacking(it))]
             if ready and len(running) < processors() and (not running or available() >= HELD):
                 left.remove(ready[0])
                 self.begin(ready[0], self.jobs(ready[0], running, ready))
             elif not ready and not running:
                 return
+            self.begin_following(running, left)
             # (until a check holds what it needs, or ends)
             time.sleep(1)
+
+    def lacking(self, crate):
+        """The libraries of a crate that are not proved yet."""
+        return [it for it in self.listed.below[crate] if not self.place_of(it)]
+
+    def begin_following(self, running, left):
+        """Begins the run of the first crate that waits only for the crate for which the most lines wait, if that one's check is under way
+        and there is memory. Ends a run that waits in vain."""
+        waiting = [it for it, run in self.runs.items() if self.lacking(it) and not run.has_ended]
+        first = max(running, key=self.lengths.get, default=None)
+        is_early = not first or time.monotonic() < self.runs[first].begun + UNDER_WAY
+        if not (waiting or is_early) and available() >= FOR_SEVERAL:
+            following = next((it for it in left if self.lacking(it) == [first]), None)
+            if following:
+                left.remove(following)
+                self.begin(following, None)
+        for crate in waiting:
+            if any(it in self.runs and self.runs[it].has_ended for it in self.lacking(crate)):
+                self.runs[crate].ran.kill()
 
     def jobs(self, crate, running, ready):
         """How many jobs a crate may have beside some that are running and others that are ready, or None, if `rt ci` may choose."""

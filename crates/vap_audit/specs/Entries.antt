@@ -1,8 +1,9 @@
 -- What a history says.
 use Rattle.std.specs.Prelude.{◌≡◌, ◌==◌, ℕ, ◌+◌, ◌<◌, List, [], ◌∷◌, length, slice_get, Some, if◌then◌else◌}
-use Rattle.vap_watch.specs.Logs.{IsPublished, StartsWith, DiffersAt, verdict_at}
+use Rattle.vap_watch.specs.Logs.{IsPublished, StartsWith, DiffersAt}
 use Rattle.vap_watch.specs.declared.log.Logged.{Logged}
 use Rattle.vap_audit.specs.declared.entry.Entry.{Entry}
+use Rattle.vap_audit.specs.Verdicts.{verdict_at}
 
 -- the most entries of a history
 abbrev pub most_entries : ℕ

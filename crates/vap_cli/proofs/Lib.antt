@@ -6,3 +6,4 @@ mod Told
 mod WorkedChecks
 pub mod Spelt
 pub mod Accepted
+pub mod CutOff

@@ -2,6 +2,7 @@ ghost use Rattle.std.specs.Prelude.{◌≡◌};
 ghost use Rattle.vap_cli.specs.declared.failure.CheckFailure.TheVariants.{OutOfMemory};
 
 use crate::status::Status;
+use base_containers::LineError;
 use std::alloc::AllocError;
 use thiserror::Error;
 
@@ -36,5 +37,18 @@ impl From<AllocError> for CheckFailure {
 
     fn from(_error: AllocError) -> CheckFailure {
         CheckFailure::OutOfMemory
+    }
+}
+
+impl From<LineError> for CheckFailure {
+    ghost use Rattle.vap_cli.specs.Documents.{failure_of_line};
+
+    ghost from_gives = { λ error failure. failure ≡ failure_of_line error };
+
+    fn from(error: LineError) -> CheckFailure {
+        match error {
+            LineError::Read => CheckFailure::Read,
+            LineError::OutOfMemory => CheckFailure::OutOfMemory,
+        }
     }
 }

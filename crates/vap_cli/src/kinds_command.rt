@@ -1,7 +1,8 @@
 //! The command `kinds`.
 
-ghost use Rattle.std.specs.Prelude.{◌≡◌, ◌≢◌, ◌+◌, ◌-◌, ◌^◌, ◌<◌, OnOk, IsErrOf};
+ghost use Rattle.std.specs.Prelude.{◌≡◌, ◌+◌, ◌-◌, ◌^◌, ◌<◌, OnOk, IsErrOf};
 ghost use Rattle.base_containers.specs.Counted.{failures_of};
+ghost use Rattle.vap_cli.specs.Documents.{EndsReading};
 
 use crate::check::{Ended, write_lines};
 use crate::definition::line_of;
@@ -12,32 +13,22 @@ use crate::resources::{Resource, resources_of};
 use crate::rest::take_rest;
 use crate::status::Status;
 use crate::whole_document::{DocumentError, document_of};
-use base_containers::{Counted, LineError, LineReader};
+use base_containers::{Counted, LineReader};
 use serde_json::{Map, Value as Json};
 use std::alloc::{AllocError, Global};
 use std::io::{Read, Write};
 use vap_match::text_in;
 
-fn failure_of(error: LineError) -> CheckFailure
-    ensures { result ≢ CheckFailure.Write }
-{
-    match error {
-        LineError::Read => CheckFailure::Read,
-        LineError::OutOfMemory => CheckFailure::OutOfMemory,
-    }
-}
-
 /// The bytes of a document, none if there are more than it may have.
 fn bytes_in<R: Read>(alloc: Global, file: &mut Counted<R>) -> Result<Option<Vec<u8>>, CheckFailure>
-    ensures { IsErrOf result CheckFailure.Write → ⊥ }
+    ensures no_failure { OnOk result (failures_of file.new ≡ failures_of file.old) }
+    ensures read { IsErrOf result CheckFailure.Read → EndsReading R.remaining file.old file.new }
+    ensures write { IsErrOf result CheckFailure.Write → ⊥ }
 {
     let mut reader = LineReader::new(alloc)?;
     let mut bytes = Vec::new(alloc);
-    match take_rest(alloc, &mut reader, file, &mut bytes) {
-        Ok(true) => Ok(Some(bytes)),
-        Ok(false) => Ok(None),
-        Err(error) => Err(failure_of(error)),
-    }
+    let is_whole = take_rest(alloc, &mut reader, file, &mut bytes)?;
+    Ok(if is_whole { Some(bytes) } else { None })
 }
 
 fn not_open_api(what: &'static str) -> KindsError {
@@ -100,14 +91,16 @@ fn note_of(alloc: Global, lines: &str) -> Result<Option<String>, AllocError> {
 }
 
 /// Writes the definitions of the kinds in an OpenAPI v3 document, a line each, and answers how the program then ends. If the
-/// document is refused, nothing is written.
+/// document is refused, nothing is written. `Read` comes only if a read failed, or if there were as many as there may be.
 pub fn kinds_to<R: Read, W: Write>(
     alloc: Global,
     file: &mut Counted<R>,
     out: &mut Counted<W>,
 ) -> Result<Ended, CheckFailure>
     requires { failures_of out.old < 2 ^ 64 - 1 }
+    ensures all_read { OnOk result (failures_of file.new ≡ failures_of file.old) }
     ensures all_written { OnOk result (failures_of out.new ≡ failures_of out.old) }
+    ensures read { IsErrOf result CheckFailure.Read → EndsReading R.remaining file.old file.new }
     ensures write { IsErrOf result CheckFailure.Write → failures_of out.new ≡ failures_of out.old + 1 }
 {
     let bytes = bytes_in(alloc, file)?;

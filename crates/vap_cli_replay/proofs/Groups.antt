@@ -5,10 +5,10 @@ use Rattle.std.specs.Prelude.{slice_get}
 use Rattle.vap_match.specs.declared.request.Request.{Request}
 use Rattle.vap_policy.specs.declared.verdict.Verdict.{Verdict}
 use Rattle.vap_plane.specs.Answers.{verdicts_at}
-use Rattle.vap_watch.specs.Logs.{verdict_at}
 use Rattle.vap_watch.specs.Places.{Written}
 use Rattle.vap_watch.specs.declared.log.Logged.{Logged}
 use Rattle.vap_audit.specs.declared.entry.Entry.{Entry}
+use Rattle.vap_audit.specs.Verdicts.{verdict_at}
 use Rattle.vap_cli_replay.specs.Replay.{answer_line, answers_text, entry_of}
 use Rattle.vap_cli_replay.specs.Sessions.{group_entries}
 

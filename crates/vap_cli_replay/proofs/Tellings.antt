@@ -3,9 +3,9 @@ use Rattle.std.proofs.Common.{◌≡◌, ◌≢◌, ◌<◌, ℕ, false, List, [
 use Rattle.std.specs.Prelude.{slice_get}
 use Rattle.vap_match.specs.declared.request.Request.{Request}
 use Rattle.vap_plane.specs.declared.fault.PlaneFault.{PlaneFault}
-use Rattle.vap_watch.specs.Given.{MayMatch}
 use Rattle.vap_watch.specs.Logs.{set_of}
 use Rattle.vap_watch.specs.declared.log.Logged.{Logged}
+use Rattle.vap_audit.specs.Verdicts.{MayMatch}
 use Rattle.vap_cli_replay.specs.Groups.{IsOfGroup, OneMayMatch, TellsRequests}
 use Rattle.vap_cli_replay.specs.declared.fault.LineFault.{LineFault}
 use Rattle.vap_cli_replay.specs.Streams.{is_of_the_lines}

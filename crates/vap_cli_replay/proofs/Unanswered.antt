@@ -8,10 +8,10 @@ use Rattle.base_containers.specs.Counted.{inner_of}
 use Rattle.base_containers.specs.Lines.{lines_of}
 use Rattle.base_containers.specs.declared.counted.Counted.{Counted}
 use Rattle.vap_match.specs.declared.request.Request.{Request}
-use Rattle.vap_watch.specs.Given.{MayMatch}
 use Rattle.vap_watch.specs.Logs.{set_of}
 use Rattle.vap_watch.specs.declared.log.Logged.{Logged}
 use Rattle.vap_audit.specs.declared.entry.Entry.{Entry}
+use Rattle.vap_audit.specs.Verdicts.{MayMatch}
 use Rattle.vap_cli_replay.specs.Lines.{EachReads, IsAskedIn, Reads}
 use Rattle.vap_cli_replay.specs.Moves.{BeginsWith, IsUnjudged, IsUnpublished, after_lines}
 use Rattle.vap_cli_replay.specs.Replay.{Choices, Sofar, answers_text, beginning}

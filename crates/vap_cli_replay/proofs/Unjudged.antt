@@ -19,10 +19,11 @@ use Rattle.base_containers.specs.Lines.{IsFirst, lines_of}
 use Rattle.base_containers.specs.declared.counted.Counted.{Counted}
 use Rattle.base_containers.specs.declared.lines.Ending.{Ending}
 use Rattle.base_containers.specs.declared.lines.Ending.TheVariants.{Feed, End, TooLong}
-use Rattle.vap_watch.specs.Given.{AreUnverified, MayMatch}
+use Rattle.vap_watch.specs.Given.{AreUnverified}
 use Rattle.vap_watch.specs.Logs.{objects_after, objects_of, set_of}
 use Rattle.vap_watch.specs.Places.{Written}
 use Rattle.vap_watch.specs.declared.log.Logged.{Logged}
+use Rattle.vap_audit.specs.Verdicts.{MayMatch}
 use Rattle.vap_cli_replay.specs.Lines.{Reads, event_line, line_by, review_line}
 use Rattle.vap_cli_replay.specs.Moves.{BeginsWith, IsReadAs, IsUnjudged, IsUnpublished, Waits, lines_ended}
 use Rattle.vap_cli_replay.specs.Replay.{answers_text}

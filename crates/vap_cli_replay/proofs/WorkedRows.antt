@@ -2,10 +2,10 @@
 use Rattle.std.proofs.Common.{◌≡◌, [], ◌∷◌, ◌++◌, true, false, None, Some, refl}
 use Rattle.vap_match.specs.declared.request.Request.{Request}
 use Rattle.vap_policy.specs.AnswerText.{answer_text}
-use Rattle.vap_watch.specs.Logs.{verdict_at}
 use Rattle.vap_cli_replay.specs.Replay.{Choices, replay_of}
 use Rattle.vap_cli_replay.specs.declared.fault.LineFault.TheVariants.{BadJson}
 use Rattle.vap_cli_replay.specs.declared.line.Line.TheVariants.{Skipped, Asks, Refused}
+use Rattle.vap_audit.specs.Verdicts.{verdict_at}
 
 -- no line, no text
 no_line : (choices : Choices) → replay_of choices true [] ≡ ([], None)

@@ -1,9 +1,9 @@
 -- Why the requests of a group are not judged.
 use Rattle.std.specs.Prelude.{◌≡◌, ◌≢◌, ⊤, ℕ, List, [], Contains}
 use Rattle.vap_match.specs.declared.request.Request.{Request}
-use Rattle.vap_watch.specs.Given.{MayMatch}
 use Rattle.vap_watch.specs.Logs.{set_of}
 use Rattle.vap_watch.specs.declared.log.Logged.{Logged}
+use Rattle.vap_audit.specs.Verdicts.{MayMatch}
 use Rattle.vap_cli_replay.specs.declared.fault.LineFault.{LineFault}
 use Rattle.vap_cli_replay.specs.declared.fault.LineFault.TheVariants.{Pattern, Stray, OfWorkers}
 

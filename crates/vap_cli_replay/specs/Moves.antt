@@ -8,9 +8,10 @@ use Rattle.base_containers.specs.declared.lines.Ending.{Ending}
 use Rattle.base_containers.specs.declared.lines.Ending.TheVariants.{End, TooLong}
 use Rattle.vap_read.specs.declared.event.Event.{Event}
 use Rattle.vap_match.specs.declared.request.Request.{Request}
-use Rattle.vap_watch.specs.Given.{AreUnverified, MayMatch}
+use Rattle.vap_watch.specs.Given.{AreUnverified}
 use Rattle.vap_watch.specs.Logs.{objects_after, objects_of, set_of}
 use Rattle.vap_audit.specs.declared.entry.Entry.{Entry}
+use Rattle.vap_audit.specs.Verdicts.{MayMatch}
 use Rattle.vap_cli_replay.specs.Lines.{EachReads, Reads}
 use Rattle.vap_cli_replay.specs.Replay.{Choices, Sofar, after_line, answers_text, beginning}
 use Rattle.vap_cli_replay.specs.Sessions.{Agrees, first_with, sofar_of, waiting_entries}

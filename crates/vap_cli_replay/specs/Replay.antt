@@ -6,11 +6,12 @@ use Rattle.vap_read.specs.declared.event.Event.{Event}
 use Rattle.vap_match.specs.declared.request.Request.{Request}
 use Rattle.vap_policy.specs.AnswerText.{answer_text}
 use Rattle.vap_watch.specs.Given.{Choice, takes}
-use Rattle.vap_watch.specs.Logs.{objects_of, publication, verdict_at}
+use Rattle.vap_watch.specs.Logs.{objects_of, publication}
 use Rattle.vap_watch.specs.Places.{most_events}
 use Rattle.vap_watch.specs.declared.log.Logged.{Logged}
 use Rattle.vap_audit.specs.Entries.{most_entries}
 use Rattle.vap_audit.specs.declared.entry.Entry.{Entry}
+use Rattle.vap_audit.specs.Verdicts.{verdict_at}
 use Rattle.vap_cli_replay.specs.AuditLine.{audit_text}
 use Rattle.vap_cli_replay.specs.declared.fault.LineFault.{LineFault}
 use Rattle.vap_cli_replay.specs.declared.fault.LineFault.TheVariants.{LogFull, TooManyObjects, AuditFull}

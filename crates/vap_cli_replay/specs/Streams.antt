@@ -7,8 +7,9 @@ use Rattle.base_containers.specs.Lines.{lines_of, most_reads}
 use Rattle.base_containers.specs.declared.counted.Counted.{Counted}
 use Rattle.vap_read.specs.declared.event.Event.{Event}
 use Rattle.vap_match.specs.declared.request.Request.{Request}
-use Rattle.vap_watch.specs.Given.{AreUnverified, MayMatch}
+use Rattle.vap_watch.specs.Given.{AreUnverified}
 use Rattle.vap_watch.specs.Logs.{objects_after, objects_of, set_of}
+use Rattle.vap_audit.specs.Verdicts.{MayMatch}
 use Rattle.vap_cli_replay.specs.Lines.{EachReads, IsAskedIn}
 use Rattle.vap_cli_replay.specs.Moves.{after_lines}
 use Rattle.vap_cli_replay.specs.Replay.{Choices, Refusal, Sofar, answers_text, beginning, replay_of, replayed, told_lines}

@@ -17,6 +17,7 @@ use std::alloc::{AllocError, Global};
 use std::sync::Wait;
 use std::sync::ledger::{Blank, Ledger};
 use std::thread::Threads;
+use vap_audit::judge;
 use vap_match::Request;
 use vap_plane::{
     Open, Pass, Plan, PlaneError, PlaneFault, SharedHistory, Worker, run_workers, told_to,
@@ -236,7 +237,7 @@ fn unjudged(
         return unanswered(line, call);
     };
     let mut matchers = Matchers::new(alloc);
-    if let Err(error) = snapshot.judge(alloc, request, &mut matchers) {
+    if let Err(error) = judge(alloc, snapshot, request, &mut matchers) {
         return given_up(line, error);
     }
     unanswered(line, call)

@@ -4,6 +4,7 @@ ghost use Rattle.std.specs.Prelude.{◌≡◌, ◌+◌, ◌-◌, ◌^◌, ◌<�
 ghost use Rattle.std.specs.Io.KnownBytes.{Appends};
 ghost use Rattle.vap_cli.specs.declared.status.Status.TheVariants.{Done};
 ghost use Rattle.base_containers.specs.Counted.{inner_of, failures_of};
+ghost use Rattle.vap_cli.specs.Documents.{EndsReading};
 ghost use Rattle.vap_policy_set.specs.Sets.{policies_of, IsReport};
 
 use crate::input::objects_in;
@@ -34,7 +35,7 @@ struct Told {
 }
 
 /// Writes what is reported of the policies that an input leaves, and answers how the program then ends. If the input is refused,
-/// nothing is written.
+/// nothing is written. `Read` comes only if a read failed, or if there were as many as there may be.
 pub fn report_to<R: Read, W: Write>(
     alloc: Global,
     output: Output,
@@ -42,7 +43,9 @@ pub fn report_to<R: Read, W: Write>(
     out: &mut Counted<W>,
 ) -> Result<Ended, CheckFailure>
     requires writes { failures_of out.old < 2 ^ 64 - 1 }
+    ensures all_read { OnOk result (failures_of file.new ≡ failures_of file.old) }
     ensures all_written { OnOk result (failures_of out.new ≡ failures_of out.old) }
+    ensures read { IsErrOf result CheckFailure.Read → EndsReading R.remaining file.old file.new }
     ensures write { IsErrOf result CheckFailure.Write → failures_of out.new ≡ failures_of out.old + 1 }
 {
     match objects_in(alloc, file) {
@@ -70,6 +73,7 @@ fn report_objects<W: Write>(
 ) -> Result<Ended, CheckFailure>
     requires { failures_of out.old < 2 ^ 64 - 1 }
     ensures all_written { OnOk result (failures_of out.new ≡ failures_of out.old) }
+    ensures read { IsErrOf result CheckFailure.Read → ⊥ }
     ensures write { IsErrOf result CheckFailure.Write → failures_of out.new ≡ failures_of out.old + 1 }
 {
     match PolicySet::build(alloc, objects) {
@@ -112,6 +116,7 @@ fn tell<W: Write>(told: Told, out: &mut Counted<W>) -> Result<Ended, CheckFailur
     ensures written { OnOk result (Appends (W.contents (inner_of out.old)) (W.contents (inner_of out.new)) told.bytes.items) }
     ensures ended { IfOk result (λ ended. ended.status ≡ told.status) }
     ensures all_written { OnOk result (failures_of out.new ≡ failures_of out.old) }
+    ensures read { IsErrOf result CheckFailure.Read → ⊥ }
     ensures write { IsErrOf result CheckFailure.Write → failures_of out.new ≡ failures_of out.old + 1 }
 {
     write_lines(told.bytes.as_slice(), out)?;

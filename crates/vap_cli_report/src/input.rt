@@ -1,9 +1,14 @@
 //! From an input to the objects that it leaves: a stream of lines, or one document of any layout.
 
+ghost use Rattle.std.specs.Prelude.{◌≡◌, ◌≢◌, IfOk, IsErrOf, OnOk};
+ghost use Rattle.base_containers.specs.Counted.{failures_of, inner_of};
+ghost use Rattle.base_containers.specs.Lines.{AllGive, empty_reads};
+ghost use Rattle.vap_cli.specs.Documents.{EndsReading, IsCutOff};
+
 use crate::input_fault::{InputFault, document_note, line_note};
 use crate::stream::{Stream, is_blank};
 use crate::wrapping::{is_alone, kind_of, part_at_fault};
-use base_containers::{Counted, Ending, LineError, LineReader};
+use base_containers::{Counted, Ending, LineReader};
 use serde_json::Value as Json;
 use std::alloc::{AllocError, Global};
 use std::io::Read;
@@ -21,24 +26,22 @@ struct Front {
     ending: Ending,
 }
 
-fn failure_of(error: LineError) -> CheckFailure {
-    match error {
-        LineError::Read => CheckFailure::Read,
-        LineError::OutOfMemory => CheckFailure::OutOfMemory,
-    }
-}
-
 /// Puts the blank lines at the front of an input and the line after them into `bytes`.
 fn take_front<R: Read>(
     alloc: Global,
     reader: &mut LineReader,
     input: &mut Counted<R>,
     bytes: &mut Vec<u8>,
-) -> Result<Front, CheckFailure> {
+) -> Result<Front, CheckFailure>
+    ensures no_failure { OnOk result (failures_of input.new ≡ failures_of input.old) }
+    ensures given { IfOk result (λ front. AllGive (empty_reads front.ending) (R.remaining (inner_of input.old))
+        (R.remaining (inner_of input.new)) reader.old reader.new) }
+    ensures read { IsErrOf result CheckFailure.Read → IsCutOff R.remaining input.old input.new reader.old reader.new }
+{
     let mut line = Vec::new(alloc);
     for lines in 1..MOST_BYTES as u64 {
         line.clear();
-        let ending = reader.next(input, &mut line).map_err(failure_of)?;
+        let ending = reader.next(input, &mut line)?;
         put(bytes, line.as_slice())?;
         if ending != Ending::Feed || !is_blank(line.as_slice()) {
             return Ok(Front { lines, ending });
@@ -69,12 +72,16 @@ fn refused_line(
     number: u64,
     bytes: &[u8],
     fault: InputFault,
-) -> Result<Taken, CheckFailure> {
+) -> Result<Taken, CheckFailure>
+    ensures { IsErrOf result CheckFailure.Read → ⊥ }
+{
     let part = part_at_fault(alloc, bytes)?;
     Ok(Err(line_note(alloc, number, part.as_str(), fault)?))
 }
 
-fn refused_document(alloc: Global, bytes: &[u8], fault: InputFault) -> Result<Taken, CheckFailure> {
+fn refused_document(alloc: Global, bytes: &[u8], fault: InputFault) -> Result<Taken, CheckFailure>
+    ensures { IsErrOf result CheckFailure.Read → ⊥ }
+{
     let part = part_at_fault(alloc, bytes)?;
     Ok(Err(document_note(alloc, part.as_str(), fault)?))
 }
@@ -86,7 +93,11 @@ fn of_stream<R: Read>(
     mut stream: Stream,
     reader: &mut LineReader,
     input: &mut Counted<R>,
-) -> Result<Taken, CheckFailure> {
+) -> Result<Taken, CheckFailure>
+    ensures no_failure { OnOk result (failures_of input.new ≡ failures_of input.old) }
+    ensures read { IsErrOf result CheckFailure.Read → (front.ending ≢ Ending.End)
+        × IsCutOff R.remaining input.old input.new reader.old reader.new }
+{
     let mut ending = front.ending;
     let mut line = Vec::new(alloc);
     for number in front.lines.saturating_add(1)..u64::MAX {
@@ -94,7 +105,7 @@ fn of_stream<R: Read>(
             break;
         }
         line.clear();
-        ending = reader.next(input, &mut line).map_err(failure_of)?;
+        ending = reader.next(input, &mut line)?;
         if let Some(fault) = stream.take_line(line.as_slice(), ending)? {
             return refused_line(alloc, number, line.as_slice(), fault);
         }
@@ -123,12 +134,16 @@ fn of_document<R: Read>(
     mut bytes: Vec<u8>,
     reader: &mut LineReader,
     input: &mut Counted<R>,
-) -> Result<Taken, CheckFailure> {
+) -> Result<Taken, CheckFailure>
+    ensures no_failure { OnOk result (failures_of input.new ≡ failures_of input.old) }
+    ensures read { IsErrOf result CheckFailure.Read → (front.ending ≢ Ending.End)
+        × IsCutOff R.remaining input.old input.new reader.old reader.new }
+{
     if front.ending == Ending::Feed {
         put(&mut bytes, b"\n".as_slice())?;
     }
     if front.ending != Ending::End {
-        let is_whole = take_rest(alloc, reader, input, &mut bytes).map_err(failure_of)?;
+        let is_whole = take_rest(alloc, reader, input, &mut bytes)?;
         if !is_whole {
             return refused_document(alloc, &[], InputFault::TooLong);
         }
@@ -147,7 +162,10 @@ fn is_empty(bytes: &[u8]) -> bool {
 
 /// The objects that an input leaves, or why it is refused. It is a stream if its first line that is not blank is a line of one, and
 /// otherwise one document.
-pub fn objects_in<R: Read>(alloc: Global, input: &mut Counted<R>) -> Result<Taken, CheckFailure> {
+pub fn objects_in<R: Read>(alloc: Global, input: &mut Counted<R>) -> Result<Taken, CheckFailure>
+    ensures no_failure { OnOk result (failures_of input.new ≡ failures_of input.old) }
+    ensures read { IsErrOf result CheckFailure.Read → EndsReading R.remaining input.old input.new }
+{
     let mut reader = LineReader::new(alloc)?;
     let mut bytes = Vec::new(alloc);
     let front = take_front(alloc, &mut reader, input, &mut bytes)?;
@@ -170,7 +188,11 @@ fn begun<R: Read>(
     bytes: &[u8],
     reader: &mut LineReader,
     input: &mut Counted<R>,
-) -> Result<Taken, CheckFailure> {
+) -> Result<Taken, CheckFailure>
+    ensures no_failure { OnOk result (failures_of input.new ≡ failures_of input.old) }
+    ensures read { IsErrOf result CheckFailure.Read → (front.ending ≢ Ending.End)
+        × IsCutOff R.remaining input.old input.new reader.old reader.new }
+{
     let mut stream = Stream::new(alloc)?;
     match stream.take_json(json)? {
         Some(fault) => refused_line(alloc, front.lines, bytes, fault),

@@ -1,7 +1,7 @@
 //! Judging the reviews of a history once more.
 
 use std::alloc::{AllocError, Global};
-use vap_audit::Entry;
+use vap_audit::{Entry, judge};
 use vap_policy::{JudgeError, Matchers, Verdict};
 use vap_read::Event;
 use vap_watch::{Desk, PublishError, StageFault};
@@ -41,10 +41,12 @@ impl Bench {
 
     /// The verdict on an entry's request, if there is one.
     pub fn judge(&mut self, entry: &Entry) -> Result<Option<Verdict>, AllocError> {
-        let judged = self
-            .desk
-            .snapshot()
-            .judge(self.alloc, &entry.request, &mut self.matchers);
+        let judged = judge(
+            self.alloc,
+            self.desk.snapshot(),
+            &entry.request,
+            &mut self.matchers,
+        );
         match judged {
             Ok(verdict) => Ok(Some(verdict)),
             Err(JudgeError::Fault(_)) => Ok(None),

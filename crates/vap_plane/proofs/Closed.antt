@@ -5,7 +5,7 @@ use Rattle.std.specs.Prelude.{slice_get, Some}
 use Rattle.std.specs.List.{All}
 use Rattle.vap_policy.specs.declared.verdict.Verdict.{Verdict}
 use Rattle.vap_watch.specs.declared.log.Logged.{Logged}
-use Rattle.vap_watch.proofs.Revisions.{verdict_revision}
+use Rattle.vap_audit.proofs.Revisions.{verdict_revision}
 use Rattle.vap_audit.specs.Entries.{AreRightIn, BeginWith, IsKept}
 use Rattle.vap_audit.specs.declared.entry.Entry.{Entry}
 

@@ -8,11 +8,12 @@ use Rattle.vap_match.specs.declared.request.Request.{Request}
 use Rattle.vap_policy.specs.declared.verdict.Verdict.{Verdict}
 use Rattle.vap_audit.specs.Entries.{AreRightIn, IsRightIn, most_entries}
 use Rattle.vap_audit.specs.declared.entry.Entry.{Entry}
-use Rattle.vap_watch.specs.Logs.{IsPublished, StartsWith, publication, verdict_at}
+use Rattle.vap_watch.specs.Logs.{IsPublished, StartsWith, publication}
 use Rattle.vap_watch.specs.Places.{HasRoomFor, Position, Publishes, at}
 use Rattle.vap_watch.specs.declared.log.Logged.{Logged}
 use Rattle.vap_watch.proofs.Publication.{published_more}
-use Rattle.vap_watch.proofs.Revisions.{verdict_revision}
+use Rattle.vap_audit.proofs.Revisions.{verdict_revision}
+use Rattle.vap_audit.specs.Verdicts.{verdict_at}
 use Rattle.vap_plane.specs.Held.{Holding, IsRightOf, entered, entry_of, judged}
 use Rattle.vap_plane.specs.Steps.{State, After, NeverBack, Plays, Runs, opening}
 use Rattle.vap_plane.specs.Steps.{after_enter, after_judge, after_record, after_verdict, enters_by, enters_where, held_by}

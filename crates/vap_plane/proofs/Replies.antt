@@ -9,12 +9,13 @@ use Rattle.std.specs.List.{All}
 use Rattle.vap_watch.specs.Shown.{Shown}
 use Rattle.vap_match.specs.declared.request.Request.{Request}
 use Rattle.vap_policy.specs.declared.verdict.Verdict.{Verdict}
-use Rattle.vap_watch.specs.Logs.{StartsWith, verdict_at}
+use Rattle.vap_watch.specs.Logs.{StartsWith}
 use Rattle.vap_watch.specs.Seen.{Known, Learns, Looks, SeesMore}
 use Rattle.vap_watch.specs.declared.log.Logged.{Logged}
 use Rattle.vap_watch.proofs.Begins.{starts_further}
 use Rattle.vap_watch.proofs.Grows.{sees_still}
-use Rattle.vap_watch.proofs.Revisions.{verdict_revision}
+use Rattle.vap_audit.proofs.Revisions.{verdict_revision}
+use Rattle.vap_audit.specs.Verdicts.{verdict_at}
 use Rattle.vap_plane.specs.Answers.{AreAnswers, AreRight, BeginsWithOneOf, IsAnswer, KnowsOneOf}
 use Rattle.vap_plane.specs.Numbered.{IsListOf, came, once_more}
 use Rattle.vap_plane.specs.declared.gathering.Came.{Came}

@@ -8,8 +8,9 @@ use Rattle.std.specs.List.{All}
 use Rattle.vap_watch.specs.Shown.{Shown}
 use Rattle.vap_match.specs.declared.request.Request.{Request}
 use Rattle.vap_policy.specs.declared.verdict.Verdict.{Verdict}
-use Rattle.vap_watch.specs.Logs.{StartsWith, verdict_at}
+use Rattle.vap_watch.specs.Logs.{StartsWith}
 use Rattle.vap_watch.specs.declared.log.Logged.{Logged}
+use Rattle.vap_audit.specs.Verdicts.{verdict_at}
 use Rattle.vap_plane.specs.Answers.{AreAnswers, AreAtTold, verdicts_at}
 use Rattle.vap_plane.proofs.Numbered.{get_mapped, mapped_length}
 use Rattle.vap_plane.proofs.Replies.{all_rest}

@@ -4,9 +4,10 @@ use Rattle.std.specs.List.{All}
 use Rattle.vap_watch.specs.Shown.{Shown}
 use Rattle.vap_match.specs.declared.request.Request.{Request}
 use Rattle.vap_policy.specs.declared.verdict.Verdict.{Verdict}
-use Rattle.vap_watch.specs.Logs.{StartsWith, verdict_at}
+use Rattle.vap_watch.specs.Logs.{StartsWith}
 use Rattle.vap_watch.specs.Seen.{Known}
 use Rattle.vap_watch.specs.declared.log.Logged.{Logged}
+use Rattle.vap_audit.specs.Verdicts.{verdict_at}
 
 -- what one thread answers at a log: the verdicts on requests, in their order
 abbrev pub verdicts_at : List Logged → List Request → List Verdict

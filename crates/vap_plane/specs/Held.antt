@@ -2,9 +2,9 @@
 use Rattle.std.specs.Prelude.{◌≡◌, ℕ, List, Option, Some, None}
 use Rattle.vap_match.specs.declared.request.Request.{Request}
 use Rattle.vap_policy.specs.declared.verdict.Verdict.{Verdict}
-use Rattle.vap_watch.specs.Logs.{verdict_at}
 use Rattle.vap_watch.specs.declared.log.Logged.{Logged}
 use Rattle.vap_audit.specs.declared.entry.Entry.{Entry}
+use Rattle.vap_audit.specs.Verdicts.{verdict_at}
 
 -- a request with its call, entered at a log, with or without a verdict
 pub record Holding : Type 0 where

@@ -6,7 +6,7 @@ ghost use Rattle.vap_plane.specs.Held.{entered, entry_of, judged};
 
 use std::alloc::{AllocError, Global};
 use std::marker::Model;
-use vap_audit::Entry;
+use vap_audit::{Entry, judge};
 use vap_match::Request;
 use vap_policy::{JudgeError, Matchers, RunFault, Verdict};
 use vap_watch::Snapshot;
@@ -66,7 +66,7 @@ impl Held {
         } = self;
         let verdict = match verdict {
             Some(verdict) => Some(verdict),
-            None => match snapshot.judge(alloc, &request, matchers) {
+            None => match judge(alloc, &snapshot, &request, matchers) {
                 Ok(verdict) => Some(verdict),
                 Err(JudgeError::Fault(RunFault::Pattern)) => None,
                 Err(JudgeError::OutOfMemory) => return Err(AllocError),

@@ -3,8 +3,8 @@
 ghost use Rattle.std.specs.Prelude.{◌≡◌, ◌++◌, ◌∷◌, ◌+◌, [], length, IfErr, MatchResult, OnErr, OnOk};
 ghost use Rattle.base_containers.specs.declared.failed.Failed.TheVariants.{Fault};
 ghost use Rattle.vap_audit.specs.Entries.{most_entries};
-ghost use Rattle.vap_watch.specs.Logs.{verdict_at};
 ghost use Rattle.vap_watch.specs.Seen.{Learns, Looks, SeesMore};
+ghost use Rattle.vap_audit.specs.Verdicts.{verdict_at};
 ghost use Rattle.vap_plane.specs.Recorded.{IsUnanswered, IsUndecided, IsUnjudged, IsUnrecorded, IsUnseen, entry_of};
 
 use crate::closing::{Plan, SharedHistory};
@@ -14,7 +14,7 @@ use base_containers::Shared;
 use std::alloc::Global;
 use std::sync::Wait;
 use std::sync::ledger::{Ledger, Share};
-use vap_audit::{AuditFault, Entry};
+use vap_audit::{AuditFault, Entry, judge};
 use vap_match::Request;
 use vap_policy::{JudgeError, Matchers, RunFault, Verdict};
 use vap_watch::{Log, Reader, ReaderError, Told};
@@ -188,7 +188,7 @@ impl<L: Ledger> Worker<L> {
         let Ok(log) = snapshot.share_log() else {
             return Err((PlaneError::OutOfMemory, request));
         };
-        match snapshot.judge(alloc, &request, matchers) {
+        match judge(alloc, snapshot, &request, matchers) {
             Ok(verdict) => Ok(Judged::new(call, log, request, verdict)),
             Err(JudgeError::Fault(RunFault::Pattern)) => Err((
                 PlaneError::Fault(PlaneFault::Judge(call)),

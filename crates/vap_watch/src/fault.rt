@@ -4,7 +4,7 @@ ghost use Rattle.std.specs.Prelude.{◌≡◌};
 
 use base_containers::Failed;
 use thiserror::Error;
-use vap_policy::BuildFault;
+use vap_policy_set::BuildFault;
 
 /// The faults of staging by their numbers, from 1 on, and out of memory.
 #[derive(Clone, Copy, Debug, PartialEq, Eq, Error)]

@@ -3,7 +3,7 @@
 //! A [`Desk`] stages events, each after the others, and publishes all that is staged at once: [`Desk::snapshot`] lends the
 //! published [`Snapshot`], a [`Log`] with the set that is built of exactly this log, which its type keeps. The revision of a
 //! snapshot, [`revision_of`], is the length of its log. A log keeps with the last event of each publication the choice of
-//! patterns that the set was built by. [`Snapshot::judge`] answers the verdict at the snapshot's log.
+//! patterns that the set was built by.
 //!
 //! A [`Writer`] is a desk that shows what is published to [`Reader`]s, which may be in other threads: [`Reader::enter`] answers the
 //! published snapshot and waits for nobody; a publication waits only for readers that are in the middle of this one step. What a

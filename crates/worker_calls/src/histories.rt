@@ -7,7 +7,7 @@
 use calls_notation::{Asked, json, request_in, unknown};
 use serde_json::Value as Json;
 use std::alloc::{AllocError, Global};
-use vap_audit::{Entry, History};
+use vap_audit::{Entry, History, judge};
 use vap_match::Request;
 use vap_policy::{JudgeError, Matchers, RunFault};
 use vap_read::Event;
@@ -93,7 +93,7 @@ fn append_decided(
     history: &mut History,
 ) -> Result<(), AllocError> {
     let log = snapshot.share_log()?;
-    let verdict = match snapshot.judge(alloc, &request, &mut Matchers::new(alloc)) {
+    let verdict = match judge(alloc, snapshot, &request, &mut Matchers::new(alloc)) {
         Ok(verdict) => verdict,
         Err(JudgeError::Fault(RunFault::Pattern)) => return Ok(()),
         Err(JudgeError::OutOfMemory) => return Err(AllocError),

@@ -1,8 +1,8 @@
 use Rattle.std.proofs.Common.{◌≡◌, ◌∷◌, ap, sym, ◌∙◌}
 use Rattle.std.specs.Prelude.{string_bytes}
 use Rattle.std.specs.Vec.Iter.{into_iter_items}
-use Rattle.vap_watch.specs.Logs.{verdict_at}
 use Rattle.vap_watch.specs.Places.{Written}
+use Rattle.vap_audit.specs.Verdicts.{verdict_at}
 use Rattle.vap_cli_replay.proofs.Groups.{decided_next, history_next, some_left, told_next, verdicts_next}
 use Rattle.vap_cli_replay.proofs.session.Session.decide_all.Goals as goal
 

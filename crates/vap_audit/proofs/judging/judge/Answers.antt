@@ -1,6 +1,7 @@
 use Rattle.std.proofs.Common.{subst}
-use Rattle.vap_watch.specs.Given.{MayMatch, PolicySet}
-use Rattle.vap_watch.proofs.snapshot.Snapshot.judge.Goals as goal
+use Rattle.vap_watch.specs.Given.{PolicySet}
+use Rattle.vap_audit.specs.Verdicts.{MayMatch}
+use Rattle.vap_audit.proofs.judging.judge.Goals as goal
 
 -- at the set of the log
 pub returns-clause-pattern : goal.returns-clause-pattern

@@ -7,9 +7,10 @@ use Rattle.vap_policy_set.specs.Sets.{holdings_of, kinds_of}
 use Rattle.vap_policy.specs.Evaluations.{found_by}
 use Rattle.vap_policy.specs.Judging as judging
 use Rattle.vap_policy.specs.Places.{is_exempt, kind_at}
-use Rattle.vap_watch.specs.Given.{Choice, Objects, PolicySet, Verdict, after, built_of, no_choice, no_objects, verdict_of}
-use Rattle.vap_watch.specs.Logs.{choice_after, events_of, objects_after, objects_of, set_of, verdict_at}
+use Rattle.vap_watch.specs.Given.{Choice, Objects, PolicySet, after, built_of, no_choice, no_objects}
+use Rattle.vap_watch.specs.Logs.{choice_after, events_of, objects_after, objects_of, set_of}
 use Rattle.vap_watch.specs.declared.log.Logged.{Logged}
+use Rattle.vap_audit.specs.Verdicts.{Verdict, verdict_at, verdict_of}
 
 -- two verdicts of one revision
 either : (b : Bool) (v w : Verdict) (n : ℕ) → v.revision ≡ n → w.revision ≡ n → (if b then v else w).revision ≡ n
