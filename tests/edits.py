@@ -21,6 +21,7 @@ from typing import NamedTuple
 TOP = Path(__file__).resolve().parent.parent
 PARTS = ("src", "specs", "proofs")
 FUNCTION = re.compile(r"(?P<indent> {0,4})(?:pub(?:\([a-z]+\))? )?(?:const )?fn (?P<name>\w+)")
+TYPE = re.compile(r"(?:pub(?:\([a-z]+\))? )?(?:struct|enum) (?P<name>\w+)")
 IMPL = re.compile(r"impl(?:<.*?>)? (?P<head>.*?)(?: where .*)?(?: \{)?$")
 VERDICT = re.compile(r"^fn (?P<function>\S+): (?P<words>.*)$")
 # What the prover says where it can't read an edited text; then no contract was tried.
@@ -89,8 +90,20 @@ def type_of(head):
     return "".join(owner + re.findall(r"\w+", re.sub(r"\w+::", "", trait)) if separator else owner)
 
 
+def homes_of(src):
+    """The modules of the types of a folder src/, by their names."""
+    homes = {}
+    for file in sorted(src.rglob("*.rt")):
+        for line in file.read_text(encoding="utf-8").split("\n"):
+            match = TYPE.match(line)
+            if match:
+                homes.setdefault(match["name"], []).append(module_of(file.relative_to(src.parent)))
+    return homes
+
+
 class Function(NamedTuple):
-    """A function of a crate: its module, the impl that it is in, its name, its cycle, and whether it is a method of a trait."""
+    """A function of a crate: its module, or of a method of no trait that of its type, the impl that it is in, its name, its cycle, and
+    whether it is a method of a trait."""
 
     module: str
     owner: str
@@ -110,18 +123,22 @@ def calls_itself(function, item):
     return bool(re.search(rf"{through}{function.name}\(", item))
 
 
-def functions_of(path, text):
-    """The functions of a formatted text, each with its first place and its last, its docs and attributes among it."""
+def functions_of(path, text, homes):
+    """The functions of a formatted text, each with its first place and its last, its docs and attributes among it. `homes` has the modules
+    of the crate's types."""
+    module = home = module_of(path)
     owner, of_trait, start, begin, found, attributes = "", False, 0, 0, None, ""
     for line in text.split("\n"):
         match = FUNCTION.match(line)
         if line.startswith("impl"):
             head = IMPL.match(line)["head"]
             owner, of_trait = type_of(head), " for " in head
+            modules = homes.get(owner, [module])
+            home = module if of_trait or module in modules else modules[0]
         if match:
             indent = match["indent"]
             cycle = re.search(r"#\[cycle\((\w+)\)\]", attributes)
-            found = Function(module_of(path), owner if indent else "", match["name"], cycle[1] if cycle else "", bool(indent) and of_trait)
+            found = Function(home, owner if indent else "", match["name"], cycle[1] if cycle else "", bool(indent) and of_trait)
             begin = start - len(attributes)
         elif found and line == indent + "}":
             if not found.cycle and calls_itself(found, text[begin:start]):
@@ -131,7 +148,7 @@ def functions_of(path, text):
         attributes = attributes + line + "\n" if line.lstrip().startswith(("//", "#[")) else ""
         start += len(line) + 1
         if line == "}":
-            owner, of_trait = "", False
+            owner, of_trait, home = "", False, module
 
 
 class Edit:
@@ -164,9 +181,10 @@ class Edit:
                 old = None
 
     def function_at(self, path, old):
-        text = (TOP / "crates" / self.crate / path).read_text(encoding="utf-8")
+        folder = TOP / "crates" / self.crate
+        text = (folder / path).read_text(encoding="utf-8")
         at = text.find(old)
-        return next((it for it, begin, end in functions_of(path, text) if begin <= at < end), None)
+        return next((it for it, begin, end in functions_of(path, text, homes_of(folder / "src")) if begin <= at < end), None)
 
     @property
     def path(self):
@@ -194,7 +212,7 @@ class Edit:
         """The changed copy of the function, where it is put."""
         file, at, _, _ = places[0]
         text, name = file.read_text(encoding="utf-8"), self.unit.name
-        begin, end = next(where for _, *where in functions_of("src/lib.rt", text) if where[0] <= at < where[1])
+        begin, end = next(where for _, *where in functions_of("src/lib.rt", text, {}) if where[0] <= at < where[1])
         item = made(text[begin:end], [(at - begin, old, new) for _, at, old, new in places])
         item = re.sub(r"(?m)^ *#\[cycle\(\w+\)\]\n", "", item)
         return file, end, "", "\n\n" + re.sub(rf"\bfn {name}\b", f"fn {name}{self.suffix}", item, count=1)
@@ -265,9 +283,9 @@ def leave_open(crate, edits, folder):
     edited = {edit.path for edit in edits}
     cycles = {edit.unit.cycle for edit in edits if not edit.suffix}
     proofs = folder / "proofs"
-    places = {}
+    places, homes = {}, homes_of(folder / "src")
     for file in sorted((folder / "src").rglob("*.rt")):
-        for function, *_ in functions_of(file.relative_to(folder), file.read_text(encoding="utf-8")):
+        for function, *_ in functions_of(file.relative_to(folder), file.read_text(encoding="utf-8"), homes):
             if function.cycle and function.cycle not in cycles:
                 for place in proofs.rglob(f"+{function.cycle}"):
                     places[place] = f"+{function.cycle}", ""

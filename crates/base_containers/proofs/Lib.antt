@@ -1,3 +1,4 @@
+pub mod BytesRead
 pub mod Order
 pub mod Removal
 pub mod Splits

@@ -1,11 +1,11 @@
 //! Lines of a reader.
 
-ghost use Rattle.std.specs.Prelude.{◌≡◌, ◌≢◌, ◌⊎◌, ◌+◌, ◌≤◌, ◌<◌, [], length, drop, IfErr, IfOk, IsErrOf, OnErr, OnOk};
+ghost use Rattle.std.specs.Prelude.{◌≡◌, ◌≢◌, ◌+◌, ◌≤◌, ◌<◌, [], length, drop, IfErr, IfOk, IsErrOf, OnErr, OnOk};
 ghost use Rattle.std.specs.List.{All};
 ghost use Rattle.std.specs.Io.KnownBytes.{Consumes, Keeps, IsAtEnd};
-ghost use Rattle.base_containers.specs.Counted.{failures_of, failures_after, inner_of, one_more};
+ghost use Rattle.base_containers.specs.Counted.{failures_of, failures_after, inner_of};
 ghost use Rattle.base_containers.specs.Handing.{Hands};
-ghost use Rattle.base_containers.specs.Lines.{AllGive, IsFirst, IsLine, IsSpent, empty_reads, room, unread};
+ghost use Rattle.base_containers.specs.Lines.{AllGive, IsCutOff, IsFirst, IsLine, empty_reads, room, unread};
 
 use crate::counted::Counted;
 use crate::lines::{Ending, LONGEST_LINE, LineError, append, feed_at};
@@ -75,8 +75,7 @@ impl LineReader {
         ensures less { IfOk result (λ ending. ending ≡ Ending.Feed → room self.new < room self.old) }
         ensures no_more { room self.new ≤ room self.old }
         ensures no_failure { OnOk result (failures_of input.new ≡ failures_of input.old) }
-        ensures read { IsErrOf result LineError.Read → (failures_of input.new ≡ one_more (failures_of input.old))
-            ⊎ IsSpent R.remaining input.old input.new self.old self.new }
+        ensures read { IsErrOf result LineError.Read → IsCutOff R.remaining input.old input.new self.old self.new }
         ensures given { IfOk result (λ ending. AllGive (empty_reads ending) (R.remaining (inner_of input.old))
             (R.remaining (inner_of input.new)) self.old self.new) }
         ensures memory { IsErrOf result LineError.OutOfMemory → failures_of input.new ≡ failures_of input.old }

@@ -1,11 +1,10 @@
 -- The document of a file.
-use Rattle.std.specs.Prelude.{◌≡◌, ◌≤◌, ◌<◌, ◌⊎◌, ℕ, List, [], length, Option, None, Some, Result, Ok, Err, IsUtf8}
+use Rattle.std.specs.Prelude.{◌≡◌, ◌≤◌, ◌<◌, ℕ, List, [], length, Option, None, Some, Result, Ok, Err, IsUtf8}
 use Rattle.serde_json.specs.Data.{Data}
 use Rattle.serde_json.specs.Read.{read}
 use Rattle.serde_json.specs.View.{view}
 use Rattle.serde_json.specs.declared.value.Value.{Value as Json}
-use Rattle.base_containers.specs.Counted.{failures_of, one_more}
-use Rattle.base_containers.specs.Lines.{IsSpent, Pending, most_reads}
+use Rattle.base_containers.specs.Lines.{IsCutOff, Pending, most_reads}
 use Rattle.base_containers.specs.declared.counted.Counted.{Counted}
 use Rattle.base_containers.specs.declared.lines.LineError.{LineError}
 use Rattle.base_containers.specs.declared.lines.LineError.TheVariants as reading
@@ -43,10 +42,6 @@ IsDocumentOf bytes (Err why) = IsUnread bytes why
 abbrev pub failure_of_line : LineError → CheckFailure
 failure_of_line reading.Read = failure.Read
 failure_of_line reading.OutOfMemory = failure.OutOfMemory
-
--- a reader of lines reads no more: a read failed, or none is left, and each gave a byte
-abbrev pub IsCutOff : {R : Type 0} → (R → Option (List ℕ)) → Counted R → Counted R → Pending → Pending → Type 0
-IsCutOff remaining input left old new = (failures_of left ≡ one_more (failures_of input)) ⊎ IsSpent remaining input left old new
 
 -- what a reader that has read nothing has still to hand on
 abbrev pub at_first : Pending

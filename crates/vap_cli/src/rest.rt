@@ -2,7 +2,7 @@
 
 ghost use Rattle.std.specs.Prelude.{◌≡◌, ◌≤◌, length, IfErr, IfOk, IsErrOf, IsTrue, OnOk};
 ghost use Rattle.base_containers.specs.Counted.{failures_of};
-ghost use Rattle.vap_cli.specs.Documents.{IsCutOff};
+ghost use Rattle.base_containers.specs.Lines.{IsCutOff};
 
 use base_containers::{Counted, Ending, LineError, LineReader};
 use std::alloc::Global;

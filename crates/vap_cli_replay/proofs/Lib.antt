@@ -3,7 +3,6 @@ pub mod Auditing
 pub mod Choosing
 pub mod Crews
 pub mod Endings
-pub mod Given
 pub mod Groups
 pub mod Growth
 pub mod Next

@@ -1,10 +1,8 @@
 -- What a replay leaves of its input and its output.
-use Rattle.std.specs.Prelude.{◌≡◌, ◌≤◌, ◌⊎◌, ◌+◌, ⊤, ℕ, Bool, true, false, ◌&&◌, nat_le, List, [], ◌∷◌, ◌++◌, drop, flat_map, length, take}
-use Rattle.std.specs.Prelude.{IfSome, Option, None, Some, Ok}
+use Rattle.std.specs.Prelude.{◌≡◌, ◌+◌, ⊤, ℕ, Bool, true, false, ◌&&◌, nat_le, List, [], ◌∷◌, ◌++◌, drop, flat_map, length, take}
+use Rattle.std.specs.Prelude.{Option, None, Some, Ok}
 use Rattle.std.specs.Io.KnownBytes.{Appends}
-use Rattle.base_containers.specs.Counted.{failures_of, inner_of, one_more}
-use Rattle.base_containers.specs.Lines.{lines_of, most_reads}
-use Rattle.base_containers.specs.declared.counted.Counted.{Counted}
+use Rattle.base_containers.specs.Lines.{lines_of}
 use Rattle.vap_read.specs.declared.event.Event.{Event}
 use Rattle.vap_match.specs.declared.request.Request.{Request}
 use Rattle.vap_watch.specs.Given.{AreUnverified}
@@ -63,12 +61,6 @@ pub record Stops (audit : Bool) (input : List ℕ) (old new : Option (List ℕ))
   pub told : ℕ
   pub written : Appends old new
       (flat_map (λ line. line) (take told (told_lines (audit && are_all_lines count input) (replayed choices lines))))
-
--- a read failed; or none did, and the input has at least one byte for each read that may be made
-abbrev pub StopsReading : {R : Type 0} → (R → Option (List ℕ)) → Counted R → Counted R → Type 0
-StopsReading remaining before after =
-    (failures_of after ≡ one_more (failures_of before))
-    ⊎ ((failures_of after ≡ failures_of before) × IfSome (remaining (inner_of before)) (λ bytes. most_reads ≤ length bytes))
 
 -- the line of this number is this one; those before it were taken, and the answers to the reviews among them are written, nothing
 -- else

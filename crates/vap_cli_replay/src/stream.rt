@@ -1,14 +1,14 @@
 //! The replay of a stream.
 
-ghost use Rattle.std.specs.Prelude.{◌≡◌, ◌≢◌, ◌⊎◌, ◌≤◌, ◌<◌, ◌+◌, ◌^◌, ◌-◌, ℕ, Bool, false, true};
+ghost use Rattle.std.specs.Prelude.{◌≡◌, ◌≢◌, ◌≤◌, ◌<◌, ◌+◌, ◌^◌, ◌-◌, ℕ, Bool, false, true};
 ghost use Rattle.std.specs.Prelude.{length, IfErr, IfOk, IfSome, IsErrOf, OnOk};
 ghost use Rattle.std.specs.Io.KnownBytes.{IsAtEnd};
-ghost use Rattle.base_containers.specs.Counted.{failures_of, inner_of, one_more};
-ghost use Rattle.base_containers.specs.Lines.{AllGive, IsSpent, empty_reads, longest_line, room, unread};
+ghost use Rattle.base_containers.specs.Counted.{failures_of, inner_of};
+ghost use Rattle.base_containers.specs.Lines.{AllGive, IsCutOff, StopsReading, empty_reads, longest_line, room, unread};
 ghost use Rattle.vap_cli_replay.specs.Moves.{Advances, BeginsWith, CountsWrites, IsRead, IsReadAs, IsUnjudged, IsUnpublished, RefusesBytes};
 ghost use Rattle.vap_cli_replay.specs.Moves.{RefusesNext, StopsAt, TakesNext, Writes};
 ghost use Rattle.vap_cli_replay.specs.Sessions.{IsInStep, IsOpening};
-ghost use Rattle.vap_cli_replay.specs.Streams.{IsUnansweredAt, IsUnverifiedAt, Refuses, Replays, Stops, StopsReading, is_of_the_lines};
+ghost use Rattle.vap_cli_replay.specs.Streams.{IsUnansweredAt, IsUnverifiedAt, Refuses, Replays, Stops, is_of_the_lines};
 ghost use Rattle.vap_cli_replay.specs.declared.fault.LineFault.{LineFault as FaultOf};
 
 use crate::crew::Crew;
@@ -298,8 +298,7 @@ fn take_next<L: Plan + Send + Sync, H: Threads + Wait + Sync, R: Read, W: Write>
     ensures unverified { (number : ℕ) → IsErrOf result (ReplayError.Line number LineFault.Unverified)
         → IfSome (unread R.remaining input.old reader.old) (λ text.
         IsUnpublished W.contents (BeginsWith text) session.old output.old output.new number) }
-    ensures read { IsErrOf result ReplayError.Read → (failures_of input.new ≡ one_more (failures_of input.old))
-        ⊎ IsSpent R.remaining input.old input.new reader.old reader.new }
+    ensures read { IsErrOf result ReplayError.Read → IsCutOff R.remaining input.old input.new reader.old reader.new }
     ensures given { IfOk result (λ ending. AllGive (empty_reads ending) (R.remaining (inner_of input.old))
         (R.remaining (inner_of input.new)) reader.old reader.new) }
     ensures no_failure { OnOk result (failures_of input.new ≡ failures_of input.old) }

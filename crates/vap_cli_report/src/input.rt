@@ -2,8 +2,8 @@
 
 ghost use Rattle.std.specs.Prelude.{◌≡◌, ◌≢◌, IfOk, IsErrOf, OnOk};
 ghost use Rattle.base_containers.specs.Counted.{failures_of, inner_of};
-ghost use Rattle.base_containers.specs.Lines.{AllGive, empty_reads};
-ghost use Rattle.vap_cli.specs.Documents.{EndsReading, IsCutOff};
+ghost use Rattle.base_containers.specs.Lines.{AllGive, IsCutOff, empty_reads};
+ghost use Rattle.vap_cli.specs.Documents.{EndsReading};
 
 use crate::input_fault::{InputFault, document_note, line_note};
 use crate::stream::{Stream, is_blank};

@@ -3,8 +3,9 @@
 ghost use Rattle.std.specs.Prelude.{◌≡◌, ◌++◌, ◌∷◌, ◌+◌, [], length, IfErr, MatchResult, OnErr, OnOk};
 ghost use Rattle.base_containers.specs.declared.failed.Failed.TheVariants.{Fault};
 ghost use Rattle.vap_audit.specs.Entries.{most_entries};
+ghost use Rattle.vap_watch.specs.Logs.{set_of};
 ghost use Rattle.vap_watch.specs.Seen.{Learns, Looks, SeesMore};
-ghost use Rattle.vap_audit.specs.Verdicts.{verdict_at};
+ghost use Rattle.vap_audit.specs.Verdicts.{MayMatch, verdict_at};
 ghost use Rattle.vap_plane.specs.Recorded.{IsUnanswered, IsUndecided, IsUnjudged, IsUnrecorded, IsUnseen, entry_of};
 
 use crate::closing::{Plan, SharedHistory};
@@ -141,7 +142,7 @@ impl<L: Ledger> Worker<L> {
     }
 
     /// Judges a request at the published log, which the worker has then seen. This log begins with all that it had seen, and with all
-    /// that it was told of. If it is refused, the request comes back.
+    /// that it was told of. If it is refused, the request comes back. `Judge` comes only if the log's set looks for a pattern.
     #[tactic(auto, using(crate::proofs::Replies::sees_same))]
     pub fn judge(
         &mut self,
@@ -156,6 +157,8 @@ impl<L: Ledger> Worker<L> {
         ensures seen { OnOk result (Looks self.old.reader self.new.reader) }
         ensures unseen { OnErr result (SeesMore self.old.reader self.new.reader) }
         ensures fault { IfErr result (λ refused. IsUnjudged call refused.0) }
+        ensures pattern { IfErr result (λ refused. refused.0 ≡ Fault (PlaneFault.Judge call)
+            → MayMatch (set_of self.new.reader.seen) request) }
         ensures same { (self.new.count ≡ self.old.count) × (self.new.number ≡ self.old.number) }
     {
         if let Err(error) = self.look(call) {
@@ -176,6 +179,8 @@ impl<L: Ledger> Worker<L> {
             × (judged.verdict ≡ verdict_at self.old.reader.seen request))
             (λ refused. refused.1 ≡ request) }
         ensures fault { IfErr result (λ refused. IsUndecided call refused.0) }
+        ensures pattern { IfErr result (λ refused. refused.0 ≡ Fault (PlaneFault.Judge call)
+            → MayMatch (set_of self.old.reader.seen) request) }
         ensures same { (self.new.count ≡ self.old.count) × (self.new.number ≡ self.old.number) }
         ensures reader { self.new.reader ≡ self.old.reader }
     {
@@ -248,7 +253,8 @@ impl<L: Ledger> Worker<L> {
 }
 
 impl<L: Plan> Worker<L> {
-    /// Judges, then records under the lock. If it is refused, the request comes back.
+    /// Judges, then records under the lock. If it is refused, the request comes back. `Judge` comes only if the log's set looks for a
+    /// pattern.
     #[tactic(auto, using(crate::proofs::Replies::sees_on))]
     pub fn admit<R: Wait>(
         &mut self,
@@ -264,6 +270,8 @@ impl<L: Plan> Worker<L> {
         ensures unseen { OnErr result (SeesMore self.old.reader self.new.reader) }
         ensures count { MatchResult result (λ _. self.new.count ≡ self.old.count + 1) (λ _. self.new.count ≡ self.old.count) }
         ensures fault { IfErr result (λ refused. IsUnanswered call refused.0) }
+        ensures pattern { IfErr result (λ refused. refused.0 ≡ Fault (PlaneFault.Judge call)
+            → MayMatch (set_of self.new.reader.seen) request) }
         ensures same { self.new.number ≡ self.old.number }
     {
         let judged = self.judge(alloc, call, request)?;

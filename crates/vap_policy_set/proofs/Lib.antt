@@ -4,11 +4,13 @@ pub mod Standing
 pub mod Chosen
 pub mod ReportOrder
 pub mod Named
+pub mod Olds
 pub mod MadeSets
 pub mod Reused
 pub mod StillBound
 pub mod Asked
 pub mod PlaceOrder
+pub mod SamePlaces
 pub mod Covered
 pub mod Entries
 pub mod Indexed

@@ -1,6 +1,6 @@
 -- Resources of groups, and which of them policies name.
-use Rattle.std.specs.Prelude.{ℕ, Bool, ◌&&◌, if◌then◌else◌, List, [], map}
-use Rattle.std.specs.List.{flat_map}
+use Rattle.std.specs.Prelude.{◌≡◌, ℕ, Bool, ◌&&◌, if◌then◌else◌, List, [], map}
+use Rattle.std.specs.List.{flat_map, list_any}
 use Rattle.std.specs.Str.{bytes_eq}
 use Rattle.vap_match.specs.Cover.{before_slash}
 use Rattle.vap_match.specs.declared.rules.Rule.{Rule}
@@ -31,3 +31,7 @@ places_of p = if is_wide p then [] else flat_map rule_places (rules_in p)
 -- those that policies name
 abbrev pub places_in : List BoundPolicy → List Place
 places_in ps = flat_map places_of ps
+
+-- the same places are in both lists, in whatever order and however often
+abbrev pub NameSame : List Place → List Place → Type 0
+NameSame ks ls = (group resource : List ℕ) → list_any (is_place group resource) ks ≡ list_any (is_place group resource) ls

@@ -1,5 +1,5 @@
 -- Policies that are still bound as they were.
-use Rattle.std.specs.Prelude.{◌≡◌, List}
+use Rattle.std.specs.Prelude.{◌≡◌, ⊤, List, [], ◌∷◌, Option, IfSome}
 use Rattle.std.specs.List.{All}
 use Rattle.base_containers.specs.declared.text.Keyed.{Keyed}
 use Rattle.vap_read.specs.declared.binding.Binding.{Binding}
@@ -20,3 +20,16 @@ IsBound choice kinds bindings b = b ≡ bound_of choice kinds bindings (named_of
 -- so is each of these
 abbrev pub AreBound : Choice → List Kind → List (Keyed Binding) → List BoundPolicy → Type 0
 AreBound choice kinds bindings bs = All (IsBound choice kinds bindings) bs
+
+-- what was bound of a policy before, among all that were: it says the same, and is bound to the same as long as they all are
+pub record IsOldOf (all : List BoundPolicy) (p : Keyed Policy) (b : BoundPolicy) : Type 0 where
+  pub says : b.own ≡ p.value
+  pub bound : (choice : Choice) (kinds : List Kind) (bindings : List (Keyed Binding)) → AreBound choice kinds bindings all
+      → b ≡ bound_of choice kinds bindings p
+
+-- for each of these policies one that was bound of it before, or none
+abbrev pub AreOldOf : List BoundPolicy → List (Keyed Policy) → List (Option BoundPolicy) → Type 0
+AreOldOf all [] [] = ⊤
+AreOldOf all [] (o ∷ os) = ⊥
+AreOldOf all (p ∷ ps) [] = ⊥
+AreOldOf all (p ∷ ps) (o ∷ os) = IfSome o (IsOldOf all p) × AreOldOf all ps os

@@ -5,15 +5,13 @@ ghost use Rattle.std.specs.Option.{option_copied};
 ghost use Rattle.base_containers.specs.declared.text.Keyed.{Keyed as Bound};
 ghost use Rattle.vap_read.specs.declared.binding.Binding.{Binding as BindingOf};
 ghost use Rattle.vap_read_objects.specs.declared.kind.Kind.{Kind as KindOf};
-ghost use Rattle.vap_policy_set.specs.Sets.{bound_of};
-ghost use Rattle.vap_policy_set.specs.Still.{AreBound, IsBound};
+ghost use Rattle.vap_policy_set.specs.Still.{AreBound, IsOldOf};
 ghost use Rattle.vap_policy_set.specs.declared.choice.Choice.{Choice as ChoiceOf};
 
 use crate::bound::BoundPolicy;
 use crate::choice::Choice;
 use crate::made::MadePair;
-use crate::texts::PolicyTexts;
-use base_containers::{Keyed, Same, Shared, Text};
+use base_containers::{Same, Shared, Text};
 use cel_operators::Patterns;
 use serde_json::Value as Json;
 use std::alloc::{AllocError, Global};
@@ -42,8 +40,8 @@ pub struct Changes {
 #[derive(Clone, Copy)]
 pub struct Kept<'a> {
     pub policies: &'a [Shared<BoundPolicy>],
-    /// Those of the policies that are bound by the choice as they would be now: all or none.
-    pub still: &'a [Shared<BoundPolicy>],
+    /// Whether the policies are bound as they would be now, if the choice is the same.
+    pub is_still: bool,
     pub choice: &'a Choice,
     pub patterns: &'a Shared<Patterns>,
     pub fixed_types: &'a Shared<FixedTypes>,
@@ -190,125 +188,41 @@ fn same_policy<'a>(
     policies: &'a [Shared<BoundPolicy>],
     name: &str,
     policy: &Policy,
-) -> Option<&'a BoundPolicy> {
-    for shared in policies {
-        let old = shared.get();
-        if old.name.as_str() != name {
+) -> Option<&'a Shared<BoundPolicy>>
+    ensures { IfSome (option_copied result) (IsOldOf policies.now (record { key = name.now; value = policy.now })) }
+{
+    for old in policies {
+        if old.get().name.as_str() != name {
             return None;
         }
-        if old.policy.same(policy) {
+        if old.get().own.get().is_of(policy) {
             return Some(old);
         }
     }
     None
 }
 
-/// The own texts of the first policy that says the same, of those at the beginning that have this name.
-fn same_texts<'a>(
-    policies: &'a [Shared<BoundPolicy>],
-    name: &str,
-    policy: &Policy,
-) -> Option<&'a Shared<PolicyTexts>>
-    ensures { IfSome (option_copied result) (λ own. own ≡ policy.now) }
-{
-    for shared in policies {
-        let old = shared.get();
-        if old.name.as_str() != name {
-            return None;
-        }
-        if old.own.get().is_of(policy) {
-            return Some(&old.own);
-        }
-    }
-    None
-}
-
-/// Whether a policy of this name that says the same was bound.
-fn is_bound_of(old: &BoundPolicy, policy: &Keyed<Shared<PolicyTexts>>) -> bool
-    ensures { IsTrue result → (old.now.name ≡ policy.now.key) × (old.now.policy ≡ policy.now.value) }
-{
-    old.name.as_str() == policy.key.as_str() && old.policy.same(policy.value.get().policy())
-}
-
-/// What a policy was bound to, if this is of it.
-fn if_bound_of<'a>(
-    old: &'a Shared<BoundPolicy>,
-    policy: &Keyed<Shared<PolicyTexts>>,
-) -> Option<&'a Shared<BoundPolicy>>
-    ensures { (choice : ChoiceOf) (kinds : List KindOf) (bindings : List (Bound BindingOf)) → IsBound choice kinds bindings old.now
-        → IfSome (option_copied result) (λ b. b ≡ bound_of choice kinds bindings policy.now) }
-{
-    if is_bound_of(old.get(), policy) {
-        Some(old)
-    } else {
-        None
-    }
-}
-
-/// What a policy was bound to, if the first of these is of it.
-fn bound_first<'a>(
-    still: &'a [Shared<BoundPolicy>],
-    policy: &Keyed<Shared<PolicyTexts>>,
-) -> Option<&'a Shared<BoundPolicy>>
-    ensures { (choice : ChoiceOf) (kinds : List KindOf) (bindings : List (Bound BindingOf)) → AreBound choice kinds bindings still.now
-        → IfSome (option_copied result) (λ b. b ≡ bound_of choice kinds bindings policy.now) }
-{
-    match still {
-        [first, ..] => if_bound_of(first, policy),
-        [] => None,
-    }
-}
-
 impl<'a> Kept<'a> {
-    /// Those of the policies that are bound as they would be now, by this choice.
-    pub fn still_by(&self, choice: &Choice) -> &'a [Shared<BoundPolicy>]
-        ensures { (kinds : List KindOf) (bindings : List (Bound BindingOf)) → AreBound self.now.choice.now kinds bindings self.now.still.now
-            → AreBound choice.now kinds bindings result.now }
+    /// Whether the policies are bound as they would be now, by this choice.
+    pub fn is_still_by(&self, choice: &Choice) -> bool
+        ensures { IsTrue result → IsTrue self.now.is_still × (self.now.choice.now ≡ choice.now) }
     {
-        if self.choice.same(choice) {
-            self.still
-        } else {
-            &[]
-        }
+        self.is_still && self.choice.same(choice)
     }
 
-    /// What a policy was bound to, if the first of these is of it and no event put or removed one of its name.
-    pub fn bound(
-        &self,
-        still: &'a [Shared<BoundPolicy>],
-        policy: &Keyed<Shared<PolicyTexts>>,
-    ) -> Option<&'a Shared<BoundPolicy>>
-        ensures { (choice : ChoiceOf) (kinds : List KindOf) (bindings : List (Bound BindingOf)) → AreBound choice kinds bindings still.now
-            → IfSome (option_copied result) (λ b. b ≡ bound_of choice kinds bindings policy.now) }
-    {
-        if self.changes.has_policy(policy.key.as_str()) {
-            None
-        } else {
-            bound_first(still, policy)
-        }
-    }
-
-    /// The own texts of a policy, unless an event put or removed one of its name. Those before `rest` have lesser names.
-    pub fn texts(
+    /// What was bound of a policy before, unless an event put or removed one of its name. Those before `rest` have lesser names.
+    pub fn old(
         &self,
         rest: &'a [Shared<BoundPolicy>],
         name: &str,
         policy: &Policy,
-    ) -> Option<&'a Shared<PolicyTexts>>
-        ensures { IfSome (option_copied result) (λ own. own ≡ policy.now) }
+    ) -> Option<&'a Shared<BoundPolicy>>
+        ensures { IfSome (option_copied result) (IsOldOf rest.now (record { key = name.now; value = policy.now })) }
     {
         if self.changes.has_policy(name) {
             return None;
         }
-        same_texts(rest, name, policy)
-    }
-
-    /// A policy as it was before, unless an event put or removed one of its name.
-    pub fn policy(&self, name: &str, policy: &Policy) -> Option<&'a BoundPolicy> {
-        if self.changes.has_policy(name) {
-            return None;
-        }
-        same_policy(not_below(self.policies, name), name, policy)
+        same_policy(rest, name, policy)
     }
 
     /// What a policy was at a kind before, unless a definition of the kind changed, or one of the kind of its params.

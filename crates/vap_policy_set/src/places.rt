@@ -1,6 +1,6 @@
 //! Resources of groups, and which of them policies name.
 
-ghost use Rattle.std.specs.Prelude.{◌≡◌, ◌++◌, ℕ, List, IfOk, OnOk};
+ghost use Rattle.std.specs.Prelude.{◌≡◌, ◌++◌, ◌∷◌, [], ℕ, List, true, IfOk, IsTrue, OnOk};
 ghost use Rattle.std.proofs.Common.{rules};
 ghost use Rattle.std.specs.Cmp.{partial_order_from_own_ties, partial_equiv_from_equiv};
 ghost use Rattle.std.specs.Cmp.Rules.{comparing};
@@ -8,7 +8,7 @@ ghost use Rattle.std.specs.List.{flat_map, list_any};
 ghost use Rattle.std.specs.List.Sorted.{IsStrictlySortedBy};
 ghost use Rattle.std.specs.Ordering.{as_partial_cmp, eq_by_cmp};
 ghost use Rattle.vap_policy_set.specs.PlaceOrder.{place_cmp};
-ghost use Rattle.vap_policy_set.specs.Places.{group_places, is_place, place_of, places_in, places_of, rule_places};
+ghost use Rattle.vap_policy_set.specs.Places.{NameSame, group_places, is_place, places_in, places_of, rule_places};
 
 use crate::bound::BoundPolicy;
 use crate::covering::{is_wide, rules_in};
@@ -76,12 +76,40 @@ impl Place {
     }
 }
 
-fn place_of(alloc: Global, group: &str, pattern: &str) -> Result<Place, AllocError>
-    ensures { IfOk result (λ k. k ≡ place_of group.now pattern.now) }
+/// Whether a place is this resource of this group.
+fn is_place(place: &Place, group: &str, resource: &str) -> bool
+    ensures { result ≡ is_place group.now resource.now place.now }
 {
+    place.group.as_str() == group && place.resource.as_str() == resource
+}
+
+/// Whether the last of some places is this resource of this group.
+fn is_last(places: &[Place], group: &str, resource: &str) -> bool
+    ensures { IsTrue result → list_any (is_place group.now resource.now) places.now ≡ true }
+{
+    match places {
+        [.., last] => is_place(last, group, resource),
+        [] => false,
+    }
+}
+
+/// Puts a place after others, unless it is the last of them.
+fn put_place(
+    alloc: Global,
+    group: &str,
+    resource: &str,
+    places: &mut Vec<Place>,
+) -> Result<(), AllocError>
+    ensures { OnOk result (NameSame places.new.items
+        (places.old.items ++ record { group = group.now; resource = resource.now } ∷ [])) }
+{
+    if is_last(places.as_slice(), group, resource) {
+        return Ok(());
+    }
     let group = Text::from_str(alloc, group)?;
-    let resource = Text::from_str(alloc, resource_in(pattern))?;
-    Ok(Place { group, resource })
+    let resource = Text::from_str(alloc, resource)?;
+    places.push(Place { group, resource })?;
+    Ok(())
 }
 
 fn put_group(
@@ -90,16 +118,16 @@ fn put_group(
     group: &str,
     places: &mut Vec<Place>,
 ) -> Result<(), AllocError>
-    ensures { OnOk result (places.new.items ≡ places.old.items ++ group_places patterns.now group.now) }
+    ensures { OnOk result (NameSame places.new.items (places.old.items ++ group_places patterns.now group.now)) }
 {
     for pattern in patterns {
-        places.push(place_of(alloc, group, pattern.as_str())?)?;
+        put_place(alloc, group, resource_in(pattern.as_str()), places)?;
     }
     Ok(())
 }
 
 fn put_rule(alloc: Global, rule: &Rule, places: &mut Vec<Place>) -> Result<(), AllocError>
-    ensures { OnOk result (places.new.items ≡ places.old.items ++ rule_places rule.now) }
+    ensures { OnOk result (NameSame places.new.items (places.old.items ++ rule_places rule.now)) }
 {
     for group in rule.api_groups.as_slice() {
         put_group(alloc, rule.resources.as_slice(), group.as_str(), places)?;
@@ -109,7 +137,7 @@ fn put_rule(alloc: Global, rule: &Rule, places: &mut Vec<Place>) -> Result<(), A
 
 /// Puts the places that rules name after others.
 pub fn put_rules(alloc: Global, rules: &[Rule], places: &mut Vec<Place>) -> Result<(), AllocError>
-    ensures { OnOk result (places.new.items ≡ places.old.items ++ flat_map rule_places rules.now) }
+    ensures { OnOk result (NameSame places.new.items (places.old.items ++ flat_map rule_places rules.now)) }
 {
     for rule in rules {
         put_rule(alloc, rule, places)?;
@@ -123,7 +151,7 @@ fn put_policy(
     policy: &BoundPolicy,
     places: &mut Vec<Place>,
 ) -> Result<(), AllocError>
-    ensures { OnOk result (places.new.items ≡ places.old.items ++ places_of policy.now) }
+    ensures { OnOk result (NameSame places.new.items (places.old.items ++ places_of policy.now)) }
 {
     if is_wide(policy) {
         Ok(())
@@ -134,7 +162,7 @@ fn put_policy(
 
 /// The places that policies name.
 pub fn places_in(alloc: Global, policies: &[Shared<BoundPolicy>]) -> Result<Vec<Place>, AllocError>
-    ensures { IfOk result (λ places. places.items ≡ places_in policies.now) }
+    ensures { IfOk result (λ places. NameSame places.items (places_in policies.now)) }
 {
     let mut places = Vec::new(alloc);
     for policy in policies {

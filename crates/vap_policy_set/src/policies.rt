@@ -1,10 +1,11 @@
 //! What policies are at each kind.
 
-ghost use Rattle.std.specs.Prelude.{◌≡◌, ℕ, List, IfOk, IsErrOf, map};
+ghost use Rattle.std.specs.Prelude.{◌≡◌, ℕ, List, IfOk, IfSome, IsErrOf, IsTrue, map};
+ghost use Rattle.std.specs.Option.{option_copied};
 ghost use Rattle.vap_read_objects.specs.Listed.{bindings_of};
 ghost use Rattle.vap_policy_set.specs.Parts.{part_of};
 ghost use Rattle.vap_policy_set.specs.Sets.{bound_of};
-ghost use Rattle.vap_policy_set.specs.Still.{AreBound};
+ghost use Rattle.vap_policy_set.specs.Still.{AreBound, AreOldOf};
 ghost use Rattle.vap_policy_set.specs.Unverified.{AreUnverified, error_of, HasUnverified};
 ghost use Rattle.vap_policy_set.specs.declared.build_error.BuildFault.TheVariants as build_fault;
 ghost use Rattle.base_containers.specs.declared.failed.Failed.TheVariants.{Fault};
@@ -17,7 +18,7 @@ use crate::choice::Choice;
 use crate::compiling::Compiling;
 use crate::made::MadePair;
 use crate::parts::part_of;
-use crate::texts::{PolicyTexts, own_texts};
+use crate::texts::{PolicyTexts, read_texts};
 use base_containers::{Items, Keyed, Shared};
 use std::alloc::{AllocError, Global};
 use vap_policy_programs::{CompileError, CompileFault};
@@ -32,25 +33,53 @@ pub struct Workshop<'a> {
     pub kept: &'a Kept<'a>,
 }
 
-/// Policies with their own texts. The texts of those that changed are read.
-pub fn policy_texts(
+/// Policies with their own texts, and what was bound of each before, if anything is kept.
+#[derive(Drop)]
+pub struct ReadPolicies<'a> {
+    pub own: Items<Keyed<Shared<PolicyTexts>>>,
+    pub old: Vec<Option<&'a Shared<BoundPolicy>>>,
+}
+
+/// A policy with its own texts, which are read if nothing was bound of it.
+fn own_texts(
     alloc: Global,
-    kept: &Kept<'_>,
+    policy: &Policy,
+    old: Option<&Shared<BoundPolicy>>,
+) -> Result<Shared<PolicyTexts>, AllocError>
+    requires { IfSome (option_copied old) (λ bound. bound.own ≡ policy.now) }
+    ensures { IfOk result (λ own. own ≡ policy.now) }
+{
+    match old {
+        Some(bound) => bound.get().own.share(),
+        None => read_texts(alloc, policy),
+    }
+}
+
+/// Policies with their own texts. The texts of those that changed are read.
+pub fn read_policies<'a>(
+    alloc: Global,
+    kept: &Kept<'a>,
     policies: &[Keyed<Policy>],
-) -> Result<Items<Keyed<Shared<PolicyTexts>>>, AllocError>
-    ensures { IfOk result (λ own. own ≡ policies.now) }
+) -> Result<ReadPolicies<'a>, AllocError>
+    ensures own { IfOk result (λ read. read.own ≡ policies.now) }
+    ensures old { IfOk result (λ read. AreOldOf kept.now.policies.now policies.now (map option_copied read.old.items)) }
 {
     let mut all = Vec::new(alloc);
+    let mut old = Vec::new(alloc);
     let mut rest = kept.policies;
     for policy in policies {
         rest = not_below(rest, policy.key.as_str());
-        let own = kept.texts(rest, policy.key.as_str(), &policy.value);
+        let bound = kept.old(rest, policy.key.as_str(), &policy.value);
         all.push(Keyed {
             key: policy.key.copy()?,
-            value: own_texts(alloc, &policy.value, own)?,
+            value: own_texts(alloc, &policy.value, bound)?,
         })?;
+        old.push(bound)?;
     }
-    Ok(Items::from_vec(all))
+    Ok(ReadPolicies {
+        own: Items::from_vec(all),
+        old,
+    })
 }
 
 /// Why a policy is not compiled.
@@ -96,6 +125,22 @@ fn with_bindings(
     })
 }
 
+/// What was bound of a policy before, if anything is kept, and whether it stands: whether the same would be bound now.
+#[derive(Clone, Copy)]
+struct Before<'a> {
+    bound: Option<&'a Shared<BoundPolicy>>,
+    stands: bool,
+}
+
+impl<'a> Before<'a> {
+    fn policy(&self) -> Option<&'a BoundPolicy> {
+        match self.bound {
+            Some(bound) => Some(bound.get()),
+            None => None,
+        }
+    }
+}
+
 impl Workshop<'_> {
     fn bound_of(
         &self,
@@ -123,26 +168,24 @@ impl Workshop<'_> {
         Ok(with_bindings(self.alloc, policy, bindings, pairs, other)?)
     }
 
-    /// The same, unless the first of `still` is of this policy. Those in `still` are bound as they would be now.
+    /// The same, or what was bound of the policy before, if that stands.
     fn shared_of(
         &self,
         choice: &Choice,
         bindings: &[Keyed<Binding>],
-        still: &[Shared<BoundPolicy>],
+        before: Before<'_>,
         policy: &Keyed<Shared<PolicyTexts>>,
     ) -> Result<Shared<BoundPolicy>, CompileError>
-        requires still { AreBound choice.now self.now.kinds.now bindings.now still.now }
+        requires stands { IsTrue before.stands
+            → IfSome (option_copied before.bound) (λ p. p ≡ bound_of choice.now self.now.kinds.now bindings.now policy.now) }
         ensures bound { IfOk result (λ p. p ≡ bound_of choice.now self.now.kinds.now bindings.now policy.now) }
         ensures unverified { (at : ℕ) → IsErrOf result (Fault (Unverified at))
             → HasUnverified (part_of choice.now policy.now.value.spec) self.now.kinds.now policy.now.value.spec }
     {
-        match self.kept.bound(still, policy) {
-            Some(bound) => Ok(bound.share()?),
-            None => {
-                let old = self
-                    .kept
-                    .policy(policy.key.as_str(), policy.value.get().policy());
-                let bound = self.bound_of(choice, bindings, old, policy)?;
+        match before.bound {
+            Some(bound) if before.stands => Ok(bound.share()?),
+            _ => {
+                let bound = self.bound_of(choice, bindings, before.policy(), policy)?;
                 Ok(Shared::new(self.alloc, bound)?)
             }
         }
@@ -153,20 +196,26 @@ impl Workshop<'_> {
         &self,
         choice: &Choice,
         bindings: &[Keyed<Binding>],
-        policies: &[Keyed<Shared<PolicyTexts>>],
+        read: &ReadPolicies<'_>,
     ) -> Result<Items<Shared<BoundPolicy>>, BuildError>
-        requires still { AreBound self.now.kept.now.choice.now self.now.kinds.now bindings.now self.now.kept.now.still.now }
-        ensures bound { IfOk result (λ bound. bound ≡ map (bound_of choice.now self.now.kinds.now bindings.now) policies.now) }
+        requires old { AreOldOf self.now.kept.now.policies.now read.now.own (map option_copied read.now.old.items) }
+        requires still { IsTrue self.now.kept.now.is_still
+            → AreBound self.now.kept.now.choice.now self.now.kinds.now bindings.now self.now.kept.now.policies.now }
+        ensures bound { IfOk result (λ bound. bound ≡ map (bound_of choice.now self.now.kinds.now bindings.now) read.now.own) }
         ensures unverified { (name : List ℕ) → IsErrOf result (Fault (build_fault.Unverified name))
-            → AreUnverified choice.now self.now.kinds.now name policies.now }
+            → AreUnverified choice.now self.now.kinds.now name read.now.own }
     {
         let mut bound = Vec::new(self.alloc);
-        let mut still = self.kept.still_by(choice);
-        for policy in policies {
-            still = not_below(still, policy.key.as_str());
-            match self.shared_of(choice, bindings, still, policy) {
+        let stands = self.kept.is_still_by(choice);
+        let policies = read.own.as_slice();
+        for at in 0..policies.len() {
+            let before = Before {
+                bound: read.old[at],
+                stands,
+            };
+            match self.shared_of(choice, bindings, before, &policies[at]) {
                 Ok(one) => bound.push(one)?,
-                Err(error) => return Err(unbuilt(policy, error)?),
+                Err(error) => return Err(unbuilt(&policies[at], error)?),
             }
         }
         Ok(Items::from_vec(bound))

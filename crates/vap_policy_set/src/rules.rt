@@ -1,6 +1,6 @@
 //! What a set holds of policies, bindings and definitions.
 
-ghost use Rattle.std.specs.Prelude.{◌≡◌, ℕ, List, [], IfOk, IsErrOf};
+ghost use Rattle.std.specs.Prelude.{◌≡◌, ℕ, List, [], IfOk, IsErrOf, IsTrue};
 ghost use Rattle.base_containers.specs.declared.failed.Failed.TheVariants.{Fault};
 ghost use Rattle.vap_read_objects.specs.Listed.{bindings_in, kinds_in, policies_in};
 ghost use Rattle.vap_policy_set.specs.Patterns.{IsChoiceFor, of_policies};
@@ -15,7 +15,7 @@ use crate::choice::Choice;
 use crate::definitions::{Definitions, no_definitions};
 use crate::index::Index;
 use crate::literal_patterns::{answers_for, choice_for};
-use crate::policies::{Workshop, policy_texts};
+use crate::policies::{Workshop, read_policies};
 use base_containers::{Items, Keyed, Shared};
 use cel_operators::Patterns;
 use std::alloc::{AllocError, Global};
@@ -78,23 +78,24 @@ pub fn rules_of(
 ) -> Result<Rules, BuildError>
     requires kinds { definitions.now.kinds ≡ kinds_in objects.now.objects }
     requires named { named.now ≡ policies_in objects.now.objects }
-    requires still { AreBound kept.now.choice.now (kinds_in objects.now.objects) (bindings_in objects.now.objects) kept.now.still.now }
+    requires still { IsTrue kept.now.is_still
+        → AreBound kept.now.choice.now (kinds_in objects.now.objects) (bindings_in objects.now.objects) kept.now.policies.now }
     ensures kinds { IfOk result (λ r. r.definitions.kinds ≡ kinds_in objects.now.objects) }
     ensures policies { IfOk result (λ r. r.policies ≡ policies_by r.choice objects.now) }
     ensures choice { IfOk result (λ r. IsChoiceFor (of_policies (policies_in objects.now.objects)) r.choice.refused) }
     ensures unverified { (name : List ℕ) → IsErrOf result (Fault (Unverified name)) → IsUnverifiedIn objects.now name }
 {
     let bindings = objects.bindings(alloc)?;
-    let own = policy_texts(alloc, kept, named)?;
-    let patterns = answers_for(alloc, kept.patterns, own.as_slice())?;
-    let choice = choice_for(alloc, patterns.get(), own.as_slice())?;
+    let read = read_policies(alloc, kept, named)?;
+    let patterns = answers_for(alloc, kept.patterns, read.own.as_slice())?;
+    let choice = choice_for(alloc, patterns.get(), read.own.as_slice())?;
     let choice = Shared::new(alloc, choice)?;
     let workshop = Workshop {
         alloc,
         kinds: definitions.get().kinds.as_slice(),
         kept,
     };
-    let bound = workshop.bound_policies(choice.get(), bindings.as_slice(), own.as_slice())?;
+    let bound = workshop.bound_policies(choice.get(), bindings.as_slice(), &read)?;
     let definitions = definitions.share()?;
     let fixed_types = kept.fixed_types.share()?;
     // The index is made last, for the prover: each way out drops what is held there.

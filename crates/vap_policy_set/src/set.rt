@@ -1,6 +1,6 @@
 //! Sets.
 
-ghost use Rattle.std.specs.Prelude.{◌≡◌, ℕ, [], true, List, Some, IfOk, IsErrOf};
+ghost use Rattle.std.specs.Prelude.{◌≡◌, ℕ, [], true, List, Some, IfOk, IsErrOf, IsTrue};
 ghost use Rattle.std.specs.List.{All};
 ghost use Rattle.std.specs.Option.{option_copied};
 ghost use Rattle.base_containers.specs.declared.failed.Failed.TheVariants.{Fault};
@@ -152,7 +152,7 @@ impl PolicySet {
         let changes = Changes::none(alloc);
         let kept = Kept {
             policies: &[],
-            still: &[],
+            is_still: false,
             choice: &choice,
             patterns: &patterns,
             fixed_types: &fixed_types,
@@ -221,8 +221,8 @@ impl PolicySet {
         let rules = self.rules.get();
         let changes = Changes::of(alloc, &rules.definitions.get().entries, events)?;
         let kept = Kept {
-            policies: rules.policies.all(),
-            still: self.still_bound(events),
+            policies: self.policies(),
+            is_still: self.is_still(events),
             choice: rules.choice.get(),
             patterns: &rules.patterns,
             fixed_types: &rules.fixed_types,
@@ -233,16 +233,12 @@ impl PolicySet {
         PolicySet::made(alloc, objects, &parts, &kept)
     }
 
-    /// The policies, if events leave all that they are bound to as it was: the bindings and the kinds.
-    fn still_bound(&self, events: &[Event]) -> &[Shared<BoundPolicy>]
-        ensures { (c : Cluster) → IsBefore self.now events.now c
-            → AreBound (choice_in self.now) (kinds_in c.objects) (bindings_in c.objects) result.now }
+    /// Whether events leave all that policies are bound to as it was: the bindings and the kinds.
+    fn is_still(&self, events: &[Event]) -> bool
+        ensures { IsTrue result → (c : Cluster) → IsBefore self.now events.now c
+            → AreBound (choice_in self.now) (kinds_in c.objects) (bindings_in c.objects) (policies_of self.now) }
     {
-        if leaves_bound(events) {
-            self.rules.get().policies.all()
-        } else {
-            &[]
-        }
+        leaves_bound(events)
     }
 
     /// What there is already of the set after events: its definitions, its Namespaces, and the params of the kinds that policies
@@ -276,7 +272,8 @@ impl PolicySet {
         requires kinds { parts.now.definitions.kinds ≡ kinds_in objects.now.objects }
         requires params { All (AreRefitted objects.now) parts.now.params }
         requires namespaces { parts.now.namespaces ≡ namespaces_in objects.now.objects }
-        requires still { AreBound kept.now.choice.now (kinds_in objects.now.objects) (bindings_in objects.now.objects) kept.now.still.now }
+        requires still { IsTrue kept.now.is_still → AreBound kept.now.choice.now (kinds_in objects.now.objects)
+            (bindings_in objects.now.objects) kept.now.policies.now }
         ensures is { IfOk result (λ set. set ≡ holdings_of objects.now set.choice) }
         ensures choice { IfOk result (λ set. IsChoiceFor (of_policies (policies_in objects.now.objects)) set.choice.refused) }
         ensures unverified { (name : List ℕ) → IsErrOf result (Fault (Unverified name)) → IsUnverifiedIn objects.now name }

@@ -1,8 +1,7 @@
 //! Policies with their own texts: the literal texts that `matches` is given in their expressions.
 
-ghost use Rattle.std.specs.Prelude.{◌≡◌, ◌++◌, ◌↔◌, IfOk, IfSome, IsTrue, OnOk};
+ghost use Rattle.std.specs.Prelude.{◌≡◌, ◌++◌, ◌↔◌, IfOk, IsTrue, OnOk};
 ghost use Rattle.std.specs.List.{flat_map};
-ghost use Rattle.std.specs.Option.{option_copied};
 ghost use Rattle.vap_policy_set.specs.Patterns.{of_annotation, of_message, of_named, of_policy, of_validation};
 
 use base_containers::{Items, Same, Shared, Text};
@@ -148,17 +147,9 @@ impl PolicyTexts {
     }
 }
 
-/// A policy with its own texts, which are read unless some are kept.
-pub fn own_texts(
-    alloc: Global,
-    policy: &Policy,
-    kept: Option<&Shared<PolicyTexts>>,
-) -> Result<Shared<PolicyTexts>, AllocError>
-    requires { IfSome (option_copied kept) (λ own. own ≡ policy.now) }
+/// A policy with its own texts, which are read.
+pub fn read_texts(alloc: Global, policy: &Policy) -> Result<Shared<PolicyTexts>, AllocError>
     ensures { IfOk result (λ own. own ≡ policy.now) }
 {
-    match kept {
-        Some(own) => own.share(),
-        None => Shared::new(alloc, PolicyTexts::new(alloc, policy)?),
-    }
+    Shared::new(alloc, PolicyTexts::new(alloc, policy)?)
 }

@@ -6,6 +6,7 @@ pub mod BindingCrossing
 pub mod Copied
 pub mod ItemSteps
 pub mod KeyOrder
+pub mod KindRange
 pub mod Keyed
 pub mod LeastEventFault
 pub mod WorkedRows

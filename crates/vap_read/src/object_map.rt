@@ -1,18 +1,18 @@
 //! Objects by their keys.
 
-ghost use Rattle.std.specs.Prelude.{◌≡◌, [], length, IfOk, OnOk, OnErr};
+ghost use Rattle.std.specs.Prelude.{◌≡◌, [], ◌∷◌, ◌++◌, filter, length, IfOk, OnOk, OnErr};
 ghost use Rattle.std.specs.List.Sorted.{IsStrictlySortedBy};
 ghost use Rattle.std.specs.Option.{option_copied};
 ghost use Rattle.std.specs.Map.{keys_of, lookup, remove_entry};
 ghost use Rattle.std.specs.BTreeMap.{insert_entry, is_at};
-ghost use Rattle.vap_read.specs.Keys.{key_cmp, with_object};
+ghost use Rattle.vap_read.specs.Keys.{first_key, is_of, key_cmp, with_object};
 
 use crate::key::Key;
 use crate::object::Object;
-use base_containers::Shared;
+use base_containers::{Shared, Text};
 use std::alloc::{AllocError, Global};
 use std::collections::BTreeMap;
-use std::collections::btree_map::Iter;
+use std::collections::btree_map::{Iter, Range};
 use std::marker::Model;
 
 /// Objects, each under its key, which contracts see as the list of the keys with the objects, by key.
@@ -72,6 +72,21 @@ impl ObjectMap {
         self.entries.iter()
     }
 
+    /// The keys of a version and kind with their objects, by namespace, then by name. Other keys are not looked at.
+    pub fn of_kind(
+        &self,
+        alloc: Global,
+        api_version: &str,
+        kind: &str,
+    ) -> Result<Range<'_, Key, Shared<Object>>, AllocError>
+        ensures entries { IfOk result (λ found. found ≡ filter (λ e. is_of api_version.now kind.now e.0) self.now) }
+        ensures ordered { IfOk result (λ found. IsStrictlySortedBy key_cmp (keys_of found)) }
+    {
+        let first = first_key(alloc, api_version, Text::from_str(alloc, kind)?)?;
+        let behind = first_key(alloc, api_version, next_text(alloc, kind)?)?;
+        Ok(self.entries.range(first..behind))
+    }
+
     /// An equal map with keys of its own: one more owner of each object.
     pub fn copy(&self, alloc: Global) -> Result<ObjectMap, AllocError>
         ensures { IfOk result (λ map. map ≡ self.now) }
@@ -105,6 +120,27 @@ impl ObjectMap {
     {
         self.entries.remove(key);
     }
+}
+
+/// The first key that may be of a version and kind.
+fn first_key(alloc: Global, api_version: &str, kind: Text) -> Result<Key, AllocError>
+    ensures { IfOk result (λ key. key ≡ first_key api_version.now kind) }
+{
+    Ok(Key {
+        api_version: Text::from_str(alloc, api_version)?,
+        kind,
+        namespace: Text::from_str(alloc, "")?,
+        name: Text::from_str(alloc, "")?,
+    })
+}
+
+/// The text after another: none is between them.
+fn next_text(alloc: Global, text: &str) -> Result<Text, AllocError>
+    ensures { IfOk result (λ next. next ≡ text.now ++ 0 ∷ []) }
+{
+    let mut next = String::from_str(alloc, text)?;
+    next.push('\0')?;
+    Ok(Text::from_string(next))
 }
 
 fn copied(

@@ -1,6 +1,7 @@
 -- Lists by name that are made of one entry after the other.
 use Rattle.std.proofs.Common.{◌≡◌, ℕ, List, [], ◌∷◌, ◌++◌, append_assoc, append-nil, ap, sym, subst, ◌∙◌, refl}
 use Rattle.std.specs.Cmp.Lexicographic.{slice_cmp}
+use Rattle.std.specs.List.{flat_map}
 use Rattle.std.specs.List.Sorted.{IsSortedByKey}
 use Rattle.std.specs.Ordering.{nat_cmp}
 use Rattle.base_containers.specs.Keys.{with_entry}
@@ -43,5 +44,17 @@ gathers all more rest old new adds is = record {
   is = adds.grown is.before is.is;
 }
 
+-- the next of some things from which entries are read
+pub reads_next : {A V : Type 0} (read : A → List (Keyed V)) (all : List (Keyed V)) (from : A) (before after : List A)
+    (more old new : List (Keyed V)) → Adds more old new → more ≡ read from → before ≡ from ∷ after
+    → IsGathered all (flat_map read before) old → IsGathered all (flat_map read after) new
+reads_next read all from before after more old new adds same next is =
+    gathers all more (flat_map read after) old new adds
+    (subst (λ rest. IsGathered all rest old) (ap (flat_map read) next ∙ ap (λ xs. xs ++ flat_map read after) (sym same)) is)
+
 pub all_gathered : {V : Type 0} (all list : List (Keyed V)) → IsGathered all [] list → list ≡ by_name all
 all_gathered all list is = is.is ∙ ap by_name (sym (append-nil is.before) ∙ is.whole)
+
+pub all_read : {A V : Type 0} (read : A → List (Keyed V)) (all : List (Keyed V)) (left : List A) (list : List (Keyed V)) → left ≡ []
+    → IsGathered all (flat_map read left) list → list ≡ by_name all
+all_read read all left list none is = all_gathered all list (subst (λ xs. IsGathered all (flat_map read xs) list) none is)

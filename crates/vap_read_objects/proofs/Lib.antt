@@ -1,11 +1,11 @@
 pub mod OwnKinds
 pub mod WorkedKinds
 pub mod KindCrossing
+pub mod Alone
 pub mod ByName
 pub mod Classed
 pub mod Contents
 pub mod Counts
-pub mod Entries
 pub mod Gathering
 pub mod Listing
 pub mod Logs

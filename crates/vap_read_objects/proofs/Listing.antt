@@ -1,12 +1,13 @@
 -- How long the lists that are read from objects are.
-use Rattle.std.proofs.Common.{◌≡◌, ◌≤◌, ◌+◌, ℕ, Bool, true, false, List, [], ◌∷◌, length, length-append, refl, arith}
+use Rattle.std.proofs.Common.{◌≡◌, ◌≤◌, ℕ, Bool, true, false, List, [], ◌∷◌, length, length-append, refl, arith}
 use Rattle.std.specs.Prelude.{if◌then◌else◌}
 use Rattle.vap_read.specs.declared.key.Key.{Key}
 use Rattle.vap_read.specs.declared.object.Content.{Content}
 use Rattle.vap_read.specs.declared.object.Content.TheVariants as content
 use Rattle.vap_read.specs.declared.object.Object.{Object}
 use Rattle.vap_read_objects.specs.Limits.{policy_count, binding_count, weight, total, AreFew}
-use Rattle.vap_read_objects.specs.Classes.{is_binding, is_of, is_policy}
+use Rattle.vap_read.specs.Keys.{is_of}
+use Rattle.vap_read_objects.specs.Classes.{is_binding, is_policy}
 use Rattle.vap_read_objects.specs.Listed.{policy_by, policy_under, policy_in, policies_among, policies_in}
 use Rattle.vap_read_objects.specs.Listed.{binding_by, binding_under, binding_in, bindings_among, bindings_in}
 use Rattle.vap_read_objects.specs.OfKind.{if_of_kind, objects_of_kind}

@@ -3,7 +3,6 @@ use Rattle.std.proofs.Common.{◌≡◌, ℕ, Bool, true, false, cond, List, [],
 use Rattle.std.specs.Prelude.{if◌then◌else◌}
 use Rattle.std.specs.List.{flat_map}
 use Rattle.std.specs.Map.{values_of}
-use Rattle.base_containers.specs.declared.text.Keyed.{Keyed}
 use Rattle.vap_read_objects.specs.Definitions.{is_definition}
 use Rattle.vap_read_objects.specs.Kinds.{kinds_of}
 use Rattle.vap_read.specs.declared.event.Event.{Event}
@@ -11,46 +10,34 @@ use Rattle.vap_read.specs.declared.key.Key.{Key}
 use Rattle.vap_read.specs.declared.object.Object.{Object}
 use Rattle.vap_read_objects.specs.After.{after_all}
 use Rattle.vap_read_objects.specs.ByName.{by_name}
-use Rattle.vap_read_objects.specs.Classes.{all_miss, is_binding, is_of, is_policy, is_rule, of_class}
+use Rattle.vap_read.specs.Keys.{is_of}
+use Rattle.vap_read_objects.specs.Classes.{all_miss, is_binding, is_policy, is_rule, of_class}
 use Rattle.vap_read_objects.specs.Cluster.{Cluster}
-use Rattle.vap_read_objects.specs.Listed.{policy_by, policy_in, policy_under, policies_in, binding_by, binding_in, binding_under}
+use Rattle.vap_read_objects.specs.Listed.{policy_in, policies_in, binding_in}
 use Rattle.vap_read_objects.specs.Listed.{bindings_in}
-use Rattle.vap_read_objects.specs.Listed.{definition_in, definition_under, definitions_in, kinds_in}
+use Rattle.vap_read_objects.specs.Listed.{definition_in, definitions_in, kinds_in}
 use Rattle.vap_read_objects.specs.OfKind.{if_of_kind, objects_of_kind}
+use Rattle.vap_read_objects.proofs.Alone.{made_of, no_binding, no_definition, no_policy}
 use Rattle.vap_read_objects.proofs.Classed.{class_stays, miss_bindings, miss_definitions, miss_policies}
 
 -- ---- lists that are made of a class alone
 
 module _ {X : Type 0} (class : Key → Bool) (f : Key × Object → List X)
     (none : (e : Key × Object) → class e.0 ≡ false → f e ≡ []) where
-  made_alone : (os : List (Key × Object)) → flat_map f os ≡ flat_map f (of_class class os)
-  made_alone [] = refl
-  made_alone (e ∷ os) = at (class e.0) refl (made_alone os)
-    where
-      at : (b : Bool) → class e.0 ≡ b → flat_map f os ≡ flat_map f (of_class class os)
-          → flat_map f (e ∷ os) ≡ flat_map f (cond b (e ∷ of_class class os) (of_class class os))
-      at true is rest = ap (λ xs. f e ++ xs) rest
-      at false is rest = ap (λ xs. xs ++ flat_map f os) (none e is) ∙ rest
+  alone : (os : List (Key × Object)) → flat_map f os ≡ flat_map f (of_class class os)
+  alone = made_of class f f none (λ e is. refl)
 
   list_stays : (es : List Event) (c : Cluster) → all_miss class es ≡ true
       → flat_map f (after_all es c).objects ≡ flat_map f c.objects
   list_stays es c h =
-      made_alone (after_all es c).objects ∙ ap (flat_map f) (class_stays class es c h) ∙ sym (made_alone c.objects)
+      alone (after_all es c).objects ∙ ap (flat_map f) (class_stays class es c h) ∙ sym (alone c.objects)
 
 -- ---- policies and bindings
-
-no_policy : (e : Key × Object) → is_policy e.0 ≡ false → policy_in e ≡ []
-unfolding policy_under
-no_policy e none = ap (λ b. if b then policy_by e.1.key.name e.1.content else []) none
 
 -- events that touch no policy, binding or definition leave the policies
 pub policies_stay : (es : List Event) (c : Cluster) → all_miss is_rule es ≡ true
     → policies_in (after_all es c).objects ≡ policies_in c.objects
 policies_stay es c h = ap by_name (list_stays is_policy policy_in no_policy es c (miss_policies es h))
-
-no_binding : (e : Key × Object) → is_binding e.0 ≡ false → binding_in e ≡ []
-unfolding binding_under
-no_binding e none = ap (λ b. if b then binding_by e.1.key.name e.1.content else []) none
 
 -- events that touch no binding leave the bindings
 pub own_bindings_stay : (es : List Event) (c : Cluster) → all_miss is_binding es ≡ true
@@ -63,13 +50,6 @@ pub bindings_stay : (es : List Event) (c : Cluster) → all_miss is_rule es ≡ 
 bindings_stay es c h = own_bindings_stay es c (miss_bindings es h)
 
 -- ---- definitions
-
-abbrev definition_if : Object → Bool → List (Keyed Object)
-definition_if o b = if b then record { key = o.key.name; value = o } ∷ [] else []
-
-no_definition : (e : Key × Object) → is_definition e.0 ≡ false → definition_in e ≡ []
-unfolding definition_under
-no_definition e none = ap (definition_if e.1) none
 
 -- events that touch no definition leave the definitions
 pub definitions_stay : (es : List Event) (c : Cluster) → all_miss is_definition es ≡ true

@@ -1,20 +1,15 @@
 -- Objects by the classes of their keys, and events that touch none of these.
-use Rattle.std.specs.Prelude.{ℕ, Bool, true, false, not, ◌&&◌, ◌||◌, codes, List, filter}
+use Rattle.std.specs.Prelude.{Bool, true, false, not, ◌||◌, codes, List, filter}
 use Rattle.std.specs.BTreeMap.{is_at}
 use Rattle.std.specs.List.{list_all}
-use Rattle.std.specs.Str.{bytes_eq}
 use Rattle.vap_read_objects.specs.Definitions.{is_definition}
-use Rattle.vap_read.specs.Keys.{key_cmp}
+use Rattle.vap_read.specs.Keys.{is_of, key_cmp}
 use Rattle.vap_read.specs.declared.event.Event.{Event}
 use Rattle.vap_read.specs.declared.event.Event.TheVariants.{Put, Removed, Passed, Replaced}
 use Rattle.vap_read.specs.declared.key.Key.{Key}
 use Rattle.vap_read.specs.declared.object.Object.{Object}
 
 -- ---- keys
-
--- whether a key is one of this version and kind
-abbrev pub is_of : List ℕ → List ℕ → Key → Bool
-is_of api_version kind k = bytes_eq k.api_version api_version && bytes_eq k.kind kind
 
 -- whether a key is that of a policy
 abbrev pub is_policy : Key → Bool

@@ -6,7 +6,8 @@ use Rattle.std.specs.Str.{bytes_eq}
 use Rattle.cel_value.specs.declared.cel_type.CelType.{CelType}
 use Rattle.base_containers.specs.declared.text.Keyed.{Keyed}
 use Rattle.vap_read_objects.specs.declared.kind.Kind.{Kind}
-use Rattle.vap_read_objects.specs.Classes.{is_of, of_class}
+use Rattle.vap_read.specs.Keys.{is_of}
+use Rattle.vap_read_objects.specs.Classes.{of_class}
 use Rattle.vap_read_objects.specs.Cluster.{Cluster}
 use Rattle.vap_read_objects.specs.OfKind.{objects_of_kind}
 use Rattle.vap_read.specs.declared.policy.ParamKind.{ParamKind}

@@ -24,6 +24,10 @@ policy_by name (content.Policy p) = record { key = name; value = p } ∷ []
 policy_by name (content.Binding b) = []
 policy_by name content.Other = []
 
+-- the policy as which an object was read
+abbrev pub policy_read : Key × Object → List (Keyed Policy)
+policy_read e = policy_by e.1.key.name e.1.content
+
 -- what is under a key, if that is a policy's
 unfoldable pub policy_under : Key → Object → List (Keyed Policy)
 policy_under k o = if is_policy k then policy_by o.key.name o.content else []
@@ -46,6 +50,10 @@ abbrev pub binding_by : List ℕ → Content → List (Keyed Binding)
 binding_by name (content.Policy p) = []
 binding_by name (content.Binding b) = record { key = name; value = b } ∷ []
 binding_by name content.Other = []
+
+-- the binding as which an object was read
+abbrev pub binding_read : Key × Object → List (Keyed Binding)
+binding_read e = binding_by e.1.key.name e.1.content
 
 -- what is under a key, if that is a binding's
 unfoldable pub binding_under : Key → Object → List (Keyed Binding)
@@ -71,6 +79,10 @@ abbrev pub bindings_of : List ℕ → List (Keyed Binding) → List (Keyed Bindi
 bindings_of policy bs = flat_map (if_bound policy) bs
 
 -- ---- kinds
+
+-- an object by its name
+abbrev pub object_named : Key × Object → List (Keyed Object)
+object_named e = record { key = e.1.key.name; value = e.1 } ∷ []
 
 -- what is under a key by its name, if that is a definition's
 unfoldable pub definition_under : Key → Object → List (Keyed Object)

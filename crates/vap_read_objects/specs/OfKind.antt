@@ -3,10 +3,10 @@ use Rattle.std.specs.Prelude.{ℕ, if◌then◌else◌, codes, List, [], ◌∷�
 use Rattle.std.specs.BTreeMap.{is_at}
 use Rattle.std.specs.List.{flat_map}
 use Rattle.std.specs.Map.{lookup}
-use Rattle.vap_read.specs.Keys.{key_cmp}
+use Rattle.vap_read.specs.Keys.{is_of, key_cmp}
 use Rattle.vap_read.specs.declared.key.Key.{Key}
 use Rattle.vap_read.specs.declared.object.Object.{Object}
-use Rattle.vap_read_objects.specs.Classes.{is_namespace, is_of, of_class}
+use Rattle.vap_read_objects.specs.Classes.{is_namespace, of_class}
 use Rattle.vap_match.specs.Select.{Labels, labels_of}
 
 -- what is under a key, if that is one of this version and kind

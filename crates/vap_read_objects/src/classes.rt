@@ -1,7 +1,8 @@
 //! The classes of keys.
 
 ghost use Rattle.std.specs.Prelude.{◌≡◌};
-ghost use Rattle.vap_read_objects.specs.Classes.{is_binding, is_of, is_policy, is_rule};
+ghost use Rattle.vap_read.specs.Keys.{is_of};
+ghost use Rattle.vap_read_objects.specs.Classes.{is_binding, is_policy, is_rule};
 
 use crate::definition::is_definition;
 use vap_read::Key;

@@ -2,7 +2,8 @@
 
 ghost use Rattle.std.specs.Prelude.{◌≡◌};
 ghost use Rattle.vap_read_objects.specs.Definitions.{is_definition};
-ghost use Rattle.vap_read_objects.specs.Classes.{all_miss, is_binding, is_namespace, is_of, misses};
+ghost use Rattle.vap_read.specs.Keys.{is_of};
+ghost use Rattle.vap_read_objects.specs.Classes.{all_miss, is_binding, is_namespace, misses};
 
 use crate::classes::is_of;
 use vap_read::Event;

@@ -1,35 +1,17 @@
 //! Objects of a kind, and Namespaces with their labels.
 
-ghost use Rattle.std.specs.Prelude.{◌≡◌, ◌++◌, if◌then◌else◌, IfOk, OnOk};
-ghost use Rattle.std.specs.BTreeMap.{insert_entry};
+ghost use Rattle.std.specs.Prelude.{◌≡◌, IfOk};
 ghost use Rattle.std.specs.Option.{option_copied};
 ghost use Rattle.vap_match.specs.Select.{lent_labels};
-ghost use Rattle.vap_read.specs.Keys.{key_cmp};
-ghost use Rattle.vap_read_objects.specs.Classes.{is_of, of_class};
-ghost use Rattle.vap_read_objects.specs.OfKind.{if_of_kind, objects_of_kind, namespaces_in, object_at, namespace_key};
+ghost use Rattle.vap_read.specs.Keys.{is_of};
+ghost use Rattle.vap_read_objects.specs.Classes.{of_class};
+ghost use Rattle.vap_read_objects.specs.OfKind.{objects_of_kind, namespaces_in, object_at, namespace_key};
 ghost use Rattle.vap_read_objects.specs.OfKind.{labels_in, namespace_labels};
 
-use crate::classes::is_of;
 use base_containers::{Items, Part, Shared, Text};
 use std::alloc::{AllocError, Global};
 use vap_match::{Labels, labels_of};
 use vap_read::{Key, Object, ObjectMap};
-
-#[tactic(auto, unfolding(crate::specs::OfKind::if_of_kind))]
-fn add_if_of_kind(
-    api_version: &str,
-    kind: &str,
-    key: &Key,
-    object: &Shared<Object>,
-    found: &mut Vec<Shared<Object>>,
-) -> Result<(), AllocError>
-    ensures { OnOk result (found.new.items ≡ found.old.items ++ if_of_kind api_version.now kind.now key.now object.now) }
-{
-    if is_of(api_version, kind, key) {
-        found.push(object.share()?)?;
-    }
-    Ok(())
-}
 
 /// The objects of a version and kind, by namespace, then by name.
 pub fn objects_of_kind(
@@ -41,27 +23,10 @@ pub fn objects_of_kind(
     ensures { IfOk result (λ found. found ≡ objects_of_kind api_version.now kind.now objects.now) }
 {
     let mut found = Vec::new(alloc);
-    for (key, object) in objects.iter() {
-        add_if_of_kind(api_version, kind, key, object, &mut found)?;
+    for (_, object) in objects.of_kind(alloc, api_version, kind)? {
+        found.push(object.share()?)?;
     }
     Ok(Items::from_vec(found))
-}
-
-fn put_if_of_kind(
-    api_version: &str,
-    kind: &str,
-    key: &Key,
-    object: &Shared<Object>,
-    found: &mut ObjectMap,
-) -> Result<(), AllocError>
-    ensures { OnOk result (found.new ≡ (if is_of api_version.now kind.now key.now
-        then insert_entry key_cmp found.old key.now object.now
-        else found.old)) }
-{
-    if is_of(api_version, kind, key) {
-        found.put_under(key.copy()?, object.share()?)?;
-    }
-    Ok(())
 }
 
 /// The entries whose keys are of a version and kind.
@@ -74,8 +39,8 @@ pub fn entries_of_kind(
     ensures { IfOk result (λ found. found ≡ of_class (is_of api_version.now kind.now) objects.now) }
 {
     let mut found = ObjectMap::new(alloc);
-    for (key, object) in objects.iter() {
-        put_if_of_kind(api_version, kind, key, object, &mut found)?;
+    for (key, object) in objects.of_kind(alloc, api_version, kind)? {
+        found.put_under(key.copy()?, object.share()?)?;
     }
     Ok(found)
 }

@@ -5,9 +5,9 @@ use Rattle.std.specs.Io.KnownBytes.{IsAtEnd}
 use Rattle.std.proofs.lemmas.Result.{err_from_is_err_and}
 use Rattle.base_containers.specs.Counted.{inner_of}
 use Rattle.base_containers.specs.Lines.{room, unread}
-use Rattle.base_containers.specs.declared.lines.Ending.TheVariants.{Feed}
+use Rattle.base_containers.specs.declared.lines.Ending.TheVariants.{End, Feed}
+use Rattle.base_containers.proofs.BytesRead.{given_next, stops_behind}
 use Rattle.vap_cli_replay.specs.declared.fault.ReplayError.TheVariants.{Line, Read}
-use Rattle.vap_cli_replay.proofs.Given.{given_next, spent_reading}
 use Rattle.vap_cli_replay.proofs.Next.{ended_of, lines_within, stops_first}
 use Rattle.vap_cli_replay.specs.declared.fault.LineFault.TheVariants.{Pattern, Unverified}
 use Rattle.vap_cli_replay.proofs.Told.{read_last, refused_next, stopped_last, stopped_next, taken_next, told_unwritten, unanswered_last}
@@ -46,6 +46,7 @@ loop-session-preserved g c =
     let at = c.loop-session.invariant in
     let on = c.in_ok-ending.ensures in
     let feed : c.loop-session.ending ≡ Feed = search rules in
+    let not : c.loop-session.ending ≢ End = λ is. cc (feed, is) in
     record {
       step = on.step;
       home = on.home;
@@ -64,7 +65,7 @@ loop-session-preserved g c =
       given =
           given_next c.loop-session.ending c.in_ok-ending.ending (g.R.Read.remaining (inner_of c.args.input.now))
           (g.R.Read.remaining (inner_of c.loop-session.input)) (g.R.Read.remaining (inner_of c.take_next.new.input)) c.in_ok-reader.reader
-          c.loop-session.reader c.take_next.new.reader feed at.given on.given;
+          c.loop-session.reader c.take_next.new.reader not at.given on.given;
       no_failure = on.no_failure ∙ at.no_failure;
       lines =
           lines_within c.loop-session.ending c.in_ok-ending.ending c.loop-session.session.lines c.take_next.new.session.lines
@@ -84,11 +85,12 @@ returns-in_err-ending-clause-read g c =
     let p = err_from_is_err_and from.result from.ensures.1 in
     let at = c.loop-session.invariant in
     let feed : c.loop-session.ending ≡ Feed = search rules in
+    let not : c.loop-session.ending ≢ End = λ is. cc (feed, is) in
     λ told.
     let same : IsErrOf c.take_next.result Read = cc (c.in_err-ending.was) in
-    spent_reading g.R.Read.remaining c.loop-session.ending c.args.input.now c.loop-session.input c.take_next.new.input
-    c.in_ok-reader.reader c.loop-session.reader c.take_next.new.reader feed c.in_ok-reader.ensures.reads at.given at.no_failure
-    (c.take_next.ensures.read same)
+    stops_behind g.R.Read.remaining c.loop-session.ending c.args.input.now c.loop-session.input c.take_next.new.input
+    c.in_ok-reader.reader c.loop-session.reader c.take_next.new.reader c.in_ok-reader.ensures.reads at.given at.no_failure
+    (not, c.take_next.ensures.read same)
 
 pub returns-in_err-ending-clause-pattern : goal.returns-in_err-ending-clause-pattern
 returns-in_err-ending-clause-pattern g c =

@@ -12,14 +12,12 @@ use Rattle.vap_policy_set.proofs.index.put_narrow.Goals as goal
 pub returns : goal.returns
 returns c =
     let rules = c.rules_in.ensures ∙ ap (λ (p : BoundPolicy). rules_in p) c.get.ensures in
-    let places =
-    c.in_ok-put_rules.ensures
-    ∙ ap (λ (ks : List Place). ks ++ flat_map rule_places c.rules_in.result.now) c.new-places.ensures.items
-    ∙ ap (λ (rs : List Rule). flat_map rule_places rs) rules in
     narrow_put c.put_at_each.result c.as_slice.result.now c.args.policy.now c.args.entries.now c.put_at_each.new.entries
     c.requires.narrow
     (λ g s.
     ap (list_any (is_place g s)) c.as_slice.ensures.value
     ∙ c.put_in_order.ensures.same g s
-    ∙ ap (list_any (is_place g s)) places)
+    ∙ c.in_ok-put_rules.ensures g s
+    ∙ ap (λ (ks : List Place). list_any (is_place g s) (ks ++ flat_map rule_places c.rules_in.result.now)) c.new-places.ensures.items
+    ∙ ap (λ (rs : List Rule). list_any (is_place g s) (flat_map rule_places rs)) rules)
     c.put_at_each.ensures

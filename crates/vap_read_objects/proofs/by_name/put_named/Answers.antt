@@ -1,6 +1,5 @@
-use Rattle.std.proofs.Common.{◌≡◌, rules, arith}
+use Rattle.std.proofs.Common.{rules, arith}
 use Rattle.std.proofs.lemmas.Grind.{common_steps}
-use Rattle.base_containers.specs.Keys.{with_entry}
 use Rattle.vap_read_objects.proofs.Gathering.{adds_one}
 use Rattle.vap_read_objects.proofs.by_name.put_named.Goals as goal
 

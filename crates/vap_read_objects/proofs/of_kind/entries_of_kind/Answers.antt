@@ -1,5 +1,4 @@
-use Rattle.vap_read_objects.specs.Classes.{is_of}
-use Rattle.vap_read_objects.proofs.Entries.{put_next}
+use Rattle.vap_read.proofs.Copied.{put_equal}
 use Rattle.vap_read_objects.proofs.of_kind.entries_of_kind.Goals as goal
 
 pub loop-key-preserved : goal.loop-key-preserved
@@ -7,7 +6,7 @@ loop-key-preserved c = record {
   can_next = tt;
   is_finite = tt;
   whole =
-      put_next (is_of c.args.api_version.now c.args.kind.now) _ _ _ _ _ _ _ c.in_ok-put_if_of_kind.ensures c.in-Some.ensures.steps
-      c.loop-key.invariant.whole c.loop-key.invariant.sorted;
+      put_equal _ _ _ _ _ _ _ _ _ c.in_ok-put_under.ensures.ok c.in_ok-copy.ensures c.in_ok-share.ensures
+      c.in-Some.ensures.steps c.loop-key.invariant.whole c.loop-key.invariant.sorted;
   sorted = c.loop-key.invariant.sorted;
 }

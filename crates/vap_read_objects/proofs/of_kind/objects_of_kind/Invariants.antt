@@ -1,10 +1,12 @@
 use Rattle.std.proofs.Common.{◌≡◌, ◌++◌}
-use Rattle.vap_read_objects.specs.OfKind.{objects_of_kind}
+use Rattle.std.specs.Map.{values_of}
+use Rattle.vap_read.specs.Keys.{is_of}
+use Rattle.vap_read_objects.specs.Classes.{of_class}
 use Rattle.vap_read_objects.proofs.of_kind.objects_of_kind.Given as goal
 
-abbrev pub invariant-loop-key : goal.invariant-loop-key
-invariant-loop-key l = record {
-  can_next : goal.iterator-loop-key.can_next l.key-iterator;
-  is_finite : goal.iterator-loop-key.is_finite l.key-iterator;
-  all : l.found.items ++ objects_of_kind l.api_version l.kind l.key-iterator ≡ objects_of_kind l.api_version l.kind l.objects;
+abbrev pub invariant-loop-object : goal.invariant-loop-object
+invariant-loop-object l = record {
+  can_next : goal.iterator-loop-object.can_next l.object-iterator;
+  is_finite : goal.iterator-loop-object.is_finite l.object-iterator;
+  all : l.found.items ++ values_of l.object-iterator ≡ values_of (of_class (is_of l.api_version l.kind) l.objects);
 }

@@ -1,0 +1,94 @@
+-- Policies with what was bound of each before.
+use Rattle.std.proofs.Common.{◌≡◌, ℕ, zero, suc, ◌<◌, ◌+◌, List, [], ◌∷◌, ◌++◌, length, get_or, take, drop, Option, Some, None}
+use Rattle.std.proofs.Common.{add-one, append_assoc, drop-cons, refl, sym, ap, subst, ◌∙◌, arith}
+use Rattle.std.specs.Prelude.{IfSome}
+use Rattle.std.proofs.lemmas.List.{take_more}
+use Rattle.base_containers.specs.declared.text.Keyed.{Keyed}
+use Rattle.vap_read.specs.declared.binding.Binding.{Binding}
+use Rattle.vap_read.specs.declared.policy.Policy.{Policy}
+use Rattle.vap_read_objects.specs.declared.kind.Kind.{Kind}
+use Rattle.vap_policy_set.specs.Sets.{bound_of}
+use Rattle.vap_policy_set.specs.Still.{AreBound, AreOldOf, IsBound, IsOldOf}
+use Rattle.vap_policy_set.specs.declared.bound.BoundPolicy.{BoundPolicy}
+use Rattle.vap_policy_set.specs.declared.choice.Choice.{Choice}
+use Rattle.vap_policy_set.proofs.StillBound.{bound_again}
+
+-- one that is bound as it would be now is what a policy of its name is bound to that says the same
+pub old_bound : (choice : Choice) (kinds : List Kind) (bindings : List (Keyed Binding)) (b : BoundPolicy) (p : Keyed Policy)
+    → b.name ≡ p.key → b.own ≡ p.value → IsBound choice kinds bindings b → b ≡ bound_of choice kinds bindings p
+old_bound choice kinds bindings b p name says is =
+    bound_again choice kinds bindings b p is (name, sym (ap (λ (x : BoundPolicy). x.own) is) ∙ says)
+
+-- what was bound among the last of all was bound among all
+pub old_among : (rest all : List BoundPolicy) (p : Keyed Policy) (b : BoundPolicy)
+    → ((choice : Choice) (kinds : List Kind) (bindings : List (Keyed Binding)) → AreBound choice kinds bindings all
+    → AreBound choice kinds bindings rest) → IsOldOf rest p b → IsOldOf all p b
+old_among rest all p b part old = record {
+  says = old.says;
+  bound = λ choice kinds bindings are. old.bound choice kinds bindings (part choice kinds bindings are);
+}
+
+pub old_more : (all : List BoundPolicy) (ps : List (Keyed Policy)) (os : List (Option BoundPolicy)) (p : Keyed Policy)
+    (o : Option BoundPolicy) → AreOldOf all ps os → IfSome o (IsOldOf all p) → AreOldOf all (ps ++ p ∷ []) (os ++ o ∷ [])
+old_more all [] [] p o olds old = (old, tt)
+old_more all [] (x ∷ os) p o olds old = absurd olds
+old_more all (q ∷ ps) [] p o olds old = absurd olds
+old_more all (q ∷ ps) (x ∷ os) p o olds old = (olds.0, old_more all ps os p o olds.1 old)
+
+pub old_length : (all : List BoundPolicy) (ps : List (Keyed Policy)) (os : List (Option BoundPolicy)) → AreOldOf all ps os
+    → length ps ≡ length os
+old_length all [] [] olds = refl
+old_length all [] (x ∷ os) olds = absurd olds
+old_length all (q ∷ ps) [] olds = absurd olds
+old_length all (q ∷ ps) (x ∷ os) olds = ap suc (old_length all ps os olds.1)
+
+pub old_at : (all : List BoundPolicy) (ps : List (Keyed Policy)) (os : List (Option BoundPolicy)) (i : ℕ) (p : Keyed Policy)
+    (o : Option BoundPolicy) → AreOldOf all ps os → i < length ps → IfSome (get_or os i o) (IsOldOf all (get_or ps i p))
+old_at all [] os i p o olds lt = absurd (none i lt)
+  where
+    none : (n : ℕ) → n < 0 → ⊥
+    none n h = omega (arith, h)
+old_at all (q ∷ ps) [] i p o olds lt = absurd olds
+old_at all (q ∷ ps) (x ∷ os) zero p o olds lt = olds.0
+old_at all (q ∷ ps) (x ∷ os) (suc i) p o olds lt = old_at all ps os i p o olds.1 (omega (arith, lt))
+
+if_some : (all : List BoundPolicy) (p : Keyed Policy) (o : Option BoundPolicy) (choice : Choice) (kinds : List Kind)
+    (bindings : List (Keyed Binding)) → AreBound choice kinds bindings all → IfSome o (IsOldOf all p)
+    → IfSome o (λ b. b ≡ bound_of choice kinds bindings p)
+if_some all p None choice kinds bindings are old = tt
+if_some all p (Some b) choice kinds bindings are old = old.bound choice kinds bindings are
+
+-- what was bound of a policy at its place, if all are bound as they would be now
+pub old_stands : (all : List BoundPolicy) (ps : List (Keyed Policy)) (os : List (Option BoundPolicy)) (i : ℕ) (p : Keyed Policy)
+    (o : Option BoundPolicy) (choice : Choice) (kinds : List Kind) (bindings : List (Keyed Binding)) → AreOldOf all ps os → i < length ps
+    → p ≡ get_or ps i p → o ≡ get_or os i o → AreBound choice kinds bindings all → IfSome o (λ b. b ≡ bound_of choice kinds bindings p)
+old_stands all ps os i p o choice kinds bindings olds lt is there are =
+    if_some all p o choice kinds bindings are
+    (subst (λ (x : Option BoundPolicy). IfSome x (IsOldOf all p)) (sym there)
+    (subst (λ (q : Keyed Policy). IfSome (get_or os i o) (IsOldOf all q)) (sym is) (old_at all ps os i p o olds lt)))
+
+-- ---- one policy more
+
+pub old_some : (rest all : List BoundPolicy) (p : Keyed Policy) (o : Option BoundPolicy)
+    → ((choice : Choice) (kinds : List Kind) (bindings : List (Keyed Binding)) → AreBound choice kinds bindings all
+    → AreBound choice kinds bindings rest) → IfSome o (IsOldOf rest p) → IfSome o (IsOldOf all p)
+old_some rest all p None part old = tt
+old_some rest all p (Some b) part old = old_among rest all p b part old
+
+pub old_next : (all : List BoundPolicy) (ps : List (Keyed Policy)) (i : ℕ) (p : Keyed Policy) (os new : List (Option BoundPolicy))
+    (o : Option BoundPolicy) → i < length ps → p ≡ get_or ps i p → new ≡ os ++ o ∷ [] → AreOldOf all (take i ps) os
+    → IfSome o (IsOldOf all p) → AreOldOf all (take (i + 1) ps) new
+old_next all ps i p os new o lt is put olds old =
+    subst (λ (qs : List (Keyed Policy)). AreOldOf all qs new) (ap (λ q. take i ps ++ q ∷ []) is ∙ sym (take_more ps i p lt))
+    (subst (λ (xs : List (Option BoundPolicy)). AreOldOf all (take i ps ++ p ∷ []) xs) (sym put) (old_more all (take i ps) os p o olds old))
+
+pub whole_next : (ps done new : List (Keyed Policy)) (i : ℕ) (p q : Keyed Policy) → new ≡ done ++ q ∷ [] → q ≡ p → i < length ps
+    → p ≡ get_or ps i p → done ++ drop i ps ≡ ps → new ++ drop (i + 1) ps ≡ ps
+whole_next ps done new i p q put same lt is whole =
+    ap (λ xs. xs ++ drop (i + 1) ps) put
+    ∙ append_assoc done (q ∷ []) (drop (i + 1) ps)
+    ∙ ap (λ x. done ++ x ∷ drop (i + 1) ps) same
+    ∙ ap (λ n. done ++ p ∷ drop n ps) (add-one i)
+    ∙ ap (λ x. done ++ x ∷ drop (suc i) ps) is
+    ∙ ap (λ xs. done ++ xs) (sym (drop-cons ps i p lt))
+    ∙ whole
