@@ -33,7 +33,8 @@ none_below x less = omega (arith, less)
 next_text : (text xs : List ℕ) → is_le (slice_cmp nat_cmp (text ++ 0 ∷ []) xs) ≡ is_lt (slice_cmp nat_cmp text xs)
 next_text [] [] = refl
 next_text [] (x ∷ xs) =
-    by_ranked (0 < x) (0 ≡ x) (x < 0) (nat_cmp 0 x) (ranked 0 x (nat_cmp 0 x) refl) (λ is less. ap (λ o. is_le (ordering_then o (slice_cmp nat_cmp [] xs))) is)
+    by_ranked (0 < x) (0 ≡ x) (x < 0) (nat_cmp 0 x) (ranked 0 x (nat_cmp 0 x) refl)
+    (λ is less. ap (λ o. is_le (ordering_then o (slice_cmp nat_cmp [] xs))) is)
     (λ is same. ap (λ o. is_le (ordering_then o (slice_cmp nat_cmp [] xs))) is ∙ none_before xs) (λ is less. absurd (none_below x less))
 next_text (t ∷ ts) [] = refl
 next_text (t ∷ ts) (x ∷ xs) = along (nat_cmp t x) (slice_cmp nat_cmp (ts ++ 0 ∷ []) xs) (slice_cmp nat_cmp ts xs) (next_text ts xs)
