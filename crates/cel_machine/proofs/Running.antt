@@ -15,11 +15,11 @@ use Rattle.cel_verify.specs.Sound.{IsWalked}
 use Rattle.cel_verify.specs.Paths.{charge_at, IsRouteCharge, IsRouteLength, IsWithin}
 use Rattle.cel_verify.specs.Accepted.{IsAccepted, budget}
 use Rattle.cel_machine.specs.Follow.{metered, next_of, end_of, top_of}
-use Rattle.cel_verify.specs.Depths.{greatest_depth, greatest_nesting}
+use Rattle.cel_verify.specs.Depths.{greatest_depth}
 use Rattle.cel_verify.proofs.Labels.{walks}
 use Rattle.cel_verify.proofs.StepsFit.{cost_fits, steps_fit}
 use Rattle.cel_verify.proofs.ToGo.{path_steps, total, GoesOn}
-use Rattle.cel_verify.proofs.Depths.{never_more, never_more_loops}
+use Rattle.cel_verify.proofs.Depths.{never_more}
 use Rattle.cel_verify.proofs.Steps.{begins, gets_typed, most_charge, most_steps, runs_within, step_goes}
 use Rattle.cel_verify.proofs.Turns.{one_more}
 
@@ -108,12 +108,6 @@ module _ (p image : Image) (slots : List Outcome) (accepted : IsAccepted p) (is 
     deep =
         subst (λ i. length stack ≤ greatest_depth i) (sym is)
         (never_more p slots walked filled (on at stack frames) charged steps gets)
-
-    -- no more open loops than at any instruction
-    pub nested : length frames ≤ greatest_nesting image
-    nested =
-        subst (λ i. length frames ≤ greatest_nesting i) (sym is)
-        (never_more_loops p slots walked filled (on at stack frames) charged steps gets)
 
     module _ (i : Instr) (m : Move) (there : Position) (stack' : List Outcome) (frames' : List Frame)
         (hi : slice_get image.code at ≡ Some i)

@@ -1,7 +1,6 @@
--- Stacks of operands and of open loops with their room.
+-- Stacks of operands with their room.
 use Rattle.std.specs.Prelude.{◌<◌, ℕ, List, length}
 use Rattle.cel_operators.specs.Outcomes.{Outcome}
-use Rattle.cel_code.specs.Machine.{Frame}
 
 -- the operands, the top first, and how many there is room for
 pub record Operands : Type 0 where
@@ -11,12 +10,3 @@ pub record Operands : Type 0 where
 -- there is room for one more
 abbrev pub HasRoom : Operands → Type 0
 HasRoom s = length s.items < s.room
-
--- the open loops, the innermost first, and how many there is room for
-pub record OpenLoops : Type 0 where
-  pub items : List Frame
-  pub room : ℕ
-
--- there is room for one more
-abbrev pub HasFrameRoom : OpenLoops → Type 0
-HasFrameRoom s = length s.items < s.room

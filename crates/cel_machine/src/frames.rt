@@ -1,6 +1,5 @@
-ghost use Rattle.std.specs.Prelude.{◌≡◌, ◌∷◌, [], List, None, Some, reverse, slice_get, option_copied, IfOk, MatchBool, MatchOption};
+ghost use Rattle.std.specs.Prelude.{◌≡◌, ◌∷◌, [], List, None, Some, reverse, slice_get, option_copied, IfOk, MatchBool, MatchOption, OnOk};
 ghost use Rattle.cel_operators.specs.Outcomes.{Outcome};
-ghost use Rattle.cel_machine.specs.Room.{HasFrameRoom};
 ghost use Rattle.cel_machine.specs.Follow.{advanced, next_in, passed_in, turned_in};
 
 use crate::frame::Frame;
@@ -10,61 +9,53 @@ use cel_value::CelError;
 use std::alloc::{AllocError, Global};
 use std::marker::Model;
 
-/// The open loops, with room for so many. Contracts see them as a list with the innermost first, and the room.
+/// The open loops, which contracts see as a list with the innermost first.
 #[derive(Drop)]
 pub struct Frames<'a> {
     items: Vec<Frame<'a>>,
-    room: usize,
 }
 
 impl<'a> Model for Frames<'a> {
-    ghost use Rattle.std.specs.Prelude.{◌≤◌, reverse, vec_capacity};
+    ghost use Rattle.std.specs.Prelude.{List, reverse};
     ghost use Rattle.std.specs.Coded.{codes};
     ghost use Rattle.cel_value.specs.contracts.value.Value as cel_value;
-    ghost use Rattle.cel_machine.specs.Room.{OpenLoops};
+    ghost use Rattle.cel_code.specs.Machine.{Frame as OpenLoop};
 
-    ghost Value = { OpenLoops };
+    ghost Value = { List OpenLoop };
 
     ghost coded = { Prim.hlevel (codes, cel_value.the_row.coded) };
 
-    ghost view = { λ s. record { items = reverse s.items.items; room = s.room } };
-
-    ghost invariant = { λ s. s.room ≤ vec_capacity s.items };
+    ghost view = { λ s. reverse s.items.items };
 }
 
 impl<'a> Frames<'a> {
-    /// No open loop, with room for so many.
-    pub fn with_room(alloc: Global, room: usize) -> Result<Frames<'a>, AllocError>
-        ensures items { IfOk result (λ frames. frames.items ≡ []) }
-        ensures room { IfOk result (λ frames. frames.room ≡ room) }
+    /// No open loop. This takes no memory.
+    pub fn new(alloc: Global) -> Frames<'a>
+        ensures { result ≡ [] }
     {
-        Ok(Frames {
-            items: Vec::with_capacity(alloc, room)?,
-            room,
-        })
+        Frames {
+            items: Vec::new(alloc),
+        }
     }
 
-    /// One more open loop, for which there is room: this takes no memory.
-    pub fn push(&mut self, frame: Frame<'a>)
-        requires { HasFrameRoom self.old }
-        ensures items { self.new.items ≡ frame.entry ∷ self.old.items }
-        ensures room { self.new.room ≡ self.old.room }
+    /// One more open loop.
+    pub fn push(&mut self, frame: Frame<'a>) -> Result<(), AllocError>
+        ensures { OnOk result (self.new ≡ frame.entry ∷ self.old) }
     {
-        self.items.push_reserved(frame);
+        self.items.push(frame)?;
+        Ok(())
     }
 
     pub fn pop(&mut self) -> Option<Frame<'a>>
-        ensures items { MatchOption result ((self.old.items ≡ []) × (self.new.items ≡ []))
-            (λ frame. self.old.items ≡ frame ∷ self.new.items) }
-        ensures room { self.new.room ≡ self.old.room }
+        ensures { MatchOption result ((self.old ≡ []) × (self.new ≡ []))
+            (λ frame. self.old ≡ frame ∷ self.new) }
     {
         self.items.pop()
     }
 
     /// The innermost loop is at its next item, if there is one.
     pub fn advance(&mut self) -> bool
-        ensures items { MatchBool result (advanced self.old.items ≡ Some self.new.items) (advanced self.old.items ≡ None) }
-        ensures room { self.new.room ≡ self.old.room }
+        ensures { MatchBool result (advanced self.old ≡ Some self.new) (advanced self.old ≡ None) }
     {
         let Some(frame) = self.items.last_mut() else {
             return false;
@@ -74,7 +65,7 @@ impl<'a> Frames<'a> {
 
     /// Whether the innermost loop goes on from an item with what it has gathered, its body a predicate that gave this there.
     pub fn passes(&self, side: Option<Result<bool, CelError>>) -> bool
-        ensures { result ≡ passed_in side self.now.items }
+        ensures { result ≡ passed_in side self.now }
     {
         match self.items.last() {
             Some(frame) => passes(frame.mode(), side),
@@ -88,9 +79,8 @@ impl<'a> Frames<'a> {
         alloc: Global,
         x: Result<Operand<'_>, CelError>,
     ) -> Result<Turned, AllocError>
-        ensures turned { IfOk result (λ t. (stack : List Outcome) → next_in (x.entry ∷ stack) self.old.items
-            ≡ turned_in t stack self.new.items) }
-        ensures room { self.new.room ≡ self.old.room }
+        ensures { IfOk result (λ t. (stack : List Outcome) → next_in (x.entry ∷ stack) self.old
+            ≡ turned_in t stack self.new) }
     {
         let Some(frame) = self.items.last_mut() else {
             return Ok(Turned::IsStuck);
@@ -100,7 +90,7 @@ impl<'a> Frames<'a> {
 
     /// The open loop by the number of loops between: 0 is the innermost.
     pub fn get(&self, number: usize) -> Option<&Frame<'a>>
-        ensures { option_copied result ≡ slice_get self.now.items number }
+        ensures { option_copied result ≡ slice_get self.now number }
     {
         at_depth(&self.items, number)
     }

@@ -4,7 +4,7 @@ ghost use Rattle.std.specs.Prelude.{◌≡◌, ◌+◌, ◌<◌, ◌^◌, List, 
 ghost use Rattle.cel_operators.specs.Outcomes.{Outcome};
 ghost use Rattle.cel_code.specs.Machine.{item_of, slot, opened};
 ghost use Rattle.cel_machine.specs.Ranges.{range_items};
-ghost use Rattle.cel_machine.specs.Room.{HasRoom, HasFrameRoom};
+ghost use Rattle.cel_machine.specs.Room.{HasRoom};
 ghost use Rattle.cel_machine.specs.Follow.{Follows, LeadsTo, Turns, loop_of, item_in, when_in, side_in, next_in};
 ghost use Rattle.cel_machine.specs.Follow.{mapped_in, gone_in, finished_in, closed_in};
 
@@ -32,8 +32,8 @@ pub fn local<'a>(
     requires at { position.old.at + 1 < 2 ^ 64 }
     requires room { HasRoom stack.old }
     ensures acts { IfOk result (λ m. Follows
-        (slot (item_of (slice_get frames.now.items number)) position.old.at stack.old.items frames.now.items)
-        m position.new stack.new.items frames.now.items) }
+        (slot (item_of (slice_get frames.now number)) position.old.at stack.old.items frames.now)
+        m position.new stack.new.items frames.now) }
     ensures room { stack.new.room ≡ stack.old.room }
 {
     let Some(frame) = frames.get(number) else {
@@ -73,28 +73,26 @@ pub fn open_loop<'a>(
     position: &mut Position,
     stack: &mut Stack<'a>,
     frames: &mut Frames<'a>,
-) -> Move
+) -> Result<Move, AllocError>
     requires at { position.old.at + 1 < 2 ^ 64 }
     requires room { HasRoom stack.old }
-    requires frame_room { HasFrameRoom frames.old }
-    ensures acts { Follows (loop_of number exit stack.old.items position.old.at frames.old.items)
-        result position.new stack.new.items frames.new.items }
+    ensures acts { IfOk result (λ m. Follows (loop_of number exit stack.old.items position.old.at frames.old)
+        m position.new stack.new.items frames.new) }
     ensures room { stack.new.room ≡ stack.old.room }
-    ensures frame_room { frames.new.room ≡ frames.old.room }
 {
     let Some(x) = stack.pop() else {
-        return Move::IsStuckHere;
+        return Ok(Move::IsStuckHere);
     };
     let Some(mode) = loop_kind(number) else {
-        return Move::IsStuckHere;
+        return Ok(Move::IsStuckHere);
     };
     match ranged(x) {
         Some(Ok(range)) => open_over(alloc, mode, exit, position, range, stack, frames),
         Some(Err(error)) => {
             stack.push(Err(error));
-            position.go_to(exit, 1)
+            Ok(position.go_to(exit, 1))
         }
-        None => Move::IsStuckHere,
+        None => Ok(Move::IsStuckHere),
     }
 }
 
@@ -107,29 +105,28 @@ fn open_over<'a>(
     range: Range<'a>,
     stack: &mut Stack<'a>,
     frames: &mut Frames<'a>,
-) -> Move
+) -> Result<Move, AllocError>
     requires at { position.old.at + 1 < 2 ^ 64 }
     requires room { HasRoom stack.old }
-    requires frame_room { HasFrameRoom frames.old }
-    ensures acts { Follows (opened mode (Some (Ok (range_items range.entry))) exit position.old.at stack.old.items frames.old.items)
-        result position.new stack.new.items frames.new.items }
+    ensures acts { IfOk result (λ m. Follows
+        (opened mode (Some (Ok (range_items range.entry))) exit position.old.at stack.old.items frames.old)
+        m position.new stack.new.items frames.new) }
     ensures room { stack.new.room ≡ stack.old.room }
-    ensures frame_room { frames.new.room ≡ frames.old.room }
 {
     if range.len() == 0 {
         stack.push(own(result_of(mode, nothing_yet(alloc))));
-        return position.go_to(exit, 1);
+        return Ok(position.go_to(exit, 1));
     }
-    frames.push(Frame::new(alloc, position.at, exit, mode, range));
-    position.go_on(1)
+    let frame = Frame::new(alloc, position.at, exit, mode, range);
+    frames.push(frame)?;
+    Ok(position.go_on(1))
 }
 
 /// The next item of the innermost loop.
 pub fn item(position: &mut Position, frames: &mut Frames<'_>) -> Move
     requires at { position.old.at + 1 < 2 ^ 64 }
-    ensures acts { (stack : List Outcome) → Follows (item_in position.old.at stack frames.old.items)
-        result position.new stack frames.new.items }
-    ensures frame_room { frames.new.room ≡ frames.old.room }
+    ensures acts { (stack : List Outcome) → Follows (item_in position.old.at stack frames.old)
+        result position.new stack frames.new }
 {
     if !frames.advance() {
         return Move::IsStuckHere;
@@ -141,9 +138,8 @@ pub fn item(position: &mut Position, frames: &mut Frames<'_>) -> Move
 pub fn when<'a>(position: &mut Position, stack: &mut Stack<'a>, frames: &mut Frames<'a>) -> Move
     requires at { position.old.at + 1 < 2 ^ 64 }
     requires room { HasRoom stack.old }
-    ensures acts { Follows (when_in position.old.at stack.old.items frames.old.items) result position.new stack.new.items frames.new.items }
+    ensures acts { Follows (when_in position.old.at stack.old.items frames.old) result position.new stack.new.items frames.new }
     ensures room { stack.new.room ≡ stack.old.room }
-    ensures frame_room { frames.new.room ≡ frames.old.room }
 {
     let Some(x) = stack.pop() else {
         return Move::IsStuckHere;
@@ -160,10 +156,9 @@ fn test<'a>(
 ) -> Move
     requires at { position.old.at + 1 < 2 ^ 64 }
     requires room { HasRoom stack.old }
-    ensures acts { Follows (side_in side position.old.at stack.old.items frames.old.items)
-        result position.new stack.new.items frames.new.items }
+    ensures acts { Follows (side_in side position.old.at stack.old.items frames.old)
+        result position.new stack.new.items frames.new }
     ensures room { stack.new.room ≡ stack.old.room }
-    ensures frame_room { frames.new.room ≡ frames.old.room }
 {
     let Some(frame) = frames.get(0) else {
         return Move::IsStuckHere;
@@ -183,10 +178,9 @@ fn test_in_map<'a>(
 ) -> Move
     requires at { position.old.at + 1 < 2 ^ 64 }
     requires room { HasRoom stack.old }
-    ensures acts { Follows (mapped_in side position.old.at stack.old.items frames.old.items)
-        result position.new stack.new.items frames.new.items }
+    ensures acts { Follows (mapped_in side position.old.at stack.old.items frames.old)
+        result position.new stack.new.items frames.new }
     ensures room { stack.new.room ≡ stack.old.room }
-    ensures frame_room { frames.new.room ≡ frames.old.room }
 {
     match side {
         Some(Ok(true)) => position.go_on(0),
@@ -204,9 +198,8 @@ pub fn next<'a>(
     frames: &mut Frames<'a>,
 ) -> Result<Move, AllocError>
     requires room { HasRoom stack.old }
-    ensures acts { IfOk result (λ m. Follows (next_in stack.old.items frames.old.items) m position.new stack.new.items frames.new.items) }
+    ensures acts { IfOk result (λ m. Follows (next_in stack.old.items frames.old) m position.new stack.new.items frames.new) }
     ensures room { stack.new.room ≡ stack.old.room }
-    ensures frame_room { frames.new.room ≡ frames.old.room }
 {
     let Some(x) = stack.top() else {
         return Ok(Move::IsStuckHere);
@@ -226,9 +219,8 @@ fn turn<'a>(
     frames: &mut Frames<'a>,
 ) -> Result<Move, AllocError>
     requires room { HasRoom stack.old }
-    ensures acts { IfOk result (λ m. Follows (next_in stack.old.items frames.old.items) m position.new stack.new.items frames.new.items) }
+    ensures acts { IfOk result (λ m. Follows (next_in stack.old.items frames.old) m position.new stack.new.items frames.new) }
     ensures room { stack.new.room ≡ stack.old.room }
-    ensures frame_room { frames.new.room ≡ frames.old.room }
 {
     let Some(x) = stack.pop() else {
         return Ok(Move::IsStuckHere);
@@ -244,9 +236,8 @@ fn behind<'a>(
     frames: &mut Frames<'a>,
 ) -> Result<Move, AllocError>
     requires room { HasRoom stack.old }
-    ensures acts { IfOk result (λ m. Turns turned stack.old.items frames.old.items m position.new stack.new.items frames.new.items) }
+    ensures acts { IfOk result (λ m. Turns turned stack.old.items frames.old m position.new stack.new.items frames.new) }
     ensures room { stack.new.room ≡ stack.old.room }
-    ensures frame_room { frames.new.room ≡ frames.old.room }
 {
     match turned {
         Ok(Turned::GoesOn) => Ok(go_on(position, stack, frames)),
@@ -259,9 +250,8 @@ fn behind<'a>(
 // To the next item, or out of the loop with its result if none is left.
 fn go_on<'a>(position: &mut Position, stack: &mut Stack<'a>, frames: &mut Frames<'a>) -> Move
     requires room { HasRoom stack.old }
-    ensures acts { Follows (gone_in stack.old.items frames.old.items) result position.new stack.new.items frames.new.items }
+    ensures acts { Follows (gone_in stack.old.items frames.old) result position.new stack.new.items frames.new }
     ensures room { stack.new.room ≡ stack.old.room }
-    ensures frame_room { frames.new.room ≡ frames.old.room }
 {
     let Some(frame) = frames.get(0) else {
         return Move::IsStuckHere;
@@ -275,9 +265,8 @@ fn go_on<'a>(position: &mut Position, stack: &mut Stack<'a>, frames: &mut Frames
 // Out of the loop with its result.
 fn finish_loop<'a>(position: &mut Position, stack: &mut Stack<'a>, frames: &mut Frames<'a>) -> Move
     requires room { HasRoom stack.old }
-    ensures acts { Follows (finished_in stack.old.items frames.old.items) result position.new stack.new.items frames.new.items }
+    ensures acts { Follows (finished_in stack.old.items frames.old) result position.new stack.new.items frames.new }
     ensures room { stack.new.room ≡ stack.old.room }
-    ensures frame_room { frames.new.room ≡ frames.old.room }
 {
     let Some(frame) = frames.pop() else {
         return Move::IsStuckHere;
@@ -295,9 +284,8 @@ fn close<'a>(
     frames: &mut Frames<'a>,
 ) -> Move
     requires room { HasRoom stack.old }
-    ensures acts { Follows (closed_in outcome stack.old.items frames.old.items) result position.new stack.new.items frames.new.items }
+    ensures acts { Follows (closed_in outcome stack.old.items frames.old) result position.new stack.new.items frames.new }
     ensures room { stack.new.room ≡ stack.old.room }
-    ensures frame_room { frames.new.room ≡ frames.old.room }
 {
     let Some(frame) = frames.pop() else {
         return Move::IsStuckHere;

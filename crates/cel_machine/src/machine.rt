@@ -24,10 +24,10 @@ use std::alloc::{AllocError, Global};
 
 /// Runs a program whose slots hold these. The run is the definition's; it ends within as many steps as the longest
 /// route has, for no more than the dearest route, the budget and what the image declares, with an outcome of its type.
-/// Constants and what the slots hold are lent to it: memory is taken for the stack and the open loops, once, before the
-/// first step, for the lists and maps that literals and loops make, for the texts, lists and copied items that operators
-/// answer with, for items of lists that the run made and for keys of maps if a loop's body names them, for patterns
-/// that are built and searched for, and for the outcome if it is a copy of a constant or of what a slot holds.
+/// Constants and what the slots hold are lent to it: memory is taken for the stack, once, before the first step, for the
+/// loops that are open, for the lists and maps that literals and loops make, for the texts, lists and copied items that
+/// operators answer with, for items of lists that the run made and for keys of maps if a loop's body names them, for
+/// patterns that are built and searched for, and for the outcome if it is a copy of a constant or of what a slot holds.
 ///
 /// `matchers` finds the patterns of the program, and keeps what it built for later runs; no answer depends on that.
 ///
@@ -50,7 +50,7 @@ pub fn run<'a>(
 {
     let image = program.image();
     let mut stack = Stack::with_room(alloc, program.max_depth() + 1)?;
-    let mut frames = Frames::with_room(alloc, program.loop_depth() + 1)?;
+    let mut frames = Frames::new(alloc);
     let mut position = Position { at: 0, charge: 0 };
     let mut charged: u64 = 0;
     let mut steps: u64 = 0;

@@ -8,7 +8,7 @@ ghost use Rattle.cel_code.specs.Machine.{made as made_next, join as sides_joined
 ghost use Rattle.cel_machine.specs.Found.{made_by};
 ghost use Rattle.cel_code.specs.Matches.{is_matches};
 ghost use Rattle.cel_operators_applied.specs.Lent.{lent};
-ghost use Rattle.cel_machine.specs.Room.{HasRoom, HasFrameRoom};
+ghost use Rattle.cel_machine.specs.Room.{HasRoom};
 ghost use Rattle.cel_machine.specs.declared.position.Position.{Position};
 ghost use Rattle.cel_machine.specs.Follow.{Follows, LeadsTo, Comes, Finishes, metered_one, metered_two, made_of_two};
 ghost use Rattle.cel_machine.specs.Follow.{test_of, join_of, sides_of, branch_of, end_of};
@@ -56,12 +56,10 @@ pub fn step<'a>(
 ) -> Result<Move, RunError>
     requires at { position.old.at + 1 < 2 ^ 64 }
     requires room { HasRoom stack.old }
-    requires frame_room { HasFrameRoom frames.old }
-    ensures acts { IfOk result (λ m. Follows (act (inputs_of image.now slots.now) instr position.old.at stack.old.items frames.old.items)
-        m position.new stack.new.items frames.new.items) }
+    ensures acts { IfOk result (λ m. Follows (act (inputs_of image.now slots.now) instr position.old.at stack.old.items frames.old)
+        m position.new stack.new.items frames.new) }
     ensures pattern { IsErrOf result (Fault Pattern) → IsTrue (is_matches instr) }
     ensures room { stack.new.room ≡ stack.old.room }
-    ensures frame_room { frames.new.room ≡ frames.old.room }
 {
     let moved = match instr {
         Instr::Const(number) => constant(image, number, position, stack),
@@ -80,7 +78,9 @@ pub fn step<'a>(
         Instr::Or => join(stack, false, position),
         Instr::Cond(if_false, if_error) => branch(stack, if_false, if_error, position),
         Instr::Jump(to) => position.go_to(to, 0),
-        Instr::Loop(number, exit) => open_loop(alloc, number, exit, position, stack, frames),
+        Instr::Loop(number, exit) => {
+            return told(open_loop(alloc, number, exit, position, stack, frames));
+        }
         Instr::Item => item(position, frames),
         Instr::When => when(position, stack, frames),
         Instr::Next => return told(next(alloc, position, stack, frames)),

@@ -8,7 +8,7 @@ ghost use Rattle.vap_audit.specs.Verdicts.{MayMatch, budget, verdict_at};
 
 use std::alloc::Global;
 use vap_match::Request;
-use vap_policy::{JudgeError, Matchers, Verdict};
+use vap_policy::{JudgeError, Verdict, Workspace};
 use vap_watch::Snapshot;
 
 /// The verdict on a request at a snapshot's log. Its revision is the number of the log's events, and it charges at most the budget of a
@@ -18,12 +18,12 @@ pub fn judge(
     alloc: Global,
     snapshot: &Snapshot,
     request: &Request,
-    matchers: &mut Matchers,
+    workspace: &mut Workspace,
 ) -> Result<Verdict, JudgeError>
     ensures verdict { IfOk result (λ verdict. verdict ≡ verdict_at snapshot.now request.now) }
     ensures revision { IfOk result (λ verdict. verdict.revision ≡ length snapshot.now) }
     ensures spent { IfOk result (λ verdict. verdict.charged ≤ budget) }
     ensures pattern { IsErrOf result (Fault Pattern) → MayMatch (set_of snapshot.now) request.now }
 {
-    vap_policy::judge(alloc, snapshot.set(), request, matchers)
+    vap_policy::judge(alloc, snapshot.set(), request, workspace)
 }

@@ -22,7 +22,7 @@ use vap_match::Request;
 use vap_plane::{
     Open, Pass, Plan, PlaneError, PlaneFault, SharedHistory, Worker, run_workers, told_to,
 };
-use vap_policy::{JudgeError, Matchers, RunFault, Verdict};
+use vap_policy::{JudgeError, RunFault, Verdict, Workspace};
 use vap_watch::{ReaderError, ReaderSource, Snapshot, Told, revision_of};
 
 /// The workers of a replay, which are made once, the history that they share, and a log that names the board that they read.
@@ -236,8 +236,8 @@ fn unjudged(
     let Some(request) = requests.get(place) else {
         return unanswered(line, call);
     };
-    let mut matchers = Matchers::new(alloc);
-    if let Err(error) = judge(alloc, snapshot, request, &mut matchers) {
+    let mut workspace = Workspace::new(alloc);
+    if let Err(error) = judge(alloc, snapshot, request, &mut workspace) {
         return given_up(line, error);
     }
     unanswered(line, call)

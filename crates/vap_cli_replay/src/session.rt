@@ -87,12 +87,11 @@ impl Session {
     }
 
     /// What the bytes of a line are; there are no more of them than a line may have.
-    pub(crate) fn read(&self, bytes: &[u8]) -> Result<Line, AllocError>
+    pub(crate) fn read(&self, bytes: &[u8], scratch: &mut Scratch) -> Result<Line, AllocError>
         requires { length bytes.now ≤ longest_line }
         ensures { IfOk result (Reads bytes.now) }
     {
-        let mut scratch = Scratch::new(self.alloc);
-        read_line(self.alloc, &self.events, bytes, &mut scratch)
+        read_line(self.alloc, &self.events, bytes, scratch)
     }
 
     /// The refusal of the line that was read last.

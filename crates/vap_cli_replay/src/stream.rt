@@ -7,6 +7,7 @@ ghost use Rattle.base_containers.specs.Counted.{failures_of, inner_of};
 ghost use Rattle.base_containers.specs.Lines.{AllGive, IsCutOff, StopsReading, empty_reads, longest_line, room, unread};
 ghost use Rattle.vap_cli_replay.specs.Moves.{Advances, BeginsWith, CountsWrites, IsRead, IsReadAs, IsUnjudged, IsUnpublished, RefusesBytes};
 ghost use Rattle.vap_cli_replay.specs.Moves.{RefusesNext, StopsAt, TakesNext, Writes};
+ghost use Rattle.vap_cli_replay.specs.Lines.{Reads};
 ghost use Rattle.vap_cli_replay.specs.Sessions.{IsInStep, IsOpening};
 ghost use Rattle.vap_cli_replay.specs.Streams.{IsUnansweredAt, IsUnverifiedAt, Refuses, Replays, Stops, is_of_the_lines};
 ghost use Rattle.vap_cli_replay.specs.declared.fault.LineFault.{LineFault as FaultOf};
@@ -17,7 +18,8 @@ use crate::line::Line;
 use crate::progress::{Progress, Silent};
 use crate::session::Session;
 use base_containers::{Counted, Ending, LineReader};
-use std::alloc::Global;
+use json::Scratch;
+use std::alloc::{AllocError, Global};
 use std::io::{Read, Write};
 use std::marker::Brand;
 use std::sync::Wait;
@@ -29,6 +31,30 @@ use vap_watch::{open, revision_of};
 
 /// The most workers.
 pub const MOST_WORKERS: u8 = 16;
+
+/// What a line is read into: its bytes, and the room in which it is opened.
+#[derive(Drop)]
+struct LineBuffer {
+    bytes: Vec<u8>,
+    scratch: Scratch,
+}
+
+impl LineBuffer {
+    fn new(alloc: Global) -> LineBuffer {
+        LineBuffer {
+            bytes: Vec::new(alloc),
+            scratch: Scratch::new(alloc),
+        }
+    }
+
+    /// What the bytes of a line are; there are no more of them than a line may have.
+    fn read(&mut self, session: &Session) -> Result<Line, AllocError>
+        requires { length self.old.bytes.items ≤ longest_line }
+        ensures { IfOk result (Reads self.old.bytes.items) }
+    {
+        session.read(self.bytes.as_slice(), &mut self.scratch)
+    }
+}
 
 /// Reads lines, publishes events and answers reviews; with `audit` the history's lines follow. The reviews of a group are judged by
 /// as many workers as are asked for, each except the first in a thread of its own. What is written is the same however many there are:
@@ -254,10 +280,10 @@ fn take_all<L: Plan + Send + Sync, H: Threads + Wait + Sync, R: Read, W: Write, 
     ensures no_failure { OnOk result (failures_of input.new ≡ failures_of input.old) }
 {
     let mut reader = LineReader::new(alloc)?;
-    let mut line = Vec::new(alloc);
+    let mut buffer = LineBuffer::new(alloc);
     let mut ending = Ending::Feed;
     while ending == Ending::Feed {
-        ending = take_next(session, crew, &mut reader, input, &mut line, output)?;
+        ending = take_next(session, crew, &mut reader, input, &mut buffer, output)?;
         progress.reached(
             session.lines,
             session.history.len(),
@@ -267,13 +293,13 @@ fn take_all<L: Plan + Send + Sync, H: Threads + Wait + Sync, R: Read, W: Write, 
     session.answer_group(crew, output)
 }
 
-/// Takes the next line, by way of `line`, and returns how it ended.
+/// Takes the next line, by way of `buffer`, and returns how it ended.
 fn take_next<L: Plan + Send + Sync, H: Threads + Wait + Sync, R: Read, W: Write>(
     session: &mut Session,
     crew: &mut Crew<'_, L, H>,
     reader: &mut LineReader,
     input: &mut Counted<R>,
-    line: &mut Vec<u8>,
+    buffer: &mut LineBuffer,
     output: &mut Counted<W>,
 ) -> Result<Ending, ReplayError>
     requires step { IsInStep session.old }
@@ -303,9 +329,9 @@ fn take_next<L: Plan + Send + Sync, H: Threads + Wait + Sync, R: Read, W: Write>
         (R.remaining (inner_of input.new)) reader.old reader.new) }
     ensures no_failure { OnOk result (failures_of input.new ≡ failures_of input.old) }
 {
-    line.clear();
-    let ending = reader.next(input, line)?;
-    take_bytes(session, crew, line.as_slice(), ending, output)?;
+    buffer.bytes.clear();
+    let ending = reader.next(input, &mut buffer.bytes)?;
+    take_bytes(session, crew, buffer, ending, output)?;
     Ok(ending)
 }
 
@@ -313,37 +339,37 @@ fn take_next<L: Plan + Send + Sync, H: Threads + Wait + Sync, R: Read, W: Write>
 fn take_bytes<L: Plan + Send + Sync, H: Threads + Wait + Sync, W: Write>(
     session: &mut Session,
     crew: &mut Crew<'_, L, H>,
-    bytes: &[u8],
+    buffer: &mut LineBuffer,
     ending: Ending,
     output: &mut Counted<W>,
 ) -> Result<(), ReplayError>
     requires step { IsInStep session.old }
     requires home { crew.old.home.board ≡ session.old.writer.board }
-    requires short { length bytes.now ≤ longest_line }
+    requires short { length buffer.old.bytes.items ≤ longest_line }
     requires count { session.old.lines + 1 < 2 ^ 64 }
     ensures home { OnOk result (crew.new.home.board ≡ session.new.writer.board) }
     ensures step { OnOk result (IsInStep session.new) }
-    ensures taken { OnOk result (Advances ending bytes.now session.old session.new) }
+    ensures taken { OnOk result (Advances ending buffer.old.bytes.items session.old session.new) }
     ensures written { OnOk result (Writes W.contents session.old session.new output.old output.new) }
     ensures ended { OnOk result (ending ≢ Ending.TooLong) }
     ensures lines { OnOk result (session.new.lines ≤ session.old.lines + 1) }
     ensures refused { (number : ℕ) → (why : FaultOf) → is_of_the_lines why ≡ true → IsErrOf result (ReplayError.Line number why)
-        → RefusesBytes W.contents ending bytes.now session.old output.old output.new number why }
+        → RefusesBytes W.contents ending buffer.old.bytes.items session.old output.old output.new number why }
     ensures stopped { IfErr result (λ error. error ≢ ReplayError.Write → StopsAt W.contents session.old output.old output.new) }
     ensures counts { CountsWrites result output.old output.new }
     ensures pattern { (number : ℕ) → IsErrOf result (ReplayError.Line number LineFault.Pattern)
-        → IsUnjudged (IsReadAs ending bytes.now) session.old output.old output.new number }
+        → IsUnjudged (IsReadAs ending buffer.old.bytes.items) session.old output.old output.new number }
     ensures unverified { (number : ℕ) → IsErrOf result (ReplayError.Line number LineFault.Unverified)
-        → IsUnpublished W.contents (IsReadAs ending bytes.now) session.old output.old output.new number }
+        → IsUnpublished W.contents (IsReadAs ending buffer.old.bytes.items) session.old output.old output.new number }
     ensures no_read { IsErrOf result ReplayError.Read → ⊥ }
 {
     match ending {
         Ending::TooLong => session.take(crew, Line::Refused(LineFault::TooLong), output),
         Ending::Feed => {
-            let line = session.read(bytes)?;
+            let line = buffer.read(session)?;
             session.take(crew, line, output)
         }
-        Ending::End => take_last(session, crew, bytes, output),
+        Ending::End => take_last(session, crew, buffer, output),
     }
 }
 
@@ -351,31 +377,31 @@ fn take_bytes<L: Plan + Send + Sync, H: Threads + Wait + Sync, W: Write>(
 fn take_last<L: Plan + Send + Sync, H: Threads + Wait + Sync, W: Write>(
     session: &mut Session,
     crew: &mut Crew<'_, L, H>,
-    bytes: &[u8],
+    buffer: &mut LineBuffer,
     output: &mut Counted<W>,
 ) -> Result<(), ReplayError>
     requires step { IsInStep session.old }
     requires home { crew.old.home.board ≡ session.old.writer.board }
-    requires short { length bytes.now ≤ longest_line }
+    requires short { length buffer.old.bytes.items ≤ longest_line }
     requires count { session.old.lines + 1 < 2 ^ 64 }
     ensures home { OnOk result (crew.new.home.board ≡ session.new.writer.board) }
     ensures step { OnOk result (IsInStep session.new) }
-    ensures taken { OnOk result (Advances Ending.End bytes.now session.old session.new) }
+    ensures taken { OnOk result (Advances Ending.End buffer.old.bytes.items session.old session.new) }
     ensures written { OnOk result (Writes W.contents session.old session.new output.old output.new) }
     ensures lines { OnOk result (session.new.lines ≤ session.old.lines + 1) }
     ensures refused { (number : ℕ) → (why : FaultOf) → is_of_the_lines why ≡ true → IsErrOf result (ReplayError.Line number why)
-        → RefusesBytes W.contents Ending.End bytes.now session.old output.old output.new number why }
+        → RefusesBytes W.contents Ending.End buffer.old.bytes.items session.old output.old output.new number why }
     ensures stopped { IfErr result (λ error. error ≢ ReplayError.Write → StopsAt W.contents session.old output.old output.new) }
     ensures counts { CountsWrites result output.old output.new }
     ensures pattern { (number : ℕ) → IsErrOf result (ReplayError.Line number LineFault.Pattern)
-        → IsUnjudged (IsReadAs Ending.End bytes.now) session.old output.old output.new number }
+        → IsUnjudged (IsReadAs Ending.End buffer.old.bytes.items) session.old output.old output.new number }
     ensures unverified { (number : ℕ) → IsErrOf result (ReplayError.Line number LineFault.Unverified)
-        → IsUnpublished W.contents (IsReadAs Ending.End bytes.now) session.old output.old output.new number }
+        → IsUnpublished W.contents (IsReadAs Ending.End buffer.old.bytes.items) session.old output.old output.new number }
     ensures no_read { IsErrOf result ReplayError.Read → ⊥ }
 {
-    if bytes.is_empty() {
+    if buffer.bytes.is_empty() {
         return Ok(());
     }
-    let line = session.read(bytes)?;
+    let line = buffer.read(session)?;
     session.take(crew, line, output)
 }

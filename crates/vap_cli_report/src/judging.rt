@@ -2,7 +2,7 @@
 
 use std::alloc::{AllocError, Global};
 use vap_audit::{Entry, judge};
-use vap_policy::{JudgeError, Matchers, Verdict};
+use vap_policy::{JudgeError, Verdict, Workspace};
 use vap_read::Event;
 use vap_watch::{Desk, PublishError, StageFault};
 
@@ -10,7 +10,7 @@ use vap_watch::{Desk, PublishError, StageFault};
 #[derive(Drop)]
 pub struct Bench {
     pub desk: Desk,
-    pub matchers: Matchers,
+    pub workspace: Workspace,
     pub alloc: Global,
 }
 
@@ -18,7 +18,7 @@ impl Bench {
     pub fn new(alloc: Global) -> Result<Bench, AllocError> {
         Ok(Bench {
             desk: Desk::new(alloc)?,
-            matchers: Matchers::new(alloc),
+            workspace: Workspace::new(alloc),
             alloc,
         })
     }
@@ -45,7 +45,7 @@ impl Bench {
             self.alloc,
             self.desk.snapshot(),
             &entry.request,
-            &mut self.matchers,
+            &mut self.workspace,
         );
         match judged {
             Ok(verdict) => Ok(Some(verdict)),

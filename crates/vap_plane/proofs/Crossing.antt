@@ -6,8 +6,7 @@ use denote.Struct.Declared.{shape}
 use Rattle.std.proofs.Crossing.{crosses}
 use Rattle.core.proofs.ledger.Sent.{book_send, share_send}
 use Rattle.std.specs.declared.sync.ledger.Ledger as ledger
-use Rattle.cel_operators.proofs.Crossing.{matchers_send}
-use Rattle.vap_policy.proofs.Crossing.{verdict_send, verdict_sync}
+use Rattle.vap_policy.proofs.Crossing.{verdict_send, verdict_sync, workspace_send}
 use Rattle.vap_watch.proofs.BoardCrossing.{told_sync}
 use Rattle.vap_watch.proofs.Crossing.{reader_send}
 use Rattle.vap_audit.proofs.Crossing.{request_send, request_sync, history_send}
@@ -25,7 +24,7 @@ use Rattle.vap_plane.specs.contracts.worker.Worker as worker
 
 module _ (L : RattleType) (g : ledger.Ghosts L.Denot) where
   pub worker_send : IsSend (worker.the_field L g).row
-  worker_send = search (share_send, reader_send, matchers_send, sendable, crosses) depth 60 fits 200000
+  worker_send = search (share_send, reader_send, workspace_send, sendable, crosses) depth 60 fits 200000
 
   pub kept_send : IsSend (kept.the_field L g).row
   kept_send = search (book_send, history_send, sendable, crosses) depth 60 fits 200000

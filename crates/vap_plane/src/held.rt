@@ -8,7 +8,7 @@ use std::alloc::{AllocError, Global};
 use std::marker::Model;
 use vap_audit::{Entry, judge};
 use vap_match::Request;
-use vap_policy::{JudgeError, Matchers, RunFault, Verdict};
+use vap_policy::{JudgeError, RunFault, Verdict, Workspace};
 use vap_watch::Snapshot;
 
 /// A request with its call, entered at a snapshot, with or without a verdict, which is the one at this snapshot's log.
@@ -55,7 +55,7 @@ impl Held {
     }
 
     /// Judges the request, if it has no verdict yet. If a pattern is not built again, nothing changes.
-    pub(crate) fn judge(self, alloc: Global, matchers: &mut Matchers) -> Result<Held, AllocError>
+    pub(crate) fn judge(self, alloc: Global, workspace: &mut Workspace) -> Result<Held, AllocError>
         ensures { IfOk result (λ held. (held ≡ judged self.verdict self) ⊎ (held ≡ self)) }
     {
         let Held {
@@ -66,7 +66,7 @@ impl Held {
         } = self;
         let verdict = match verdict {
             Some(verdict) => Some(verdict),
-            None => match judge(alloc, &snapshot, &request, matchers) {
+            None => match judge(alloc, &snapshot, &request, workspace) {
                 Ok(verdict) => Some(verdict),
                 Err(JudgeError::Fault(RunFault::Pattern)) => None,
                 Err(JudgeError::OutOfMemory) => return Err(AllocError),

@@ -17,7 +17,7 @@ use std::sync::Wait;
 use std::sync::ledger::{Ledger, Share};
 use vap_audit::{AuditFault, Entry, judge};
 use vap_match::Request;
-use vap_policy::{JudgeError, Matchers, RunFault, Verdict};
+use vap_policy::{JudgeError, RunFault, Verdict, Workspace};
 use vap_watch::{Log, Reader, ReaderError, Told};
 
 /// The right to be the worker of this number: of each number there is one.
@@ -76,14 +76,15 @@ impl Judged {
     }
 }
 
-/// Judges by what is published and records in one history. It keeps the patterns that it met, so that it builds each once.
+/// Judges by what is published and records in one history. It keeps the patterns that it met, so that it builds each once, and the
+/// room in which it opens reviews.
 #[derive(Drop)]
 pub struct Worker<L: Ledger> {
     number: u64,
     count: u64,
     share: Share<L>,
     reader: Reader,
-    matchers: Matchers,
+    workspace: Workspace,
     ghost one_part: { share.parts ≡ 1 },
     ghost counted: { share.amount ≡ count },
 }
@@ -101,7 +102,7 @@ impl<L: Ledger> Worker<L> {
             count: 0,
             share,
             reader,
-            matchers: Matchers::new(alloc),
+            workspace: Workspace::new(alloc),
         }
     }
 
@@ -186,14 +187,14 @@ impl<L: Ledger> Worker<L> {
     {
         let Worker {
             reader,
-            matchers,
+            workspace,
             ..
         } = self;
         let snapshot = reader.seen();
         let Ok(log) = snapshot.share_log() else {
             return Err((PlaneError::OutOfMemory, request));
         };
-        match judge(alloc, snapshot, &request, matchers) {
+        match judge(alloc, snapshot, &request, workspace) {
             Ok(verdict) => Ok(Judged::new(call, log, request, verdict)),
             Err(JudgeError::Fault(RunFault::Pattern)) => Err((
                 PlaneError::Fault(PlaneFault::Judge(call)),

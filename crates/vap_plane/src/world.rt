@@ -12,7 +12,7 @@ use std::marker::Model;
 use std::mem;
 use vap_audit::{AuditFault, Entry, History, MOST_ENTRIES};
 use vap_match::Request;
-use vap_policy::Matchers;
+use vap_policy::Workspace;
 use vap_read::Event;
 use vap_watch::{Desk, PublishError, PublishFault, StageFault};
 
@@ -25,7 +25,7 @@ pub struct World {
     alloc: Global,
     desk: Desk,
     held: Vec<Option<Held>>,
-    matchers: Matchers,
+    workspace: Workspace,
     entered: u64,
     history: History,
 }
@@ -56,7 +56,7 @@ impl World {
             alloc,
             desk: Desk::new(alloc)?,
             held: nothing_held(alloc)?,
-            matchers: Matchers::new(alloc),
+            workspace: Workspace::new(alloc),
             entered: 0,
             history: History::new(alloc),
         })
@@ -154,7 +154,7 @@ impl World {
         let Some(held) = self.let_go(worker) else {
             return Ok(());
         };
-        let held = held.judge(self.alloc, &mut self.matchers)?;
+        let held = held.judge(self.alloc, &mut self.workspace)?;
         self.hold(worker, held);
         Ok(())
     }

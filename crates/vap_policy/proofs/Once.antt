@@ -1,6 +1,6 @@
 -- Values that are gathered one after the other, each once.
 use Rattle.std.proofs.Common.{◌≡◌, ◌<◌, ◌+◌, ℕ, suc, Bool, true, false, not, cond, ◌||◌, List, [], ◌∷◌, ◌++◌, length, drop, get_or, filter}
-use Rattle.std.proofs.Common.{map, refl, sym, ap, ◌∙◌, subst, append_assoc, append-nil, add-one, drop-cons, bytes_eq}
+use Rattle.std.proofs.Common.{map, refl, sym, ap, ◌∙◌, subst, append_assoc, add-one, drop-cons, bytes_eq}
 use Rattle.std.specs.List.{list_any}
 use Rattle.std.specs.Prelude.{if◌then◌else◌}
 use Rattle.std.proofs.lemmas.List.Folds.{list_any-append}

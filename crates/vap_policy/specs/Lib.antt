@@ -17,6 +17,7 @@ pub mod PolicyPatterns
 pub mod Places
 pub mod Evaluations
 pub mod Params
+pub mod Matched
 pub mod Judging
 pub mod Shown
 pub mod Ready

@@ -2,6 +2,8 @@
 
 ghost use Rattle.std.specs.Prelude.{◌≡◌};
 ghost use Rattle.std.specs.Option.{option_copied};
+ghost use Rattle.vap_match.specs.Select.{lent_labels};
+ghost use Rattle.vap_read_objects.specs.OfKind.{labels_in};
 ghost use Rattle.vap_policy_set.specs.Ready.{type_at};
 ghost use Rattle.vap_policy_set.specs.Sets.{kinds_of, namespace_in};
 ghost use Rattle.vap_policy_programs.specs.Held.{IsHeldAt};
@@ -13,8 +15,7 @@ ghost use Rattle.vap_policy.specs.Shown.{case_of};
 use vap_match::{Labels, OpenRequest, Rules, matches};
 use vap_policy_programs::Held;
 use vap_policy_set::PolicySet;
-use vap_read::Object;
-use vap_read_objects::{Kind, labels_in};
+use vap_read_objects::Kind;
 
 /// A request at a set, with its kind, if that is known, what its names hold, and the labels of its namespace.
 #[derive(Drop)]
@@ -27,16 +28,16 @@ pub struct Case<'a> {
 }
 
 impl<'a> Case<'a> {
-    /// A request at a set, with the Namespace that is held under the name of its own.
+    /// A request at a set, with the labels of the Namespace that is held under the name of its own.
     pub fn new(
         set: &'a PolicySet,
         request: &'a OpenRequest<'a, 'a, 'a>,
         kind: Option<&'a Kind>,
-        namespace: Option<&'a Object>,
+        labels: Labels<'a, 'a>,
         held: &'a Held,
     ) -> Case<'a>
         requires kind { option_copied kind ≡ kind_at (kinds_of set.now) request.now.request.now.admission }
-        requires namespace { option_copied namespace ≡ namespace_in request.now.request.now.admission.namespace set.now }
+        requires labels { lent_labels labels ≡ labels_in (namespace_in request.now.request.now.admission.namespace set.now) }
         requires held { IsHeldAt (type_at (option_copied kind)) held.now }
         ensures is { case_of result ≡ case_with set.now request.now.request.now.admission (option_copied kind.entry) held.now }
         ensures ready { IsCase result }
@@ -46,7 +47,7 @@ impl<'a> Case<'a> {
             request,
             kind,
             held,
-            labels: labels_in(namespace),
+            labels,
         }
     }
 

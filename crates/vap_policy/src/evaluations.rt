@@ -16,7 +16,7 @@ ghost use Rattle.vap_read_objects.specs.Seen.{IsSeenAt};
 ghost use Rattle.vap_policy_programs.specs.Held.{slots_of};
 ghost use Rattle.vap_policy.specs.Adds.{Adds, IsWithin, Looks, case_in};
 ghost use Rattle.vap_policy.specs.Evaluations.{Failed, Ran, budget, found_by, joined, misconfigured, refused};
-ghost use Rattle.vap_policy.specs.Judging.{asked_of, at_each, at_param, at_params, at_seen, in_place};
+ghost use Rattle.vap_policy.specs.Judging.{at_each, at_param, at_params, at_seen, in_place};
 ghost use Rattle.vap_policy.specs.Judging.{of_binding, of_policies, of_policy};
 ghost use Rattle.vap_policy.specs.Params.{is_param, place_of};
 ghost use Rattle.vap_policy.specs.Ready.{CanRun, IsCase};
@@ -367,7 +367,7 @@ impl Judging<'_> {
     }
 
     /// Evaluates each of these policies that match.
-    fn policies(&mut self, policies: &[Shared<BoundPolicy>]) -> Result<(), JudgeError>
+    pub fn policies(&mut self, policies: &[Shared<BoundPolicy>]) -> Result<(), JudgeError>
         requires case { IsCase self.old.case.now }
         requires ready { All (IsReadyAt self.old.case.now.set.now (case_in self.old).kind) policies.now }
         requires budget { IsWithin self.old }
@@ -382,19 +382,5 @@ impl Judging<'_> {
             }
         }
         Ok(())
-    }
-
-    /// Evaluates each policy of the set that matches. It is among those that may cover the resource.
-    pub fn all(&mut self) -> Result<(), JudgeError>
-        requires case { IsCase self.old.case.now }
-        requires budget { IsWithin self.old }
-        ensures adds { OnOk result (Adds self.old self.new (asked_of (case_in self.old))) }
-        ensures pattern { IsErrOf result (Fault Pattern) → Looks self.old (asked_of (case_in self.old)) }
-    {
-        let resource = &self.case.request.request.admission().resource;
-        let group = resource.group.as_str();
-        let name = resource.resource.as_str();
-        let policies = self.case.set.policies_on(group, name);
-        self.policies(policies)
     }
 }

@@ -1,16 +1,19 @@
 //! The verdict on a request.
 
 ghost use Rattle.std.specs.Prelude.{◌≡◌, ◌≤◌, [], IfOk, IsErrOf};
+ghost use Rattle.std.specs.List.{All};
 ghost use Rattle.std.specs.Option.{option_copied};
 ghost use Rattle.base_containers.specs.declared.failed.Failed.TheVariants.{Fault};
 ghost use Rattle.cel_machine.specs.declared.fault.RunFault.TheVariants.{Pattern};
 ghost use Rattle.cel_value.specs.declared.cel_type.CelType as type;
 ghost use Rattle.vap_policy.specs.Verdicts.{unfit_verdict};
 ghost use Rattle.vap_schema.specs.FitNames.{fit_fault_text};
-ghost use Rattle.vap_policy_set.specs.Ready.{type_at};
-ghost use Rattle.vap_policy_set.specs.Sets.{kinds_of};
+ghost use Rattle.vap_read_objects.specs.OfKind.{labels_in};
+ghost use Rattle.vap_policy_set.specs.Ready.{IsReadyAt, type_at};
+ghost use Rattle.vap_policy_set.specs.Sets.{kinds_of, namespace_in, policies_of};
 ghost use Rattle.vap_policy.specs.Evaluations.{budget, found_by};
-ghost use Rattle.vap_policy.specs.Judging.{evaluations_of, verdict_at, verdict_by, verdict_of};
+ghost use Rattle.vap_policy.specs.Judging.{asked_of, evaluations_of, of_policies, verdict_at, verdict_by, verdict_of};
+ghost use Rattle.vap_policy.specs.Matched.{matched_by};
 ghost use Rattle.vap_policy.specs.PassedOver.{NoneIsPassedOver};
 ghost use Rattle.vap_policy.specs.RequestPatterns.{KindMayMatch, MayMatch, OneMayMatch};
 ghost use Rattle.vap_policy.specs.Places.{kind_at};
@@ -23,26 +26,30 @@ use crate::decision::unfit_verdict;
 use crate::evaluations::{BUDGET, Judging};
 use crate::findings::Findings;
 use crate::judge_error::JudgeError;
+use crate::matched::matched_in;
 use crate::places::{is_exempt, kind_at};
 use crate::verdict::Verdict;
-use base_containers::Part;
+use crate::workspace::Workspace;
+use base_containers::{Part, Shared};
 use cel_machine::Matchers;
 use cel_value::CelType;
-use json::Scratch;
 use std::alloc::{AllocError, Global};
 use vap_match::{OpenRequest, Request};
-use vap_policy_programs::held_at;
-use vap_policy_set::PolicySet;
-use vap_read_objects::Kind;
+use vap_policy_programs::{held_at, object_at};
+use vap_policy_set::{BoundPolicy, PolicySet};
+use vap_read_objects::{Kind, labels_in};
 use vap_schema::FitFault;
 
-/// The verdict on a case.
+/// The verdict on a case by these policies, among them all that match.
 fn judge_case(
     alloc: Global,
     case: &Case<'_>,
+    policies: &[Shared<BoundPolicy>],
     matchers: &mut Matchers,
 ) -> Result<Verdict, JudgeError>
-    requires { IsCase case.now }
+    requires case { IsCase case.now }
+    requires asked { of_policies (case_of case.now) policies.now ≡ asked_of (case_of case.now) }
+    requires ready { All (IsReadyAt case.now.set.now (case_of case.now).kind) policies.now }
     ensures verdict { IfOk result (λ verdict. verdict
         ≡ verdict_by case.now.set.now.events (found_by (evaluations_of (case_of case.now)))) }
     ensures spent { IfOk result (λ verdict. verdict.charged ≤ budget) }
@@ -56,12 +63,12 @@ fn judge_case(
         findings,
         left: BUDGET,
     };
-    judging.all()?;
+    judging.policies(policies)?;
     Ok(judging.findings.verdict(alloc, case.set.events())?)
 }
 
 /// The verdict if nothing is evaluated.
-fn exempt_verdict(alloc: Global, set: &PolicySet) -> Result<Verdict, AllocError>
+fn without_evaluation(alloc: Global, set: &PolicySet) -> Result<Verdict, AllocError>
     ensures { IfOk result (λ verdict. verdict ≡ verdict_by set.now.events (found_by [])) }
 {
     Findings::new(alloc).verdict(alloc, set.events())
@@ -89,6 +96,25 @@ fn unfit(alloc: Global, set: &PolicySet, fault: FitFault) -> Result<Verdict, All
     unfit_verdict(alloc, message.as_str(), set.events())
 }
 
+/// The verdict on a request of a kind, if it is known, if no policy matches: only its object is looked at.
+fn judge_unmatched(
+    alloc: Global,
+    set: &PolicySet,
+    request: &OpenRequest<'_, '_, '_>,
+    kind: Option<&Kind>,
+) -> Result<Verdict, AllocError>
+    requires { matched_by request.now.request.now.admission
+        (labels_in (namespace_in request.now.request.now.admission.namespace set.now)) (policies_of set.now) ≡ [] }
+    ensures verdict { IfOk result (λ verdict. verdict ≡ verdict_at set.now request.now.request.now.admission (option_copied kind.entry)) }
+    ensures spent { IfOk result (λ verdict. verdict.charged ≤ budget) }
+{
+    let opaque = CelType::Opaque;
+    match object_at(alloc, type_at(kind, &opaque), request)? {
+        Ok(_) => without_evaluation(alloc, set),
+        Err(fault) => unfit(alloc, set, fault),
+    }
+}
+
 /// The verdict on a request of a kind, if it is known.
 fn judge_at(
     alloc: Global,
@@ -102,19 +128,19 @@ fn judge_at(
     ensures spent { IfOk result (λ verdict. verdict.charged ≤ budget) }
     ensures pattern { IsErrOf result (Fault Pattern) → KindMayMatch set.now request.now.request.now.admission (option_copied kind.entry) }
 {
-    let opaque = CelType::Opaque;
     let name = request.request.admission().namespace.as_str();
     let namespace = set.namespace(alloc, name)?;
-    match held_at(
-        alloc,
-        set.fixed_types(),
-        namespace,
-        type_at(kind, &opaque),
-        request,
-    ) {
+    let labels = labels_in(namespace);
+    let policies = matched_in(set, request, &labels);
+    if policies.is_empty() {
+        return Ok(judge_unmatched(alloc, set, request, kind)?);
+    }
+    let opaque = CelType::Opaque;
+    let cel_type = type_at(kind, &opaque);
+    match held_at(alloc, set.fixed_types(), namespace, cel_type, request) {
         Ok(Ok(held)) => {
-            let case = Case::new(set, request, kind, namespace, &held);
-            judge_case(alloc, &case, matchers)
+            let case = Case::new(set, request, kind, labels, &held);
+            judge_case(alloc, &case, policies, matchers)
         }
         Ok(Err(fault)) => Ok(unfit(alloc, set, fault)?),
         Err(error) => Err(JudgeError::from(error)),
@@ -127,15 +153,15 @@ fn judge_opened(
     set: &PolicySet,
     request: &Request,
     kind: Option<&Kind>,
-    matchers: &mut Matchers,
+    workspace: &mut Workspace,
 ) -> Result<Verdict, JudgeError>
     requires { option_copied kind ≡ kind_at (kinds_of set.now) request.now.admission }
     ensures verdict { IfOk result (λ verdict. verdict ≡ verdict_at set.now request.now.admission (option_copied kind.entry)) }
     ensures spent { IfOk result (λ verdict. verdict.charged ≤ budget) }
     ensures pattern { IsErrOf result (Fault Pattern) → KindMayMatch set.now request.now.admission (option_copied kind.entry) }
 {
-    let mut scratch = Scratch::new(alloc);
-    let tape = request.admission().review.tape(alloc, &mut scratch)?;
+    let Workspace { matchers, scratch } = workspace;
+    let tape = request.admission().review.tape(alloc, scratch)?;
     let open = OpenRequest::new(request, Part::new(tape.root()));
     judge_at(alloc, set, &open, kind, matchers)
 }
@@ -149,7 +175,7 @@ pub fn judge(
     alloc: Global,
     set: &PolicySet,
     request: &Request,
-    matchers: &mut Matchers,
+    workspace: &mut Workspace,
 ) -> Result<Verdict, JudgeError>
     ensures exact { IfOk result (λ verdict. verdict ≡ verdict_of set.now request.now) }
     ensures none_passed_over { NoneIsPassedOver set.now request.now.admission }
@@ -160,8 +186,8 @@ pub fn judge(
     let kinds = set.kinds();
     let admission = request.admission();
     if is_exempt(&admission.resource) {
-        return Ok(exempt_verdict(alloc, set)?);
+        return Ok(without_evaluation(alloc, set)?);
     }
     let kind = kind_at(kinds, admission);
-    judge_opened(alloc, set, request, kind, matchers)
+    judge_opened(alloc, set, request, kind, workspace)
 }

@@ -5,7 +5,7 @@ ghost use Rattle.std.specs.Option.{option_copied};
 ghost use Rattle.cel_value.specs.CelType.{fits};
 ghost use Rattle.cel_value.specs.declared.cel_type.CelType as type;
 ghost use Rattle.cel_operators.specs.Outcomes.{outcome_fits};
-ghost use Rattle.vap_match.specs.Requests.{old_object_of};
+ghost use Rattle.vap_match.specs.Requests.{object_of, old_object_of};
 ghost use Rattle.vap_read_objects.specs.FixedKinds.{namespace_type};
 ghost use Rattle.vap_policy_programs.specs.Held.{IsHeldAt, held_at, held_namespace, namespace_value, old_outcome};
 ghost use Rattle.vap_policy_programs.specs.Held.{value_at};
@@ -109,6 +109,19 @@ fn namespace_value(
     }
 }
 
+/// What `object` holds at a request whose objects are of this type, or the fault of the object.
+pub fn object_at(
+    alloc: Global,
+    cel_type: &CelType,
+    request: &OpenRequest<'_, '_, '_>,
+) -> Result<Result<Value, FitFault>, AllocError>
+    ensures exact { IfOk result (λ seen. seen
+        ≡ value_at (codes "object") cel_type.now (object_of request.now.request.now.admission)) }
+    ensures fits { IfOk result (λ seen. IfOk seen (λ v. fits v (type.Nullable cel_type.now) ≡ true)) }
+{
+    value_at(alloc, "object", cel_type, request.object())
+}
+
 /// What all names except `params` hold at a request whose objects are of this type, or the fault of the object. The Namespace is
 /// the one that has the name of the request's namespace, if it is held.
 pub fn held_at(
@@ -122,7 +135,7 @@ pub fn held_at(
         (λ held. held ≡ held_at (option_copied namespace.entry) cel_type.now request.now.request.now.admission) }
     ensures fits { IfOk result (λ held. IfOk held (IsHeldAt cel_type.now)) }
 {
-    match value_at(alloc, "object", cel_type, request.object())? {
+    match object_at(alloc, cel_type, request)? {
         Ok(object) => Ok(Ok(Held {
             object,
             old_object: old_outcome(alloc, cel_type, request)?,

@@ -6,8 +6,9 @@
 //! [`pairs_are_ready`] is the law by which each expression of a pair may be run with what its names hold.
 //!
 //! [`request_type`] is the type of `request`, and [`request_value`] what it holds of a review, which is of that type. [`FixedTypes`]
-//! keeps that type and the type of Namespaces, so that both are made once. [`held_at`] makes what all names except `params` hold, or
-//! reports the fault of the object; an old object that does not fit is an error, which its name then holds.
+//! keeps that type and the type of Namespaces, so that both are made once. [`object_at`] makes what `object` holds, or reports the
+//! fault of the object, and [`held_at`] what all names except `params` hold; an old object that does not fit is an error, which its
+//! name then holds.
 #![tactic(auto)]
 
 mod annotations;
@@ -27,7 +28,7 @@ mod wanted;
 
 pub use cel_expression::{CompileError, CompileFault, Compiled, Refusal};
 pub use fixed_types::FixedTypes;
-pub use held::{Held, held_at};
+pub use held::{Held, held_at, object_at};
 pub use names::{KindTypes, ParamsType};
 pub use pair_fault::PairFault;
 pub use pairs::{pair, pairs_are_ready};

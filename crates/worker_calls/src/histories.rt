@@ -9,7 +9,7 @@ use serde_json::Value as Json;
 use std::alloc::{AllocError, Global};
 use vap_audit::{Entry, History, judge};
 use vap_match::Request;
-use vap_policy::{JudgeError, Matchers, RunFault};
+use vap_policy::{JudgeError, RunFault, Workspace};
 use vap_read::Event;
 use vap_watch::{Desk, Snapshot};
 
@@ -93,7 +93,7 @@ fn append_decided(
     history: &mut History,
 ) -> Result<(), AllocError> {
     let log = snapshot.share_log()?;
-    let verdict = match judge(alloc, snapshot, &request, &mut Matchers::new(alloc)) {
+    let verdict = match judge(alloc, snapshot, &request, &mut Workspace::new(alloc)) {
         Ok(verdict) => verdict,
         Err(JudgeError::Fault(RunFault::Pattern)) => return Ok(()),
         Err(JudgeError::OutOfMemory) => return Err(AllocError),

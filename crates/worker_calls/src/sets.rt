@@ -7,7 +7,7 @@
 use calls_notation::{Asked, json, reported, request_in, unknown};
 use std::alloc::{AllocError, Global};
 use vap_match::{Request, ReviewError};
-use vap_policy::{JudgeError, Matchers, PolicySet, RunFault, answer_text, judge};
+use vap_policy::{JudgeError, PolicySet, RunFault, Workspace, answer_text, judge};
 use vap_read::{Event, EventError};
 use vap_read_objects::Objects;
 use vap_watch::{Desk, StageFault};
@@ -86,9 +86,9 @@ fn answered(
     alloc: Global,
     set: &PolicySet,
     request: &Request,
-    matchers: &mut Matchers,
+    workspace: &mut Workspace,
 ) -> Result<String, AllocError> {
-    match judge(alloc, set, request, matchers) {
+    match judge(alloc, set, request, workspace) {
         Ok(verdict) => answer_text(alloc, "", &verdict),
         Err(JudgeError::Fault(RunFault::Pattern)) => String::from_str(alloc, "Pattern"),
         Err(JudgeError::OutOfMemory) => Err(AllocError),
@@ -105,10 +105,10 @@ fn difference(
     if reported(alloc, one)?.as_str() != reported(alloc, other)?.as_str() {
         return Ok(Some("report"));
     }
-    let mut matchers = Matchers::new(alloc);
+    let mut workspace = Workspace::new(alloc);
     for request in requests {
-        let left = answered(alloc, one, request, &mut matchers)?;
-        let right = answered(alloc, other, request, &mut matchers)?;
+        let left = answered(alloc, one, request, &mut workspace)?;
+        let right = answered(alloc, other, request, &mut workspace)?;
         if left.as_str() != right.as_str() {
             return Ok(Some("answer"));
         }

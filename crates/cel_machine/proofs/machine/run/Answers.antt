@@ -1,21 +1,18 @@
 use Rattle.std.proofs.Common.{◌+◌, sym, ap, ◌∙◌, subst, arith}
 use Rattle.cel_verify.specs.Paths.{IsRouteCharge, IsRouteLength, IsWithin}
 use Rattle.cel_verify.specs.Accepted.{IsDeclared}
-use Rattle.cel_verify.specs.Depths.{greatest_depth, greatest_nesting}
+use Rattle.cel_verify.specs.Depths.{greatest_depth}
 use Rattle.cel_verify.proofs.Falling.{no_end}
-use Rattle.cel_machine.proofs.Running.{begun, here, deep, nested, goes, next, outcome_fits, has_top, not_stuck}
+use Rattle.cel_machine.proofs.Running.{begun, here, deep, goes, next, outcome_fits, has_top, not_stuck}
 use Rattle.cel_machine.proofs.machine.run.Goals as goal
 
 pub loop-instr-init : goal.loop-instr-init
 loop-instr-init c = (
-  begun c.image-image.result.now c.args.slots.now c.in_ok-stack.stack.items c.in_ok-frames.frames.items c.in_ok-stack.ensures.items
-      c.in_ok-frames.ensures.items,
+  begun c.image-image.result.now c.args.slots.now c.in_ok-stack.stack.items c.new-frames.result c.in_ok-stack.ensures.items
+      c.new-frames.ensures,
   c.in_ok-stack.ensures.room
       ∙ ap (λ n. n + 1) c.max_depth.ensures.depth
       ∙ ap (λ p. greatest_depth p + 1) (sym c.image-image.ensures.image),
-  c.in_ok-frames.ensures.room
-      ∙ ap (λ n. n + 1) c.loop_depth.ensures.depth
-      ∙ ap (λ p. greatest_nesting p + 1) (sym c.image-image.ensures.image),
 )
 
 pub step-requires-clause-at : goal.step-requires-clause-at
@@ -23,7 +20,7 @@ step-requires-clause-at c =
     let l = c.loop-instr in
     let i = c.image-image in
     let run = here c.args.program.now i.result.now c.args.slots.now i.ensures.accepted i.ensures.image c.requires in
-    let h = run l.position.at l.stack.items l.frames.items l.charged l.steps l.invariant.0 in
+    let h = run l.position.at l.stack.items l.frames l.charged l.steps l.invariant.0 in
     omega (arith, h.room)
 
 pub step-requires-clause-room : goal.step-requires-clause-room
@@ -31,24 +28,16 @@ step-requires-clause-room c =
     let l = c.loop-instr in
     let i = c.image-image in
     let run = deep c.args.program.now i.result.now c.args.slots.now i.ensures.accepted i.ensures.image c.requires in
-    let h = run l.position.at l.stack.items l.frames.items l.charged l.steps l.invariant.0 in
+    let h = run l.position.at l.stack.items l.frames l.charged l.steps l.invariant.0 in
     omega (arith, l.invariant.1)
-
-pub step-requires-clause-frame_room : goal.step-requires-clause-frame_room
-step-requires-clause-frame_room c =
-    let l = c.loop-instr in
-    let i = c.image-image in
-    let run = nested c.args.program.now i.result.now c.args.slots.now i.ensures.accepted i.ensures.image c.requires in
-    let h = run l.position.at l.stack.items l.frames.items l.charged l.steps l.invariant.0 in
-    omega (arith, l.invariant.2)
 
 pub overflow_add-charged : goal.overflow_add-charged
 overflow_add-charged c =
     let l = c.loop-instr in
     let i = c.image-image in
     let run = next c.args.program.now i.result.now c.args.slots.now i.ensures.accepted i.ensures.image c.requires in
-    let turn = run l.position.at l.stack.items l.frames.items l.charged l.steps l.invariant.0 c.in-Some.instr.now c.in_ok-step.field-0 in
-    let after = turn c.step.new.position c.step.new.stack.items c.step.new.frames.items (sym c.in-Some.ensures.value)
+    let turn = run l.position.at l.stack.items l.frames l.charged l.steps l.invariant.0 c.in-Some.instr.now c.in_ok-step.field-0 in
+    let after = turn c.step.new.position c.step.new.stack.items c.step.new.frames (sym c.in-Some.ensures.value)
     c.in_ok-step.ensures.acts in
     let t = after c.in-GoesOn.is in
     omega (arith, t.cheap)
@@ -58,7 +47,7 @@ overflow_add-steps c =
     let l = c.loop-instr in
     let i = c.image-image in
     let run = here c.args.program.now i.result.now c.args.slots.now i.ensures.accepted i.ensures.image c.requires in
-    let h = run l.position.at l.stack.items l.frames.items l.charged l.steps l.invariant.0 in
+    let h = run l.position.at l.stack.items l.frames l.charged l.steps l.invariant.0 in
     omega (arith, h.few)
 
 pub loop-instr-smaller : goal.loop-instr-smaller
@@ -66,7 +55,7 @@ loop-instr-smaller c =
     let l = c.loop-instr in
     let i = c.image-image in
     let run = here c.args.program.now i.result.now c.args.slots.now i.ensures.accepted i.ensures.image c.requires in
-    let h = run l.position.at l.stack.items l.frames.items l.charged l.steps l.invariant.0 in
+    let h = run l.position.at l.stack.items l.frames l.charged l.steps l.invariant.0 in
     omega (arith, h.within)
 
 pub loop-instr-preserved : goal.loop-instr-preserved
@@ -74,12 +63,11 @@ loop-instr-preserved c =
     let l = c.loop-instr in
     let i = c.image-image in
     let run = goes c.args.program.now i.result.now c.args.slots.now i.ensures.accepted i.ensures.image c.requires in
-    let turn = run l.position.at l.stack.items l.frames.items l.charged l.steps l.invariant.0 c.in-Some.instr.now c.in_ok-step.field-0 in
-    let after = turn c.step.new.position c.step.new.stack.items c.step.new.frames.items (sym c.in-Some.ensures.value)
+    let turn = run l.position.at l.stack.items l.frames l.charged l.steps l.invariant.0 c.in-Some.instr.now c.in_ok-step.field-0 in
+    let after = turn c.step.new.position c.step.new.stack.items c.step.new.frames (sym c.in-Some.ensures.value)
     c.in_ok-step.ensures.acts in (
       after c.in-GoesOn.is,
       c.step.ensures.room ∙ l.invariant.1,
-      c.step.ensures.frame_room ∙ l.invariant.2,
     )
 
 pub overflow_add-result : goal.overflow_add-result
@@ -87,7 +75,7 @@ overflow_add-result c =
     let l = c.loop-instr in
     let i = c.image-image in
     let run = here c.args.program.now i.result.now c.args.slots.now i.ensures.accepted i.ensures.image c.requires in
-    let h = run l.position.at l.stack.items l.frames.items l.charged l.steps l.invariant.0 in
+    let h = run l.position.at l.stack.items l.frames l.charged l.steps l.invariant.0 in
     omega (arith, h.few)
 
 pub returns-in-IsOver-clause-fits : goal.returns-in-IsOver-clause-fits
@@ -95,8 +83,8 @@ returns-in-IsOver-clause-fits c =
     let l = c.loop-instr in
     let i = c.image-image in
     let run = outcome_fits c.args.program.now i.result.now c.args.slots.now i.ensures.accepted i.ensures.image c.requires in
-    let turn = run l.position.at l.stack.items l.frames.items l.charged l.steps l.invariant.0 c.in-Some.instr.now c.in_ok-step.field-0 in
-    let after = turn c.step.new.position c.step.new.stack.items c.step.new.frames.items (sym c.in-Some.ensures.value)
+    let turn = run l.position.at l.stack.items l.frames l.charged l.steps l.invariant.0 c.in-Some.instr.now c.in_ok-step.field-0 in
+    let after = turn c.step.new.position c.step.new.stack.items c.step.new.frames (sym c.in-Some.ensures.value)
     c.in_ok-step.ensures.acts in
     after c.in_ok-outcome-in-IsOver.outcome c.in-IsOver.is c.in_ok-outcome-in-IsOver.ensures
 
@@ -105,7 +93,7 @@ returns-in-IsOver-clause-steps c =
     let l = c.loop-instr in
     let i = c.image-image in
     let run = here c.args.program.now i.result.now c.args.slots.now i.ensures.accepted i.ensures.image c.requires in
-    let h = run l.position.at l.stack.items l.frames.items l.charged l.steps l.invariant.0 in
+    let h = run l.position.at l.stack.items l.frames l.charged l.steps l.invariant.0 in
     let long = subst (λ p. IsWithin (IsRouteLength p) (l.steps + 1)) i.ensures.image h.long in
     record { most = long.most; is = long.is; within = omega (arith, long.within) }
 
@@ -114,7 +102,7 @@ returns-in-IsOver-clause-charged c =
     let l = c.loop-instr in
     let i = c.image-image in
     let run = here c.args.program.now i.result.now c.args.slots.now i.ensures.accepted i.ensures.image c.requires in
-    let h = run l.position.at l.stack.items l.frames.items l.charged l.steps l.invariant.0 in
+    let h = run l.position.at l.stack.items l.frames l.charged l.steps l.invariant.0 in
     let cost = subst (λ p. IsWithin (IsRouteCharge p) l.charged) i.ensures.image h.cost in
     record { most = cost.most; is = cost.is; within = omega (arith, cost.within) }
 
@@ -123,7 +111,7 @@ returns-in-IsOver-clause-within_budget c =
     let l = c.loop-instr in
     let i = c.image-image in
     let run = here c.args.program.now i.result.now c.args.slots.now i.ensures.accepted i.ensures.image c.requires in
-    let h = run l.position.at l.stack.items l.frames.items l.charged l.steps l.invariant.0 in
+    let h = run l.position.at l.stack.items l.frames l.charged l.steps l.invariant.0 in
     omega (arith, h.cheap)
 
 pub returns-in-IsOver-clause-declared : goal.returns-in-IsOver-clause-declared
@@ -131,7 +119,7 @@ returns-in-IsOver-clause-declared c most declares =
     let l = c.loop-instr in
     let i = c.image-image in
     let run = here c.args.program.now i.result.now c.args.slots.now i.ensures.accepted i.ensures.image c.requires in
-    let h = run l.position.at l.stack.items l.frames.items l.charged l.steps l.invariant.0 in
+    let h = run l.position.at l.stack.items l.frames l.charged l.steps l.invariant.0 in
     let cost = subst (λ p. IsWithin (IsRouteCharge p) l.charged) i.ensures.image h.cost in
     let says = subst (λ d. IsDeclared c.args.program.now d) declares i.ensures.accepted.declared in
     let dearest = says.0 cost.most cost.is in
@@ -142,8 +130,8 @@ unreachable-requires c =
     let l = c.loop-instr in
     let i = c.image-image in
     let run = not_stuck c.args.program.now i.result.now c.args.slots.now i.ensures.accepted i.ensures.image c.requires in
-    let turn = run l.position.at l.stack.items l.frames.items l.charged l.steps l.invariant.0 c.in-Some.instr.now c.in_ok-step.field-0 in
-    let after = turn c.step.new.position c.step.new.stack.items c.step.new.frames.items (sym c.in-Some.ensures.value)
+    let turn = run l.position.at l.stack.items l.frames l.charged l.steps l.invariant.0 c.in-Some.instr.now c.in_ok-step.field-0 in
+    let after = turn c.step.new.position c.step.new.stack.items c.step.new.frames (sym c.in-Some.ensures.value)
     c.in_ok-step.ensures.acts in
     after c.in-IsStuckHere.is
 
@@ -152,7 +140,7 @@ unreachable-requires-2 c =
     let l = c.loop-instr in
     let i = c.image-image in
     let run = here c.args.program.now i.result.now c.args.slots.now i.ensures.accepted i.ensures.image c.requires in
-    let h = run l.position.at l.stack.items l.frames.items l.charged l.steps l.invariant.0 in
+    let h = run l.position.at l.stack.items l.frames l.charged l.steps l.invariant.0 in
     no_end i.result.now.code l.position.at h.inside (sym c.in_default.ensures.value)
 
 pub taken-requires : goal.taken-requires
@@ -160,7 +148,7 @@ taken-requires c =
     let l = c.loop-instr in
     let i = c.image-image in
     let run = has_top c.args.program.now i.result.now c.args.slots.now i.ensures.accepted i.ensures.image c.requires in
-    let turn = run l.position.at l.stack.items l.frames.items l.charged l.steps l.invariant.0 c.in-Some.instr.now c.in_ok-step.field-0 in
-    let after = turn c.step.new.position c.step.new.stack.items c.step.new.frames.items (sym c.in-Some.ensures.value)
+    let turn = run l.position.at l.stack.items l.frames l.charged l.steps l.invariant.0 c.in-Some.instr.now c.in_ok-step.field-0 in
+    let after = turn c.step.new.position c.step.new.stack.items c.step.new.frames (sym c.in-Some.ensures.value)
     c.in_ok-step.ensures.acts in
     after c.in-IsOver.is

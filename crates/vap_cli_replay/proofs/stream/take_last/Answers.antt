@@ -11,9 +11,10 @@ use Rattle.vap_cli_replay.proofs.stream.take_last.Goals as goal
 
 pub returns-clause-taken : goal.returns-clause-taken
 returns-clause-taken g c =
-    let some : 0 < length c.args.bytes.now = grind (arith, common_steps) in
+    let bytes = c.args.buffer.now.bytes.items in
+    let some : 0 < length bytes = grind (arith, common_steps) in
     let short : End ≢ TooLong = λ e. cc in
-    one_each c.take.result End c.args.bytes.now c.in_ok-line.line c.args.session.now c.take.new.self (λ e. some) short
+    one_each c.take.result End bytes c.in_ok-line.line c.args.session.now c.take.new.self (λ e. some) short
     c.in_ok-line.ensures c.take.ensures.taken c.take.ensures.waiting
 
 pub returns-clause-lines : goal.returns-clause-lines
@@ -22,36 +23,40 @@ returns-clause-lines g c =
 
 pub returns-clause-refused : goal.returns-clause-refused
 returns-clause-refused g c =
-    let some : 0 < length c.args.bytes.now = grind (arith, common_steps) in
+    let bytes = c.args.buffer.now.bytes.items in
+    let some : 0 < length bytes = grind (arith, common_steps) in
     let short : End ≢ TooLong = λ e. cc in
     λ number why is told.
-    one_refused g.W.Write.contents End c.args.bytes.now c.in_ok-line.line c.args.session.now c.args.output.now
+    one_refused g.W.Write.contents End bytes c.in_ok-line.line c.args.session.now c.args.output.now
     c.take.new.out number why (λ e. some) short c.in_ok-line.ensures (c.take.ensures.refused number why is told)
 
 pub returns-clause-pattern : goal.returns-clause-pattern
 returns-clause-pattern g c =
-    let some : 0 < length c.args.bytes.now = grind (arith, common_steps) in
+    let bytes = c.args.buffer.now.bytes.items in
+    let some : 0 < length bytes = grind (arith, common_steps) in
     let short : End ≢ TooLong = λ e. cc in
     let line = c.in_ok-line.line in
     λ number told.
-    unjudged_as (λ (l : Line). line ≡ l) (IsReadAs End c.args.bytes.now) c.args.session.now c.args.output.now c.take.new.out number
+    unjudged_as (λ (l : Line). line ≡ l) (IsReadAs End bytes) c.args.session.now c.args.output.now c.take.new.out number
     (λ request is.
-    read_as End c.args.bytes.now line (Asks request) (one_line End c.args.bytes.now (λ e. some)) short c.in_ok-line.ensures is)
-    (c.take.ensures.pattern number told (plain_read c.args.bytes.now line c.in_ok-line.ensures))
+    read_as End bytes line (Asks request) (one_line End bytes (λ e. some)) short c.in_ok-line.ensures is)
+    (c.take.ensures.pattern number told (plain_read bytes line c.in_ok-line.ensures))
 
 pub returns-clause-unverified : goal.returns-clause-unverified
 returns-clause-unverified g c =
-    let some : 0 < length c.args.bytes.now = grind (arith, common_steps) in
+    let bytes = c.args.buffer.now.bytes.items in
+    let some : 0 < length bytes = grind (arith, common_steps) in
     let short : End ≢ TooLong = λ e. cc in
     let line = c.in_ok-line.line in
     λ number told.
-    unpublished_as g.W.Write.contents (λ (l : Line). line ≡ l) (IsReadAs End c.args.bytes.now) c.args.session.now c.args.output.now
+    unpublished_as g.W.Write.contents (λ (l : Line). line ≡ l) (IsReadAs End bytes) c.args.session.now c.args.output.now
     c.take.new.out number
     (λ event is.
-    read_as End c.args.bytes.now line (Happens event) (one_line End c.args.bytes.now (λ e. some)) short c.in_ok-line.ensures is)
-    (c.take.ensures.unverified number told (plain_read c.args.bytes.now line c.in_ok-line.ensures))
+    read_as End bytes line (Happens event) (one_line End bytes (λ e. some)) short c.in_ok-line.ensures is)
+    (c.take.ensures.unverified number told (plain_read bytes line c.in_ok-line.ensures))
 
 pub returns-then-is_empty-clause-taken : goal.returns-then-is_empty-clause-taken
 returns-then-is_empty-clause-taken g c =
-    let none : length c.args.bytes.now ≡ 0 = grind (arith, common_steps) in
-    none_taken c.args.bytes.now c.args.session.now c.args.session.now none refl
+    let bytes = c.args.buffer.now.bytes.items in
+    let none : length bytes ≡ 0 = grind (arith, common_steps) in
+    none_taken bytes c.args.session.now c.args.session.now none refl

@@ -1,8 +1,8 @@
-use Rattle.std.proofs.Common.{◌≡◌, true, Option, None, [], drop, is_some, rules, arith}
+use Rattle.std.proofs.Common.{◌≡◌, true, None, [], drop, is_some, rules, arith}
 use Rattle.std.proofs.lemmas.Grind.{common_steps}
 use Rattle.base_containers.specs.Keys.{value_under, with_entry}
 use Rattle.vap_policy.specs.DecisionAnnotations.{failure_annotation, joined, values_at}
-use Rattle.vap_policy.proofs.Grouped.{IsGrouping, added, done, known, found_none, found_there}
+use Rattle.vap_policy.proofs.Grouped.{added, done, known, found_none, found_there}
 use Rattle.vap_policy.proofs.decision_annotations.annotations_from.Goals as goal
 use Rattle.vap_policy.proofs.decision_annotations.annotations_from.Goals.{then-is_none+in_ok-values+in_ok-copy+in_ok-insert, else-is_none}
 

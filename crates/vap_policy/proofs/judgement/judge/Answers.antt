@@ -9,8 +9,8 @@ use Rattle.vap_policy.specs.RequestPatterns.{KindMayMatch}
 use Rattle.vap_policy.specs.Places.{is_exempt, kind_at}
 use Rattle.vap_policy.proofs.judgement.judge.Goals as goal
 
-pub returns-in_err-exempt_verdict-clause-none_passed_over : goal.returns-in_err-exempt_verdict-clause-none_passed_over
-returns-in_err-exempt_verdict-clause-none_passed_over c =
+pub returns-in_err-without_evaluation-clause-none_passed_over : goal.returns-in_err-without_evaluation-clause-none_passed_over
+returns-in_err-without_evaluation-clause-none_passed_over c =
     none_passed_over c.args.set.now c.kinds-kinds.ensures.source c.args.request.now.admission
 
 pub returns-then-is_exempt-clause-none_passed_over : goal.returns-then-is_exempt-clause-none_passed_over
@@ -19,8 +19,8 @@ returns-then-is_exempt-clause-none_passed_over c = none_passed_over c.args.set.n
 pub returns-clause-none_passed_over : goal.returns-clause-none_passed_over
 returns-clause-none_passed_over c = none_passed_over c.args.set.now c.kinds-kinds.ensures.source c.args.request.now.admission
 
-pub returns-in_err-exempt_verdict-clause-priced : goal.returns-in_err-exempt_verdict-clause-priced
-returns-in_err-exempt_verdict-clause-priced c =
+pub returns-in_err-without_evaluation-clause-priced : goal.returns-in_err-without_evaluation-clause-priced
+returns-in_err-without_evaluation-clause-priced c =
     let b = c.args.set.now in
     let r = c.args.request.now.admission in
     set_priced b c.kinds-kinds.ensures.source (kind_at (kinds_of b) r) (kind_first (kinds_of b) r)

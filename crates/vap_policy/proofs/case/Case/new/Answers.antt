@@ -1,5 +1,4 @@
-use Rattle.std.proofs.Common.{sym, ap, ◌∙◌, subst}
-use Rattle.vap_read_objects.specs.OfKind.{labels_in}
+use Rattle.std.proofs.Common.{sym, subst}
 use Rattle.vap_policy_set.specs.Ready.{IsOneOf}
 use Rattle.vap_policy_set.specs.Sets.{kinds_of}
 use Rattle.vap_policy.proofs.Named.{kind_first}
@@ -12,5 +11,5 @@ returns-clause-ready c =
     record {
       held = c.requires.held;
       kind = subst (IsOneOf (kinds_of set)) (sym c.requires.kind) (kind_first (kinds_of set) asked);
-      labels = c.labels_in.ensures ∙ ap labels_in c.requires.namespace;
+      labels = c.requires.labels;
     }
