@@ -1,8 +1,7 @@
 -- What the reads of an input give.
 use Rattle.std.proofs.Common.{◌≡◌, ◌≢◌, ℕ, ◌≤◌, List, length, Option, None, Some, arith, inl, inr, ◌∙◌, ap, refl}
-use Rattle.std.specs.Prelude.{IfSome}
 use Rattle.base_containers.specs.Counted.{failures_of, inner_of, one_more}
-use Rattle.base_containers.specs.Lines.{AllGive, IsCutOff, Pending, StopsReading, empty_reads, most_reads}
+use Rattle.base_containers.specs.Lines.{AllGive, Gives, IsCutOff, Pending, StopsReading, empty_reads, most_reads}
 use Rattle.base_containers.specs.declared.counted.Counted.{Counted}
 use Rattle.base_containers.specs.declared.lines.Ending.{Ending}
 use Rattle.base_containers.specs.declared.lines.Ending.TheVariants.{Feed, End, TooLong}
@@ -27,9 +26,8 @@ pub given_next : (before ending : Ending) (a b c : Option (List ℕ)) (p q r : P
 given_next before ending a b c p q r not h k =
     given_more (empty_reads ending) a b c p q r (given_line before a b p q not h) k
 
--- if each read gave a byte and none is left, the input has a byte for each
-many_bytes : (a b : Option (List ℕ)) (p r : Pending) → p.reads ≡ most_reads → r.reads ≡ 0 → AllGive 0 a b p r
-    → IfSome a (λ bytes. most_reads ≤ length bytes)
+-- if each read gave a byte and none is left, the input gave a byte for each
+many_bytes : (a b : Option (List ℕ)) (p r : Pending) → p.reads ≡ most_reads → r.reads ≡ 0 → AllGive 0 a b p r → Gives most_reads a b
 many_bytes None b p r all none h = tt
 many_bytes (Some x) None p r all none h = absurd h
 many_bytes (Some x) (Some y) p r all none h = omega (arith, all, none, h)

@@ -1,6 +1,5 @@
 -- What a line is, and what is left of a reader after it.
 use Rattle.std.specs.Prelude.{◌≡◌, ◌≢◌, ◌<◌, ◌≤◌, ◌⊎◌, ◌+◌, ◌*◌, ⊤, ℕ, List, [], ◌∷◌, ◌++◌, length, Option, Some, None, if◌then◌else◌, ◌==◌}
-use Rattle.std.specs.Prelude.{IfSome}
 use Rattle.std.specs.List.{All}
 use Rattle.std.specs.Io.KnownBytes.{Consumes, IsAtEnd, prepend_known}
 use Rattle.base_containers.specs.Counted.{failures_of, inner_of, one_more}
@@ -68,11 +67,17 @@ pub record IsSpent {R : Type 0} (remaining : R → Option (List ℕ)) (input lef
 abbrev pub IsCutOff : {R : Type 0} → (R → Option (List ℕ)) → Counted R → Counted R → Pending → Pending → Type 0
 IsCutOff remaining input left old new = (failures_of left ≡ one_more (failures_of input)) ⊎ IsSpent remaining input left old new
 
--- no more of an input is read: a read failed; or none did, and the input has at least one byte for each read that may be made
+-- an input gave at least so many bytes
+abbrev pub Gives : ℕ → Option (List ℕ) → Option (List ℕ) → Type 0
+Gives count None left = ⊤
+Gives count (Some bytes) None = ⊥
+Gives count (Some bytes) (Some left) = count + length left ≤ length bytes
+
+-- no more of an input is read: a read failed; or none did, and the input gave at least one byte for each read that may be made
 abbrev pub StopsReading : {R : Type 0} → (R → Option (List ℕ)) → Counted R → Counted R → Type 0
 StopsReading remaining before after =
     (failures_of after ≡ one_more (failures_of before))
-    ⊎ ((failures_of after ≡ failures_of before) × IfSome (remaining (inner_of before)) (λ bytes. most_reads ≤ length bytes))
+    ⊎ ((failures_of after ≡ failures_of before) × Gives most_reads (remaining (inner_of before)) (remaining (inner_of after)))
 
 -- the line that the end of a text ends, if one is begun
 abbrev pub last_line : List ℕ → List (List ℕ)

@@ -14,7 +14,8 @@
 //!
 //! [`LineReader::next`] puts the bytes of a reader's next line, without its line feed, into a list, and answers how the line
 //! ended; a line of more than [`LONGEST_LINE`] bytes is not read whole. It stops at the end of the input, at the first read
-//! that fails, and after [`MOST_READS`] reads. [`Counted`] passes reads, writes and flushes on and counts those that failed.
+//! that fails, and after [`MOST_READS`] reads. [`LineReader::next_pending`] takes a line that was read whole and is not handed on yet.
+//! [`Counted`] passes reads, writes and flushes on and counts those that failed.
 #![tactic(auto)]
 
 mod acceptance;

@@ -1,6 +1,6 @@
 //! Lines of a reader.
 
-ghost use Rattle.std.specs.Prelude.{◌≡◌, ◌≢◌, ◌+◌, ◌≤◌, ◌<◌, [], length, drop, IfErr, IfOk, IsErrOf, OnErr, OnOk};
+ghost use Rattle.std.specs.Prelude.{◌≡◌, ◌≢◌, ◌+◌, ◌≤◌, ◌<◌, ◌++◌, [], ◌∷◌, length, drop, IfErr, IfOk, IsErrOf, OnErr, OnOk, false, true};
 ghost use Rattle.std.specs.List.{All};
 ghost use Rattle.std.specs.Io.KnownBytes.{Consumes, Keeps, IsAtEnd};
 ghost use Rattle.base_containers.specs.Counted.{failures_of, failures_after, inner_of};
@@ -94,6 +94,27 @@ impl LineReader {
         }
     }
 
+    /// Puts the bytes of the next line into `line`, which is empty, and answers true, if the whole of it is pending, its line feed
+    /// too. Else nothing changes. Nothing is read.
+    pub fn next_pending(&mut self, line: &mut Vec<u8>) -> Result<bool, AllocError>
+        requires { line.old.items ≡ [] }
+        ensures taken { IfOk result (λ taken. taken ≡ true → self.old.bytes ≡ line.new.items ++ 10 ∷ self.new.bytes) }
+        ensures none { IfOk result (λ taken. taken ≡ false → All (λ x. x ≢ 10) self.old.bytes) }
+        ensures kept { IfOk result (λ taken. taken ≡ false → (self.new ≡ self.old) × (line.new.items ≡ [])) }
+        ensures refused { OnErr result ((self.new ≡ self.old) × (line.new.items ≡ [])) }
+        ensures plain { All (λ x. x ≢ 10) line.new.items }
+        ensures short { length line.new.items ≤ LONGEST_LINE }
+        ensures reads { self.new.reads ≡ self.old.reads }
+    {
+        let rest = self.bytes();
+        let Some(place) = feed_at(rest) else {
+            return Ok(false);
+        };
+        line.extend_from_slice(&rest[..place])?;
+        self.pass(place + 1);
+        Ok(true)
+    }
+
     /// Hands on what is pending, up to the end of the line, and answers how the line ended, if it did. If there is no memory,
     /// nothing is handed on.
     fn hand_on(&mut self, line: &mut Vec<u8>) -> Result<Option<Ending>, LineError>
@@ -121,7 +142,8 @@ impl LineReader {
     }
 
     fn bytes(&self) -> &[u8]
-        ensures { result.now ≡ self.now.bytes }
+        ensures pending { result.now ≡ self.now.bytes }
+        ensures most { length result.now ≤ CHUNK }
     {
         &self.chunk[self.at..self.end]
     }

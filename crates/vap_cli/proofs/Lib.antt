@@ -6,4 +6,3 @@ mod Told
 mod WorkedChecks
 pub mod Spelt
 pub mod Accepted
-pub mod CutOff

@@ -1,11 +1,9 @@
 -- The document of a file.
-use Rattle.std.specs.Prelude.{◌≡◌, ◌≤◌, ◌<◌, ℕ, List, [], length, Option, None, Some, Result, Ok, Err, IsUtf8}
+use Rattle.std.specs.Prelude.{◌≡◌, ◌≤◌, ◌<◌, ℕ, List, length, None, Some, Result, Ok, Err, IsUtf8}
 use Rattle.serde_json.specs.Data.{Data}
 use Rattle.serde_json.specs.Read.{read}
 use Rattle.serde_json.specs.View.{view}
 use Rattle.serde_json.specs.declared.value.Value.{Value as Json}
-use Rattle.base_containers.specs.Lines.{IsCutOff, Pending, most_reads}
-use Rattle.base_containers.specs.declared.counted.Counted.{Counted}
 use Rattle.base_containers.specs.declared.lines.LineError.{LineError}
 use Rattle.base_containers.specs.declared.lines.LineError.TheVariants as reading
 use Rattle.vap_cli.specs.declared.failure.CheckFailure.{CheckFailure}
@@ -42,11 +40,3 @@ IsDocumentOf bytes (Err why) = IsUnread bytes why
 abbrev pub failure_of_line : LineError → CheckFailure
 failure_of_line reading.Read = failure.Read
 failure_of_line reading.OutOfMemory = failure.OutOfMemory
-
--- what a reader that has read nothing has still to hand on
-abbrev pub at_first : Pending
-at_first = record { bytes = []; reads = most_reads }
-
--- a file is read no more: a read failed, or there were as many as there may be, and each gave a byte
-abbrev pub EndsReading : {R : Type 0} → (R → Option (List ℕ)) → Counted R → Counted R → Type 0
-EndsReading remaining before after = (left : Pending) × IsCutOff remaining before after at_first left

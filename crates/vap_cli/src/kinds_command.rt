@@ -2,7 +2,7 @@
 
 ghost use Rattle.std.specs.Prelude.{◌≡◌, ◌+◌, ◌-◌, ◌^◌, ◌<◌, OnOk, IsErrOf};
 ghost use Rattle.base_containers.specs.Counted.{failures_of};
-ghost use Rattle.vap_cli.specs.Documents.{EndsReading};
+ghost use Rattle.base_containers.specs.Lines.{StopsReading};
 
 use crate::check::{Ended, write_lines};
 use crate::definition::line_of;
@@ -20,9 +20,10 @@ use std::io::{Read, Write};
 use vap_match::text_in;
 
 /// The bytes of a document, none if there are more than it may have.
+#[tactic(auto, using(base_containers::proofs::BytesRead::stops_reading))]
 fn bytes_in<R: Read>(alloc: Global, file: &mut Counted<R>) -> Result<Option<Vec<u8>>, CheckFailure>
     ensures no_failure { OnOk result (failures_of file.new ≡ failures_of file.old) }
-    ensures read { IsErrOf result CheckFailure.Read → EndsReading R.remaining file.old file.new }
+    ensures read { IsErrOf result CheckFailure.Read → StopsReading R.remaining file.old file.new }
     ensures write { IsErrOf result CheckFailure.Write → ⊥ }
 {
     let mut reader = LineReader::new(alloc)?;
@@ -100,7 +101,7 @@ pub fn kinds_to<R: Read, W: Write>(
     requires { failures_of out.old < 2 ^ 64 - 1 }
     ensures all_read { OnOk result (failures_of file.new ≡ failures_of file.old) }
     ensures all_written { OnOk result (failures_of out.new ≡ failures_of out.old) }
-    ensures read { IsErrOf result CheckFailure.Read → EndsReading R.remaining file.old file.new }
+    ensures read { IsErrOf result CheckFailure.Read → StopsReading R.remaining file.old file.new }
     ensures write { IsErrOf result CheckFailure.Write → failures_of out.new ≡ failures_of out.old + 1 }
 {
     let bytes = bytes_in(alloc, file)?;

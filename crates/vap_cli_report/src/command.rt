@@ -4,7 +4,7 @@ ghost use Rattle.std.specs.Prelude.{◌≡◌, ◌+◌, ◌-◌, ◌^◌, ◌<�
 ghost use Rattle.std.specs.Io.KnownBytes.{Appends};
 ghost use Rattle.vap_cli.specs.declared.status.Status.TheVariants.{Done};
 ghost use Rattle.base_containers.specs.Counted.{inner_of, failures_of};
-ghost use Rattle.vap_cli.specs.Documents.{EndsReading};
+ghost use Rattle.base_containers.specs.Lines.{StopsReading};
 ghost use Rattle.vap_policy_set.specs.Sets.{policies_of, IsReport};
 
 use crate::input::objects_in;
@@ -45,7 +45,7 @@ pub fn report_to<R: Read, W: Write>(
     requires writes { failures_of out.old < 2 ^ 64 - 1 }
     ensures all_read { OnOk result (failures_of file.new ≡ failures_of file.old) }
     ensures all_written { OnOk result (failures_of out.new ≡ failures_of out.old) }
-    ensures read { IsErrOf result CheckFailure.Read → EndsReading R.remaining file.old file.new }
+    ensures read { IsErrOf result CheckFailure.Read → StopsReading R.remaining file.old file.new }
     ensures write { IsErrOf result CheckFailure.Write → failures_of out.new ≡ failures_of out.old + 1 }
 {
     match objects_in(alloc, file) {

@@ -2,8 +2,7 @@
 
 ghost use Rattle.std.specs.Prelude.{◌≡◌, ◌≢◌, IfOk, IsErrOf, OnOk};
 ghost use Rattle.base_containers.specs.Counted.{failures_of, inner_of};
-ghost use Rattle.base_containers.specs.Lines.{AllGive, IsCutOff, empty_reads};
-ghost use Rattle.vap_cli.specs.Documents.{EndsReading};
+ghost use Rattle.base_containers.specs.Lines.{AllGive, IsCutOff, StopsReading, empty_reads};
 
 use crate::input_fault::{InputFault, document_note, line_note};
 use crate::stream::{Stream, is_blank};
@@ -164,7 +163,7 @@ fn is_empty(bytes: &[u8]) -> bool {
 /// otherwise one document.
 pub fn objects_in<R: Read>(alloc: Global, input: &mut Counted<R>) -> Result<Taken, CheckFailure>
     ensures no_failure { OnOk result (failures_of input.new ≡ failures_of input.old) }
-    ensures read { IsErrOf result CheckFailure.Read → EndsReading R.remaining input.old input.new }
+    ensures read { IsErrOf result CheckFailure.Read → StopsReading R.remaining input.old input.new }
 {
     let mut reader = LineReader::new(alloc)?;
     let mut bytes = Vec::new(alloc);

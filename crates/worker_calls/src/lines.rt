@@ -14,6 +14,7 @@ pub fn answer(alloc: Global, asked: &Asked) -> Result<String, AllocError> {
     let number = asked.number(0) as usize;
     match asked.call {
         "read" => lines(alloc, asked.input, number),
+        "pending" => pending(alloc, asked.input, number),
         "behind" => behind(alloc, asked.input, number),
         "failing" => failing(alloc, asked.input, number),
         "endless" => without_end(alloc),
@@ -121,6 +122,39 @@ pub fn counted(text: &str, most: usize, failing: usize) -> Counted<Stream<'_>>
 /// The lines of a text if one read gives at most so many bytes.
 fn lines(alloc: Global, text: &str, most: usize) -> Result<String, AllocError> {
     told(alloc, &mut counted(text, most, 0))
+}
+
+/// The next line of a reader, with how it ended, and whether others may follow. One that is pending whole is taken without a read.
+fn next_of(
+    alloc: Global,
+    reader: &mut LineReader,
+    input: &mut Counted<Stream<'_>>,
+) -> Result<(String, bool), AllocError> {
+    let mut line = Vec::new(alloc);
+    if reader.next_pending(&mut line)? {
+        let mut told = shown(alloc, line.as_slice(), Ok(Ending::Feed))?;
+        told.push_str("<pending>")?;
+        return Ok((told, true));
+    }
+    let ended = reader.next(input, &mut line);
+    let mut told = shown(alloc, line.as_slice(), ended)?;
+    told.push_str(mark(ended)?)?;
+    Ok((told, ended == Ok(Ending::Feed)))
+}
+
+/// The lines of a text if one read gives at most so many bytes, and which of them are pending when they are asked for, at most 64.
+fn pending(alloc: Global, text: &str, most: usize) -> Result<String, AllocError> {
+    let mut input = counted(text, most, 0);
+    let mut reader = LineReader::new(alloc)?;
+    let mut told = String::new(alloc);
+    for _ in 0..64 {
+        let (line, follows) = next_of(alloc, &mut reader, &mut input)?;
+        told.push_str(line.as_str())?;
+        if !follows {
+            break;
+        }
+    }
+    Ok(told)
 }
 
 /// The lines of a text after so many letters.
