@@ -70,6 +70,15 @@ impl<'a, L: Plan, H> Crew<'a, L, H> {
     }
 }
 
+impl<L: Plan, H> Crew<'_, L, H> {
+    /// How many threads there are, the one that reads among them.
+    pub(crate) fn threads(&self) -> usize
+        ensures { 1 ≤ result }
+    {
+        self.workers.len()
+    }
+}
+
 impl<L: Plan + Send + Sync, H: Threads + Wait + Sync> Crew<'_, L, H> {
     /// The verdicts on requests at the published snapshot, which the workers are told of, in order, when all are judged there and
     /// recorded: their calls are numbered from `first`. A fault is reported at the line of the first of them. If there is no request,

@@ -86,6 +86,10 @@ impl Session {
         writer.end(rt);
     }
 
+    pub(crate) fn events(&self) -> &EventReader {
+        &self.events
+    }
+
     /// What the bytes of a line are; there are no more of them than a line may have.
     pub(crate) fn read(&self, bytes: &[u8], scratch: &mut Scratch) -> Result<Line, AllocError>
         requires { length bytes.now ≤ longest_line }

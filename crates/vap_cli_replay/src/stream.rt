@@ -7,7 +7,6 @@ ghost use Rattle.base_containers.specs.Counted.{failures_of, inner_of};
 ghost use Rattle.base_containers.specs.Lines.{AllGive, IsCutOff, StopsReading, empty_reads, longest_line, room, unread};
 ghost use Rattle.vap_cli_replay.specs.Moves.{Advances, BeginsWith, CountsWrites, IsRead, IsReadAs, IsUnjudged, IsUnpublished, RefusesBytes};
 ghost use Rattle.vap_cli_replay.specs.Moves.{RefusesNext, StopsAt, TakesNext, Writes};
-ghost use Rattle.vap_cli_replay.specs.Lines.{Reads};
 ghost use Rattle.vap_cli_replay.specs.Sessions.{IsInStep, IsOpening};
 ghost use Rattle.vap_cli_replay.specs.Streams.{IsUnansweredAt, IsUnverifiedAt, Refuses, Replays, Stops, is_of_the_lines};
 ghost use Rattle.vap_cli_replay.specs.declared.fault.LineFault.{LineFault as FaultOf};
@@ -15,11 +14,12 @@ ghost use Rattle.vap_cli_replay.specs.declared.fault.LineFault.{LineFault as Fau
 use crate::crew::Crew;
 use crate::fault::{LineFault, ReplayError};
 use crate::line::Line;
+use crate::line_queue::{LineQueue, LineReaders};
 use crate::progress::{Progress, Silent};
+use crate::queued_line::LineBuffer;
 use crate::session::Session;
-use base_containers::{Counted, Ending, LineReader};
-use json::Scratch;
-use std::alloc::{AllocError, Global};
+use base_containers::{Counted, Ending};
+use std::alloc::Global;
 use std::io::{Read, Write};
 use std::marker::Brand;
 use std::sync::Wait;
@@ -31,30 +31,6 @@ use vap_watch::{open, revision_of};
 
 /// The most workers.
 pub const MOST_WORKERS: u8 = 16;
-
-/// What a line is read into: its bytes, and the room in which it is opened.
-#[derive(Drop)]
-struct LineBuffer {
-    bytes: Vec<u8>,
-    scratch: Scratch,
-}
-
-impl LineBuffer {
-    fn new(alloc: Global) -> LineBuffer {
-        LineBuffer {
-            bytes: Vec::new(alloc),
-            scratch: Scratch::new(alloc),
-        }
-    }
-
-    /// What the bytes of a line are; there are no more of them than a line may have.
-    fn read(&mut self, session: &Session) -> Result<Line, AllocError>
-        requires { length self.old.bytes.items ≤ longest_line }
-        ensures { IfOk result (Reads self.old.bytes.items) }
-    {
-        session.read(self.bytes.as_slice(), &mut self.scratch)
-    }
-}
 
 /// Reads lines, publishes events and answers reviews; with `audit` the history's lines follow. The reviews of a group are judged by
 /// as many workers as are asked for, each except the first in a thread of its own. What is written is the same however many there are:
@@ -279,11 +255,11 @@ fn take_all<L: Plan + Send + Sync, H: Threads + Wait + Sync, R: Read, W: Write, 
     ensures read { IsErrOf result ReplayError.Read → StopsReading R.remaining input.old input.new }
     ensures no_failure { OnOk result (failures_of input.new ≡ failures_of input.old) }
 {
-    let mut reader = LineReader::new(alloc)?;
+    let mut queue = LineQueue::new(alloc)?;
     let mut buffer = LineBuffer::new(alloc);
     let mut ending = Ending::Feed;
     while ending == Ending::Feed {
-        ending = take_next(session, crew, &mut reader, input, &mut buffer, output)?;
+        ending = take_next(session, crew, &mut queue, input, &mut buffer, output)?;
         progress.reached(
             session.lines,
             session.history.len(),
@@ -297,7 +273,7 @@ fn take_all<L: Plan + Send + Sync, H: Threads + Wait + Sync, R: Read, W: Write, 
 fn take_next<L: Plan + Send + Sync, H: Threads + Wait + Sync, R: Read, W: Write>(
     session: &mut Session,
     crew: &mut Crew<'_, L, H>,
-    reader: &mut LineReader,
+    queue: &mut LineQueue,
     input: &mut Counted<R>,
     buffer: &mut LineBuffer,
     output: &mut Counted<W>,
@@ -307,30 +283,34 @@ fn take_next<L: Plan + Send + Sync, H: Threads + Wait + Sync, R: Read, W: Write>
     requires count { session.old.lines + 1 < 2 ^ 64 }
     ensures home { OnOk result (crew.new.home.board ≡ session.new.writer.board) }
     ensures step { OnOk result (IsInStep session.new) }
-    ensures taken { IfOk result (λ ending. TakesNext (unread R.remaining input.old reader.old) (unread R.remaining input.new reader.new)
+    ensures taken { IfOk result (λ ending. TakesNext (unread R.remaining input.old queue.old) (unread R.remaining input.new queue.new)
         ending session.old session.new) }
     ensures written { OnOk result (Writes W.contents session.old session.new output.old output.new) }
     ensures refused { (number : ℕ) → (why : FaultOf) → is_of_the_lines why ≡ true → IsErrOf result (ReplayError.Line number why)
-        → IfSome (unread R.remaining input.old reader.old) (λ text.
+        → IfSome (unread R.remaining input.old queue.old) (λ text.
         RefusesNext W.contents text session.old output.old output.new number why) }
     ensures stopped { IfErr result (λ error. error ≢ ReplayError.Write → StopsAt W.contents session.old output.old output.new) }
     ensures counts { CountsWrites result output.old output.new }
     ensures lines { OnOk result (session.new.lines ≤ session.old.lines + 1) }
-    ensures less { IfOk result (λ ending. ending ≡ Ending.Feed → room reader.new < room reader.old) }
-    ensures no_more { room reader.new ≤ room reader.old }
+    ensures less { IfOk result (λ ending. ending ≡ Ending.Feed → room queue.new < room queue.old) }
+    ensures no_more { room queue.new ≤ room queue.old }
     ensures pattern { (number : ℕ) → IsErrOf result (ReplayError.Line number LineFault.Pattern)
-        → IfSome (unread R.remaining input.old reader.old) (λ text.
+        → IfSome (unread R.remaining input.old queue.old) (λ text.
         IsUnjudged (BeginsWith text) session.old output.old output.new number) }
     ensures unverified { (number : ℕ) → IsErrOf result (ReplayError.Line number LineFault.Unverified)
-        → IfSome (unread R.remaining input.old reader.old) (λ text.
+        → IfSome (unread R.remaining input.old queue.old) (λ text.
         IsUnpublished W.contents (BeginsWith text) session.old output.old output.new number) }
-    ensures read { IsErrOf result ReplayError.Read → IsCutOff R.remaining input.old input.new reader.old reader.new }
+    ensures read { IsErrOf result ReplayError.Read → IsCutOff R.remaining input.old input.new queue.old queue.new }
     ensures given { IfOk result (λ ending. AllGive (empty_reads ending) (R.remaining (inner_of input.old))
-        (R.remaining (inner_of input.new)) reader.old reader.new) }
+        (R.remaining (inner_of input.new)) queue.old queue.new) }
     ensures no_failure { OnOk result (failures_of input.new ≡ failures_of input.old) }
 {
-    buffer.bytes.clear();
-    let ending = reader.next(input, &mut buffer.bytes)?;
+    let readers = LineReaders {
+        rt: crew.rt,
+        events: session.events(),
+        threads: crew.threads(),
+    };
+    let ending = queue.next(&readers, input, buffer)?;
     take_bytes(session, crew, buffer, ending, output)?;
     Ok(ending)
 }
@@ -345,22 +325,22 @@ fn take_bytes<L: Plan + Send + Sync, H: Threads + Wait + Sync, W: Write>(
 ) -> Result<(), ReplayError>
     requires step { IsInStep session.old }
     requires home { crew.old.home.board ≡ session.old.writer.board }
-    requires short { length buffer.old.bytes.items ≤ longest_line }
+    requires short { length buffer.old ≤ longest_line }
     requires count { session.old.lines + 1 < 2 ^ 64 }
     ensures home { OnOk result (crew.new.home.board ≡ session.new.writer.board) }
     ensures step { OnOk result (IsInStep session.new) }
-    ensures taken { OnOk result (Advances ending buffer.old.bytes.items session.old session.new) }
+    ensures taken { OnOk result (Advances ending buffer.old session.old session.new) }
     ensures written { OnOk result (Writes W.contents session.old session.new output.old output.new) }
     ensures ended { OnOk result (ending ≢ Ending.TooLong) }
     ensures lines { OnOk result (session.new.lines ≤ session.old.lines + 1) }
     ensures refused { (number : ℕ) → (why : FaultOf) → is_of_the_lines why ≡ true → IsErrOf result (ReplayError.Line number why)
-        → RefusesBytes W.contents ending buffer.old.bytes.items session.old output.old output.new number why }
+        → RefusesBytes W.contents ending buffer.old session.old output.old output.new number why }
     ensures stopped { IfErr result (λ error. error ≢ ReplayError.Write → StopsAt W.contents session.old output.old output.new) }
     ensures counts { CountsWrites result output.old output.new }
     ensures pattern { (number : ℕ) → IsErrOf result (ReplayError.Line number LineFault.Pattern)
-        → IsUnjudged (IsReadAs ending buffer.old.bytes.items) session.old output.old output.new number }
+        → IsUnjudged (IsReadAs ending buffer.old) session.old output.old output.new number }
     ensures unverified { (number : ℕ) → IsErrOf result (ReplayError.Line number LineFault.Unverified)
-        → IsUnpublished W.contents (IsReadAs ending buffer.old.bytes.items) session.old output.old output.new number }
+        → IsUnpublished W.contents (IsReadAs ending buffer.old) session.old output.old output.new number }
     ensures no_read { IsErrOf result ReplayError.Read → ⊥ }
 {
     match ending {
@@ -382,24 +362,24 @@ fn take_last<L: Plan + Send + Sync, H: Threads + Wait + Sync, W: Write>(
 ) -> Result<(), ReplayError>
     requires step { IsInStep session.old }
     requires home { crew.old.home.board ≡ session.old.writer.board }
-    requires short { length buffer.old.bytes.items ≤ longest_line }
+    requires short { length buffer.old ≤ longest_line }
     requires count { session.old.lines + 1 < 2 ^ 64 }
     ensures home { OnOk result (crew.new.home.board ≡ session.new.writer.board) }
     ensures step { OnOk result (IsInStep session.new) }
-    ensures taken { OnOk result (Advances Ending.End buffer.old.bytes.items session.old session.new) }
+    ensures taken { OnOk result (Advances Ending.End buffer.old session.old session.new) }
     ensures written { OnOk result (Writes W.contents session.old session.new output.old output.new) }
     ensures lines { OnOk result (session.new.lines ≤ session.old.lines + 1) }
     ensures refused { (number : ℕ) → (why : FaultOf) → is_of_the_lines why ≡ true → IsErrOf result (ReplayError.Line number why)
-        → RefusesBytes W.contents Ending.End buffer.old.bytes.items session.old output.old output.new number why }
+        → RefusesBytes W.contents Ending.End buffer.old session.old output.old output.new number why }
     ensures stopped { IfErr result (λ error. error ≢ ReplayError.Write → StopsAt W.contents session.old output.old output.new) }
     ensures counts { CountsWrites result output.old output.new }
     ensures pattern { (number : ℕ) → IsErrOf result (ReplayError.Line number LineFault.Pattern)
-        → IsUnjudged (IsReadAs Ending.End buffer.old.bytes.items) session.old output.old output.new number }
+        → IsUnjudged (IsReadAs Ending.End buffer.old) session.old output.old output.new number }
     ensures unverified { (number : ℕ) → IsErrOf result (ReplayError.Line number LineFault.Unverified)
-        → IsUnpublished W.contents (IsReadAs Ending.End buffer.old.bytes.items) session.old output.old output.new number }
+        → IsUnpublished W.contents (IsReadAs Ending.End buffer.old) session.old output.old output.new number }
     ensures no_read { IsErrOf result ReplayError.Read → ⊥ }
 {
-    if buffer.bytes.is_empty() {
+    if buffer.is_empty() {
         return Ok(());
     }
     let line = buffer.read(session)?;

@@ -13,16 +13,16 @@ abbrev pub invariant-loop-session : goal.invariant-loop-session
 invariant-loop-session g l = record {
   step : IsInStep l.session;
   home : l.crew.home.board ≡ l.session.writer.board;
-  taken : Taken (g.R.Read.remaining (inner_of l.fn.input)) (unread g.R.Read.remaining l.input l.reader) l.session;
-  ended : l.ending ≢ Feed → IsAtEnd (unread g.R.Read.remaining l.input l.reader);
+  taken : Taken (g.R.Read.remaining (inner_of l.fn.input)) (unread g.R.Read.remaining l.input l.queue) l.session;
+  ended : l.ending ≢ Feed → IsAtEnd (unread g.R.Read.remaining l.input l.queue);
   written : Appends (g.W.Write.contents (inner_of l.fn.output)) (g.W.Write.contents (inner_of l.output)) (answers_text l.session.history);
   counted : failures_of l.output ≡ failures_of l.fn.output;
   given :
       AllGive (empty_reads l.ending) (g.R.Read.remaining (inner_of l.fn.input)) (g.R.Read.remaining (inner_of l.input))
-      l.initial.reader l.reader;
+      l.initial.queue l.queue;
   no_failure : failures_of l.input ≡ failures_of l.fn.input;
-  lines : l.session.lines + (room l.reader + turns l.ending) ≤ 2 ^ 56 + 1;
+  lines : l.session.lines + (room l.queue + turns l.ending) ≤ 2 ^ 56 + 1;
 }
 
 abbrev pub decreases-loop-session : goal.decreases-loop-session
-decreases-loop-session g l = room l.reader + turns l.ending
+decreases-loop-session g l = room l.queue + turns l.ending

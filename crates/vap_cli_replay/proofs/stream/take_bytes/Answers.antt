@@ -13,7 +13,7 @@ use Rattle.vap_cli_replay.proofs.stream.take_bytes.Goals as goal
 pub returns-in-TooLong-clause-taken : goal.returns-in-TooLong-clause-taken
 returns-in-TooLong-clause-taken g c =
     never_taken c.take.result TooLong c.args.session.now c.take.new.self
-    (Advances c.args.ending c.args.buffer.now.bytes.items c.args.session.now c.take.new.self) c.take.ensures.taken
+    (Advances c.args.ending c.args.buffer.now c.args.session.now c.take.new.self) c.take.ensures.taken
 
 pub returns-in-TooLong-clause-ended : goal.returns-in-TooLong-clause-ended
 returns-in-TooLong-clause-ended g c =
@@ -27,7 +27,7 @@ returns-in-TooLong-clause-lines g c =
 pub returns-in_ok-line-in-Feed-clause-taken :
     goal.returns-in_ok-line-in-Feed-clause-taken
 returns-in_ok-line-in-Feed-clause-taken g c =
-    let bytes = c.args.buffer.now.bytes.items in
+    let bytes = c.args.buffer.now in
     let some : c.args.ending ≡ End → 0 < length bytes = λ e. cc in
     let short : c.args.ending ≢ TooLongOf = λ e. cc in
     one_each c.take-in-Feed.result c.args.ending bytes c.in_ok-line-in-Feed.line c.args.session.now
@@ -43,7 +43,7 @@ returns-in_ok-line-in-Feed-clause-lines g c =
 pub returns-in_ok-line-in-Feed-clause-refused :
     goal.returns-in_ok-line-in-Feed-clause-refused
 returns-in_ok-line-in-Feed-clause-refused g c =
-    let bytes = c.args.buffer.now.bytes.items in
+    let bytes = c.args.buffer.now in
     let some : c.args.ending ≡ End → 0 < length bytes = λ e. cc in
     let short : c.args.ending ≢ TooLongOf = λ e. cc in
     λ number why is told.
@@ -57,18 +57,18 @@ returns-in-End-clause-refused g c = λ number why is told. rw c.in-End.is (c.tak
 pub returns-in-TooLong-clause-pattern : goal.returns-in-TooLong-clause-pattern
 returns-in-TooLong-clause-pattern g c =
     λ number told.
-    unjudged_as (λ (l : Line). Refused TooLong ≡ l) (IsReadAs c.args.ending c.args.buffer.now.bytes.items) c.args.session.now
+    unjudged_as (λ (l : Line). Refused TooLong ≡ l) (IsReadAs c.args.ending c.args.buffer.now) c.args.session.now
     c.args.output.now c.take.new.out number (λ request is. cc) (c.take.ensures.pattern number told refl)
 
 pub returns-in-TooLong-clause-unverified : goal.returns-in-TooLong-clause-unverified
 returns-in-TooLong-clause-unverified g c =
     λ number told.
-    unpublished_as g.W.Write.contents (λ (l : Line). Refused TooLong ≡ l) (IsReadAs c.args.ending c.args.buffer.now.bytes.items)
+    unpublished_as g.W.Write.contents (λ (l : Line). Refused TooLong ≡ l) (IsReadAs c.args.ending c.args.buffer.now)
     c.args.session.now c.args.output.now c.take.new.out number (λ event is. cc) (c.take.ensures.unverified number told refl)
 
 pub returns-in_ok-line-in-Feed-clause-pattern : goal.returns-in_ok-line-in-Feed-clause-pattern
 returns-in_ok-line-in-Feed-clause-pattern g c =
-    let bytes = c.args.buffer.now.bytes.items in
+    let bytes = c.args.buffer.now in
     let some : c.args.ending ≡ End → 0 < length bytes = λ e. cc in
     let short : c.args.ending ≢ TooLongOf = λ e. cc in
     let line = c.in_ok-line-in-Feed.line in
@@ -82,7 +82,7 @@ returns-in_ok-line-in-Feed-clause-pattern g c =
 
 pub returns-in_ok-line-in-Feed-clause-unverified : goal.returns-in_ok-line-in-Feed-clause-unverified
 returns-in_ok-line-in-Feed-clause-unverified g c =
-    let bytes = c.args.buffer.now.bytes.items in
+    let bytes = c.args.buffer.now in
     let some : c.args.ending ≡ End → 0 < length bytes = λ e. cc in
     let short : c.args.ending ≢ TooLongOf = λ e. cc in
     let line = c.in_ok-line-in-Feed.line in

@@ -11,7 +11,7 @@ use Rattle.vap_cli_replay.proofs.stream.take_last.Goals as goal
 
 pub returns-clause-taken : goal.returns-clause-taken
 returns-clause-taken g c =
-    let bytes = c.args.buffer.now.bytes.items in
+    let bytes = c.args.buffer.now in
     let some : 0 < length bytes = grind (arith, common_steps) in
     let short : End ≢ TooLong = λ e. cc in
     one_each c.take.result End bytes c.in_ok-line.line c.args.session.now c.take.new.self (λ e. some) short
@@ -23,7 +23,7 @@ returns-clause-lines g c =
 
 pub returns-clause-refused : goal.returns-clause-refused
 returns-clause-refused g c =
-    let bytes = c.args.buffer.now.bytes.items in
+    let bytes = c.args.buffer.now in
     let some : 0 < length bytes = grind (arith, common_steps) in
     let short : End ≢ TooLong = λ e. cc in
     λ number why is told.
@@ -32,7 +32,7 @@ returns-clause-refused g c =
 
 pub returns-clause-pattern : goal.returns-clause-pattern
 returns-clause-pattern g c =
-    let bytes = c.args.buffer.now.bytes.items in
+    let bytes = c.args.buffer.now in
     let some : 0 < length bytes = grind (arith, common_steps) in
     let short : End ≢ TooLong = λ e. cc in
     let line = c.in_ok-line.line in
@@ -44,7 +44,7 @@ returns-clause-pattern g c =
 
 pub returns-clause-unverified : goal.returns-clause-unverified
 returns-clause-unverified g c =
-    let bytes = c.args.buffer.now.bytes.items in
+    let bytes = c.args.buffer.now in
     let some : 0 < length bytes = grind (arith, common_steps) in
     let short : End ≢ TooLong = λ e. cc in
     let line = c.in_ok-line.line in
@@ -57,6 +57,6 @@ returns-clause-unverified g c =
 
 pub returns-then-is_empty-clause-taken : goal.returns-then-is_empty-clause-taken
 returns-then-is_empty-clause-taken g c =
-    let bytes = c.args.buffer.now.bytes.items in
+    let bytes = c.args.buffer.now in
     let none : length bytes ≡ 0 = grind (arith, common_steps) in
     none_taken bytes c.args.session.now c.args.session.now none refl

@@ -11,37 +11,37 @@ pub returns-in_err-take_bytes-clause-refused : goal.returns-in_err-take_bytes-cl
 returns-in_err-take_bytes-clause-refused g c =
     let from = c.from_residual-in_err-take_bytes in
     let p = err_from_is_err_and from.result from.ensures.1 in
-    let first : IsFirst (unread g.R.Read.remaining c.args.input.now c.args.reader.now)
-    (unread g.R.Read.remaining c.next.new.input c.next.new.self) c.next.new.line.items c.in_ok-ending.ending =
+    let first : IsFirst (unread g.R.Read.remaining c.args.input.now c.args.queue.now)
+    (unread g.R.Read.remaining c.next.new.input c.next.new.self) c.next.new.buffer c.in_ok-ending.ending =
     c.in_ok-ending.ensures.first in
     λ number why is told.
     let same : IsErrOf c.take_bytes.result (Line number why) = cc (c.in_err-take_bytes.was) in
-    next_refused g.W.Write.contents c.in_ok-ending.ending (unread g.R.Read.remaining c.args.input.now c.args.reader.now)
-    (unread g.R.Read.remaining c.next.new.input c.next.new.self) c.next.new.line.items c.args.session.now c.args.output.now
+    next_refused g.W.Write.contents c.in_ok-ending.ending (unread g.R.Read.remaining c.args.input.now c.args.queue.now)
+    (unread g.R.Read.remaining c.next.new.input c.next.new.self) c.next.new.buffer c.args.session.now c.args.output.now
     c.take_bytes.new.output number why first (c.take_bytes.ensures.refused number why is same)
 
 pub returns-in_err-take_bytes-clause-pattern : goal.returns-in_err-take_bytes-clause-pattern
 returns-in_err-take_bytes-clause-pattern g c =
     let from = c.from_residual-in_err-take_bytes in
     let p = err_from_is_err_and from.result from.ensures.1 in
-    let first : IsFirst (unread g.R.Read.remaining c.args.input.now c.args.reader.now)
-    (unread g.R.Read.remaining c.next.new.input c.next.new.self) c.next.new.line.items c.in_ok-ending.ending =
+    let first : IsFirst (unread g.R.Read.remaining c.args.input.now c.args.queue.now)
+    (unread g.R.Read.remaining c.next.new.input c.next.new.self) c.next.new.buffer c.in_ok-ending.ending =
     c.in_ok-ending.ensures.first in
     λ number told.
     let same : IsErrOf c.take_bytes.result (Line number Pattern) = cc (c.in_err-take_bytes.was) in
-    next_unjudged c.in_ok-ending.ending (unread g.R.Read.remaining c.args.input.now c.args.reader.now)
-    (unread g.R.Read.remaining c.next.new.input c.next.new.self) c.next.new.line.items c.args.session.now c.args.output.now
+    next_unjudged c.in_ok-ending.ending (unread g.R.Read.remaining c.args.input.now c.args.queue.now)
+    (unread g.R.Read.remaining c.next.new.input c.next.new.self) c.next.new.buffer c.args.session.now c.args.output.now
     c.take_bytes.new.output number first (c.take_bytes.ensures.pattern number same)
 
 pub returns-in_err-take_bytes-clause-unverified : goal.returns-in_err-take_bytes-clause-unverified
 returns-in_err-take_bytes-clause-unverified g c =
     let from = c.from_residual-in_err-take_bytes in
     let p = err_from_is_err_and from.result from.ensures.1 in
-    let first : IsFirst (unread g.R.Read.remaining c.args.input.now c.args.reader.now)
-    (unread g.R.Read.remaining c.next.new.input c.next.new.self) c.next.new.line.items c.in_ok-ending.ending =
+    let first : IsFirst (unread g.R.Read.remaining c.args.input.now c.args.queue.now)
+    (unread g.R.Read.remaining c.next.new.input c.next.new.self) c.next.new.buffer c.in_ok-ending.ending =
     c.in_ok-ending.ensures.first in
     λ number told.
     let same : IsErrOf c.take_bytes.result (Line number Unverified) = cc (c.in_err-take_bytes.was) in
-    next_unpublished g.W.Write.contents c.in_ok-ending.ending (unread g.R.Read.remaining c.args.input.now c.args.reader.now)
-    (unread g.R.Read.remaining c.next.new.input c.next.new.self) c.next.new.line.items c.args.session.now c.args.output.now
+    next_unpublished g.W.Write.contents c.in_ok-ending.ending (unread g.R.Read.remaining c.args.input.now c.args.queue.now)
+    (unread g.R.Read.remaining c.next.new.input c.next.new.self) c.next.new.buffer c.args.session.now c.args.output.now
     c.take_bytes.new.output number first (c.take_bytes.ensures.unverified number same)
