@@ -1,10 +1,10 @@
 """In which order `rt ci` proves the crates, so that no processor is idle.
 
 Each crate is proved by a run of its own, in a copy of the crates that it uses, once these are proved, and first those for which the most
-lines wait. What one run has proved the others take. The crate of all these for which the most lines wait is checked by several jobs, of
-which `rt ci` finds out how many there is memory for, and so is one beside which processors would be idle; any other is checked by one
-(RT_JOBS). Where memory is free, the run of the crate that comes next begins early: it takes what it uses, of hundreds of megabytes each,
-and waits for the last.
+lines wait. What one run has proved the others take. The crate of all these for which the most lines wait has the processors first, and is
+checked by several jobs, of which `rt ci` finds out how many there is memory for; so is one beside which processors would be idle; any other
+is checked by one (RT_JOBS). Where memory is free, the run of the crate that comes next begins early: it takes what it uses, of hundreds of
+megabytes each, and waits for the last.
 """
 import os
 import re
@@ -20,6 +20,8 @@ HELD = 5 * 2**20
 # How many jobs `rt ci` gives a crate that is alone, and the memory, in KiB, by which it gives them to each.
 SEVERAL = 2
 FOR_SEVERAL = 17 * 2**20
+# How far the other runs are behind that of the crate for which the most lines wait, as `nice` counts it. (The edits are behind all.)
+BEHIND = 5
 # After how many seconds a run has surely begun its check, so that another that needs the crate waits for it.
 UNDER_WAY = 20
 # What `rt ci` says of a crate that is built, and of one that another run has proved or is at.
@@ -76,17 +78,17 @@ class Listed:
 
 
 class Run:
-    """A run of `rt ci` in a folder, with some jobs or as many as it chooses: the crates that it has built so far, whether it has ended, and
-    the counts of its last line. `hear` gets each of its lines, but for those that tell what other runs did for another crate than `of`, if
-    one is named."""
+    """A run of `rt ci` in a folder, with some jobs or as many as it chooses, and so far behind others: the crates that it has built so far,
+    whether it has ended, and the counts of its last line. `hear` gets each of its lines, but for those that tell what other runs did for
+    another crate than `of`, if one is named."""
 
-    def __init__(self, folder, jobs, hear, of=None):
+    def __init__(self, folder, jobs, hear, of=None, behind=0):
         self.folder, self.jobs, self.of, self.built = folder, jobs, of, set()
         self.has_ended, self.passed, self.failed, self.begun = False, 0, 1, time.monotonic()
         # (what RT_JOBS is from outside holds for each run)
         env = {"RT_JOBS": str(jobs), **os.environ} if jobs else {**os.environ}
         how = {"stdin": subprocess.DEVNULL, "stdout": subprocess.PIPE, "stderr": subprocess.STDOUT, "text": True, "errors": "replace"}
-        self.ran = subprocess.Popen(["rt", "ci"], cwd=folder, env=env, **how)
+        self.ran = subprocess.Popen(["nice", "-n", str(behind), "rt", "ci"], cwd=folder, env=env, **how)
         self.reader = threading.Thread(target=self.follow, args=(hear,))
         self.reader.start()
 
@@ -139,7 +141,10 @@ class Proofs:
             running = [it for it, run in self.runs.items() if not (run.has_ended or it in run.built or self.lacking(it))]
             if ready and len(running) < processors() and (not running or available() >= HELD):
                 left.remove(ready[0])
-                self.begin(ready[0], self.jobs(ready[0], running, ready))
+                others = running + ready
+                is_longest = all(self.lengths[ready[0]] >= self.lengths[it] for it in others)
+                jobs = None if is_longest or self.idle(running, ready) >= SEVERAL else 1
+                self.begin(ready[0], jobs, 0 if is_longest else BEHIND)
             elif not ready and not running:
                 return
             self.begin_following(running, left)
@@ -165,17 +170,15 @@ class Proofs:
             if any(it in self.runs and self.runs[it].has_ended for it in self.lacking(crate)):
                 self.runs[crate].ran.kill()
 
-    def jobs(self, crate, running, ready):
-        """How many jobs a crate may have beside some that are running and others that are ready, or None, if `rt ci` may choose."""
-        is_longest = all(self.lengths[crate] >= self.lengths[it] for it in running + ready)
-        idle = processors() - sum(self.runs[it].jobs or SEVERAL for it in running) - (len(ready) - 1)
-        return None if is_longest or idle >= SEVERAL else 1
+    def idle(self, running, ready):
+        """How many processors would be idle beside some crates that are running, if those that are ready begin, all but one."""
+        return processors() - sum(self.runs[it].jobs or SEVERAL for it in running) - (len(ready) - 1)
 
-    def begin(self, crate, jobs):
+    def begin(self, crate, jobs, behind=0):
         # (for whichever user a program is run as)
         self.room.chmod(0o755)
         self.listed.copy(self.listed.needed([crate]), self.room / crate)
-        self.runs[crate] = Run(self.room / crate, jobs, self.hear, crate)
+        self.runs[crate] = Run(self.room / crate, jobs, self.hear, crate, behind)
 
     def place_of(self, crate):
         """The folder in which a crate is built, if it is."""
