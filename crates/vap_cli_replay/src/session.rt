@@ -36,7 +36,7 @@ use std::vec::IntoIter;
 use vap_audit::{AuditFault, Entry, History, MOST_ENTRIES};
 use vap_match::Request;
 use vap_plane::Plan;
-use vap_policy::{Verdict, answer_text};
+use vap_policy::{Verdict, with_answer};
 use vap_read::{Event, EventReader};
 use vap_watch::Writer;
 
@@ -282,20 +282,19 @@ impl Session {
         ensures no_read { IsErrOf result ReplayError.Read → ⊥ }
     {
         let text = self.decide_group(crew)?;
-        write_text(text.as_str(), out)
+        write_text(text.as_slice(), out)
     }
 
     /// Has the group judged by all workers, and records what is decided. The text is that of the answers, read from the history.
     fn decide_group<L: Plan + Send + Sync, H: Threads + Wait + Sync>(
         &mut self,
         crew: &mut Crew<'_, L, H>,
-    ) -> Result<String, ReplayError>
+    ) -> Result<Vec<u8>, ReplayError>
         requires room { HasRoom self.old }
         requires home { crew.old.home.board ≡ self.old.writer.board }
         ensures home { OnOk result (crew.new.home.board ≡ self.new.writer.board) }
         ensures answered { OnOk result (Answered self.old self.new) }
-        ensures text { IfOk result (λ text. string_bytes text
-            ≡ answers_text (waiting_entries self.old)) }
+        ensures text { IfOk result (λ text. text.items ≡ answers_text (waiting_entries self.old)) }
         ensures lines { (number : ℕ) → (why : FaultOf) → IsErrOf result (ReplayError.Line number why) → is_of_the_lines why ≡ false }
         ensures unwritten { IfErr result (λ error. error ≢ ReplayError.Write) }
         ensures pattern { (number : ℕ) → (why : FaultOf) → IsErrOf result (ReplayError.Line number why) → TellsGroup self.old number why }
@@ -315,63 +314,59 @@ impl Session {
         &mut self,
         group: Vec<Request>,
         verdicts: Vec<Verdict>,
-    ) -> Result<String, ReplayError>
+    ) -> Result<Vec<u8>, ReplayError>
         requires right { verdicts.items ≡ verdicts_at self.old.writer.published group.items }
         requires room { length self.old.history + length group.items ≤ most_entries }
         requires none { self.old.group.items ≡ [] }
         ensures decided { OnOk result
             (Decided self.old self.new (group_entries self.old.writer.published (length self.old.history) group.items)) }
         ensures none { OnOk result (self.new.group.items ≡ []) }
-        ensures text { IfOk result (λ text. string_bytes text
+        ensures text { IfOk result (λ text. text.items
             ≡ answers_text (group_entries self.old.writer.published (length self.old.history) group.items)) }
         ensures memory { IfErr result (λ error. error ≡ ReplayError.OutOfMemory) }
     {
-        let mut text = String::new(self.alloc);
+        let mut text = Vec::new(self.alloc);
         let mut answers = verdicts.into_iter();
         for request in group {
             let verdict = next_of(&mut answers);
-            self.decide(request, verdict, &mut text)?;
+            text = self.decide(request, verdict, text)?;
         }
         Ok(text)
     }
 
-    /// Records what is decided on one request, and adds its answer to the end of the text.
+    /// Records what is decided on one request. The answer is the text with the line of its answer behind it.
     fn decide(
         &mut self,
         request: Request,
         verdict: Verdict,
-        text: &mut String,
-    ) -> Result<(), ReplayError>
+        text: Vec<u8>,
+    ) -> Result<Vec<u8>, ReplayError>
         requires right { verdict ≡ verdict_at self.old.writer.published request }
         requires room { length self.old.history < most_entries }
         ensures decided { OnOk result
             (Decided self.old self.new (entry_of self.old.writer.published (length self.old.history) request ∷ [])) }
         ensures group { self.new.group ≡ self.old.group }
-        ensures text { OnOk result (string_bytes text.new ≡ string_bytes text.old
+        ensures text { IfOk result (λ all. all.items ≡ text.items
             ++ answers_text (entry_of self.old.writer.published (length self.old.history) request ∷ [])) }
         ensures memory { IfErr result (λ error. error ≡ ReplayError.OutOfMemory) }
     {
         let number = self.record(request, verdict)?;
-        let line = self.answer_line(number)?;
-        text.push_str(line.as_str())?;
-        Ok(())
+        let all = self.with_answer_line(number, text)?;
+        Ok(all)
     }
 
-    /// The line that answers an entry's request.
-    fn answer_line(&self, number: usize) -> Result<String, ReplayError>
+    /// The text with the line that answers an entry's request behind it.
+    fn with_answer_line(&self, number: usize, text: Vec<u8>) -> Result<Vec<u8>, ReplayError>
         requires { number < length self.now.history }
-        ensures line { IfOk result (λ line. (e : EntryOf) → slice_get self.now.history number ≡ Some e
-            → string_bytes line ≡ answer_line e) }
+        ensures line { IfOk result (λ all. (e : EntryOf) → slice_get self.now.history number ≡ Some e
+            → all.items ≡ text.items ++ answer_line e) }
         ensures memory { IfErr result (λ error. error ≡ ReplayError.OutOfMemory) }
     {
         let entry = self.history.at(number);
-        let mut answer = answer_text(
-            self.alloc,
-            entry.request.admission().uid.as_str(),
-            &entry.verdict,
-        )?;
-        answer.push('\n')?;
-        Ok(answer)
+        let uid = entry.request.admission().uid.as_str();
+        let mut all = with_answer(uid, &entry.verdict, text)?;
+        all.push(b'\n')?;
+        Ok(all)
     }
 
     /// Records what is decided on one request at the published log, under the next number.
@@ -431,7 +426,7 @@ impl Session {
     {
         for number in 0..self.history.len() {
             let line = self.audit_line(number)?;
-            write_text(line.as_str(), out)?;
+            write_text(line.as_bytes(), out)?;
         }
         Ok(())
     }
@@ -450,12 +445,12 @@ impl Session {
 }
 
 /// Writes a text whole.
-fn write_text<W: Write>(text: &str, out: &mut Counted<W>) -> Result<(), ReplayError>
+fn write_text<W: Write>(text: &[u8], out: &mut Counted<W>) -> Result<(), ReplayError>
     ensures written { OnOk result (Appends (W.contents (inner_of out.old)) (W.contents (inner_of out.new)) text.now) }
     ensures write { IfErr result (λ error. error ≡ ReplayError.Write) }
     ensures counts { CountsWrites result out.old out.new }
 {
-    match out.write_all(text.as_bytes()) {
+    match out.write_all(text) {
         Ok(()) => Ok(()),
         Err(_) => Err(ReplayError::Write),
     }

@@ -5,7 +5,7 @@ ghost use Rattle.std.specs.List.{flat_map};
 ghost use Rattle.json.specs.Token.{string};
 ghost use Rattle.vap_policy.specs.AnswerText.{entry_tokens, annotation_object, annotation_member, annotation_members};
 ghost use Rattle.vap_policy.specs.AnswerText.{allowed_member, front_members, number_members, word_members, decision_members};
-ghost use Rattle.vap_policy.specs.AnswerText.{name_members, warning_members, answer_text};
+ghost use Rattle.vap_policy.specs.AnswerText.{name_members, warning_members, answer_tokens, answer_text};
 
 use crate::members::{put_number, put_text};
 use crate::verdict::Verdict;
@@ -129,16 +129,32 @@ fn put_warnings(verdict: &Verdict, out: &mut Writer) -> Result<(), AllocError>
     out.end_array()
 }
 
+fn put_answer(uid: &str, verdict: &Verdict, out: &mut Writer) -> Result<(), AllocError>
+    ensures ok { OnOk result (out.new.tokens ≡ out.old.tokens ++ answer_tokens uid.now verdict.now) }
+    ensures before { out.new.before ≡ out.old.before }
+{
+    out.begin_object()?;
+    put_front(verdict, out)?;
+    put_decision(verdict, out)?;
+    put_names(uid, verdict, out)?;
+    put_warnings(verdict, out)?;
+    out.end_object()
+}
+
 /// The answer to the request of this uid, as compact JSON.
 pub fn answer_text(alloc: Global, uid: &str, verdict: &Verdict) -> Result<String, AllocError>
     ensures { IfOk result (λ text. string_bytes text ≡ answer_text uid.now verdict.now) }
 {
     let mut out = Writer::new(Vec::new(alloc));
-    out.begin_object()?;
-    put_front(verdict, &mut out)?;
-    put_decision(verdict, &mut out)?;
-    put_names(uid, verdict, &mut out)?;
-    put_warnings(verdict, &mut out)?;
-    out.end_object()?;
+    put_answer(uid, verdict, &mut out)?;
     Ok(String::from_utf8(out.into_inner()).unwrap())
+}
+
+/// A text with the answer to the request of this uid behind it, as compact JSON. If memory is refused, the text is let go.
+pub fn with_answer(uid: &str, verdict: &Verdict, text: Vec<u8>) -> Result<Vec<u8>, AllocError>
+    ensures { IfOk result (λ all. all.items ≡ text.items ++ answer_text uid.now verdict.now) }
+{
+    let mut out = Writer::new(text);
+    put_answer(uid, verdict, &mut out)?;
+    Ok(out.into_inner())
 }

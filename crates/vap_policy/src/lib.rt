@@ -6,8 +6,8 @@
 //! validations, the messages of those that are false, and annotations; it charges no more than the policy's price. What it keeps from
 //! request to request is a [`Workspace`]. `vap_policy_set` says what a set is and builds it.
 //!
-//! [`verdict_of`] makes a verdict of findings and notes, in the order in which they were found, and [`answer_text`] its line; it
-//! evaluates and matches nothing and looks at no object. [`cut`] cuts texts that are too long.
+//! [`verdict_of`] makes a verdict of findings and notes, in the order in which they were found, and [`answer_text`] its line, which
+//! [`with_answer`] puts behind a text; it evaluates and matches nothing and looks at no object. [`cut`] cuts texts that are too long.
 #![tactic(auto)]
 
 mod annotation_entries;
@@ -40,7 +40,7 @@ mod verdict;
 mod words;
 mod workspace;
 
-pub use answer::answer_text;
+pub use answer::{answer_text, with_answer};
 pub use cel_machine::RunFault;
 pub use cuts::cut;
 pub use decision::{unfit_verdict, verdict_of};

@@ -4,13 +4,13 @@ ghost use Rattle.std.specs.Prelude.{◌≡◌, false, [], ◌∷◌, filter, map
 ghost use Rattle.std.specs.List.{All};
 ghost use Rattle.std.specs.List.Sorted.{IsStrictlySortedBy};
 ghost use Rattle.vap_policy_set.specs.Covering.{is_wide};
-ghost use Rattle.vap_policy_set.specs.Index.{AreApart, AreEnough, AreForPlaces, IsEntryOf, IsFoundAt, empty_entry, with_behind, with_named};
-ghost use Rattle.vap_policy_set.specs.Index.{with_policy};
+ghost use Rattle.vap_policy_set.specs.Index.{AreApart, AreEnough, AreEntriesOf, AreForPlaces, IsEntryOf, IsFoundAt, empty_entry};
+ghost use Rattle.vap_policy_set.specs.Index.{with_behind, with_named, with_policy};
 ghost use Rattle.vap_policy_set.specs.PlaceOrder.{place_cmp};
 
 use crate::bound::BoundPolicy;
 use crate::covering::{is_wide, may_cover, rules_in};
-use crate::places::{Place, places_in, put_in_order, put_rules};
+use crate::places::{NamedPlace, Place, places_in, put_in_order, put_rules};
 use base_containers::{Items, Shared};
 use std::alloc::{AllocError, Global};
 use std::cmp::Ordering;
@@ -129,13 +129,13 @@ fn put_wide(policy: &Shared<BoundPolicy>, entries: &mut [Entry]) -> Result<(), A
 /// Puts a policy to the entry for a place, if there is one.
 fn put_at(
     policy: &Shared<BoundPolicy>,
-    place: &Place,
+    place: &NamedPlace<'_>,
     entries: &mut [Entry],
 ) -> Result<(), AllocError>
     requires apart { AreApart entries.old }
     ensures { OnOk result (entries.new ≡ map (with_named (place.now ∷ []) policy.now) entries.old) }
 {
-    match entry_at(entries, place.group.as_str(), place.resource.as_str()) {
+    match entry_at(entries, place.group(), place.resource()) {
         Some(at) => put_behind(policy, &mut entries[at]),
         None => Ok(()),
     }
@@ -144,7 +144,7 @@ fn put_at(
 /// Puts a policy to the entries for places.
 fn put_at_each(
     policy: &Shared<BoundPolicy>,
-    places: &[Place],
+    places: &[NamedPlace<'_>],
     entries: &mut [Entry],
 ) -> Result<(), AllocError>
     requires apart { AreApart entries.old }
@@ -157,26 +157,26 @@ fn put_at_each(
     Ok(())
 }
 
-/// Puts a policy to the entries for the places that it names.
-fn put_narrow(
-    alloc: Global,
-    policy: &Shared<BoundPolicy>,
+/// Puts a policy to the entries for the places that it names. They are gathered in `places`, whose room serves all policies.
+fn put_narrow<'a>(
+    policy: &'a Shared<BoundPolicy>,
+    places: &mut Vec<NamedPlace<'a>>,
     entries: &mut [Entry],
 ) -> Result<(), AllocError>
     requires apart { AreApart entries.old }
     requires narrow { is_wide policy.now ≡ false }
     ensures { OnOk result (entries.new ≡ map (with_policy policy.now) entries.old) }
 {
-    let mut places = Vec::new(alloc);
-    put_rules(alloc, rules_in(policy.get()), &mut places)?;
-    put_in_order(&mut places);
+    places.clear();
+    put_rules(rules_in(policy.get()), places)?;
+    put_in_order(places);
     put_at_each(policy, places.as_slice(), entries)
 }
 
 /// Puts a policy to each entry that it may cover. A narrow policy finds its entries by the places that it names.
-fn put_policy(
-    alloc: Global,
-    policy: &Shared<BoundPolicy>,
+fn put_policy<'a>(
+    policy: &'a Shared<BoundPolicy>,
+    places: &mut Vec<NamedPlace<'a>>,
     entries: &mut [Entry],
 ) -> Result<(), AllocError>
     requires apart { AreApart entries.old }
@@ -185,17 +185,17 @@ fn put_policy(
     if is_wide(policy.get()) {
         put_wide(policy, entries)
     } else {
-        put_narrow(alloc, policy, entries)
+        put_narrow(policy, places, entries)
     }
 }
 
-fn empty_entries(alloc: Global, places: &[Place]) -> Result<Vec<Entry>, AllocError>
+fn empty_entries(alloc: Global, places: &[NamedPlace<'_>]) -> Result<Vec<Entry>, AllocError>
     ensures { IfOk result (λ es. es.items ≡ map empty_entry places.now) }
 {
     let mut entries = Vec::new(alloc);
     for place in places {
         entries.push(Entry {
-            place: place.copy()?,
+            place: place.owned(alloc)?,
             policies: Items::new(alloc),
         })?;
     }
@@ -206,7 +206,7 @@ fn empty_entries(alloc: Global, places: &[Place]) -> Result<Vec<Entry>, AllocErr
 fn entries_of(
     alloc: Global,
     policies: &[Shared<BoundPolicy>],
-    places: &[Place],
+    places: &[NamedPlace<'_>],
 ) -> Result<Items<Entry>, AllocError>
     requires { IsStrictlySortedBy place_cmp places.now }
     ensures right { IfOk result (λ es. All (IsEntryOf policies.now) es) }
@@ -214,10 +214,20 @@ fn entries_of(
     ensures apart { IfOk result (λ es. AreApart es) }
 {
     let mut entries = empty_entries(alloc, places)?;
+    let mut room = Vec::new(alloc);
     for policy in policies {
-        put_policy(alloc, policy, entries.as_mut_slice())?;
+        put_policy(policy, &mut room, entries.as_mut_slice())?;
     }
     Ok(Items::from_vec(entries))
+}
+
+/// The entries for the places that policies name.
+fn entries_in(alloc: Global, policies: &[Shared<BoundPolicy>]) -> Result<Items<Entry>, AllocError>
+    ensures { IfOk result (λ es. AreEntriesOf policies.now es) }
+{
+    let mut places = places_in(alloc, policies)?;
+    put_in_order(&mut places);
+    entries_of(alloc, policies, places.as_slice())
 }
 
 impl Index {
@@ -225,9 +235,7 @@ impl Index {
     pub fn new(alloc: Global, all: Items<Shared<BoundPolicy>>) -> Result<Index, AllocError>
         ensures { IfOk result (λ index. index ≡ all) }
     {
-        let mut places = places_in(alloc, all.as_slice())?;
-        put_in_order(&mut places);
-        let entries = entries_of(alloc, all.as_slice(), places.as_slice())?;
+        let entries = entries_in(alloc, all.as_slice())?;
         let wide = wide_in(alloc, all.as_slice())?;
         Ok(Index { all, entries, wide })
     }

@@ -13,10 +13,10 @@ ghost use Rattle.vap_policy_set.specs.Places.{NameSame, group_places, is_place, 
 use crate::bound::BoundPolicy;
 use crate::covering::{is_wide, rules_in};
 use crate::params::resource_in;
-use crate::report::order;
 use base_containers::{Shared, Text};
 use std::alloc::{AllocError, Global};
 use std::cmp::Ordering;
+use std::marker::Model;
 use vap_match::Rule;
 
 /// A resource of a group.
@@ -26,31 +26,50 @@ pub struct Place {
     pub resource: Text,
 }
 
-impl PartialEq for Place {
+/// A resource of a group, as a rule names it. Contracts see the place.
+#[derive(Drop)]
+pub struct NamedPlace<'a> {
+    group: &'a str,
+    resource: &'a str,
+}
+
+impl<'a> Model for NamedPlace<'a> {
+    ghost use Rattle.std.specs.Coded.{codes};
+    ghost use Rattle.vap_policy_set.specs.contracts.places.Place as of_places;
+    ghost use Rattle.vap_policy_set.specs.declared.places.Place.{Place};
+
+    ghost Value = { Place };
+
+    ghost coded = { Prim.hlevel (codes, of_places.the_row.coded) };
+
+    ghost view = { λ k. record { group = k.group.now; resource = k.resource.now } };
+}
+
+impl PartialEq for NamedPlace<'_> {
     ghost eq = { eq_by_cmp place_cmp };
 
     ghost laws = { partial_equiv_from_equiv (Prim.search (comparing, rules) depth 12) };
 
-    fn eq(&self, other: &Place) -> bool {
+    fn eq(&self, other: &Self) -> bool {
         self.cmp(other).is_eq()
     }
 }
 
-impl Eq for Place {
+impl Eq for NamedPlace<'_> {
     ghost laws = { Prim.search (comparing, rules) depth 12 };
 }
 
-impl PartialOrd for Place {
+impl PartialOrd for NamedPlace<'_> {
     ghost partial_cmp = { as_partial_cmp place_cmp };
 
     ghost laws = { partial_order_from_own_ties (Prim.search (comparing, rules) depth 12) (Prim.search (comparing, rules) depth 12) };
 
-    fn partial_cmp(&self, other: &Place) -> Option<Ordering> {
+    fn partial_cmp(&self, other: &Self) -> Option<Ordering> {
         Some(self.cmp(other))
     }
 }
 
-impl Ord for Place {
+impl Ord for NamedPlace<'_> {
     ghost cmp = { place_cmp };
 
     ghost total = { Prim.search (comparing, rules) depth 12 };
@@ -59,46 +78,66 @@ impl Ord for Place {
 
     ghost matches_eq = { Prim.search (comparing, rules) depth 12 };
 
-    fn cmp(&self, other: &Place) -> Ordering {
-        order(&self.group, &other.group).then_with(|| order(&self.resource, &other.resource))
+    fn cmp(&self, other: &Self) -> Ordering {
+        self.group
+            .cmp(other.group)
+            .then(self.resource.cmp(other.resource))
     }
 }
 
-impl Place {
-    /// An equal place with texts of its own.
-    pub fn copy(&self) -> Result<Place, AllocError>
+impl<'a> NamedPlace<'a> {
+    /// The place of this resource of this group.
+    pub fn new(group: &'a str, resource: &'a str) -> NamedPlace<'a>
+        ensures { result ≡ record { group = group.now; resource = resource.now } }
+    {
+        NamedPlace { group, resource }
+    }
+
+    /// The place with texts of its own.
+    pub fn owned(&self, alloc: Global) -> Result<Place, AllocError>
         ensures { IfOk result (λ k. k ≡ self.now) }
     {
         Ok(Place {
-            group: self.group.copy()?,
-            resource: self.resource.copy()?,
+            group: Text::from_str(alloc, self.group)?,
+            resource: Text::from_str(alloc, self.resource)?,
         })
+    }
+
+    pub fn group(&self) -> &'a str
+        ensures { result.now ≡ self.now.group }
+    {
+        self.group
+    }
+
+    pub fn resource(&self) -> &'a str
+        ensures { result.now ≡ self.now.resource }
+    {
+        self.resource
+    }
+
+    /// Whether it is this resource of this group.
+    fn is_place(&self, group: &str, resource: &str) -> bool
+        ensures { result ≡ is_place group.now resource.now self.now }
+    {
+        self.group == group && self.resource == resource
     }
 }
 
-/// Whether a place is this resource of this group.
-fn is_place(place: &Place, group: &str, resource: &str) -> bool
-    ensures { result ≡ is_place group.now resource.now place.now }
-{
-    place.group.as_str() == group && place.resource.as_str() == resource
-}
-
 /// Whether the last of some places is this resource of this group.
-fn is_last(places: &[Place], group: &str, resource: &str) -> bool
+fn is_last(places: &[NamedPlace<'_>], group: &str, resource: &str) -> bool
     ensures { IsTrue result → list_any (is_place group.now resource.now) places.now ≡ true }
 {
     match places {
-        [.., last] => is_place(last, group, resource),
+        [.., last] => last.is_place(group, resource),
         [] => false,
     }
 }
 
 /// Puts a place after others, unless it is the last of them.
-fn put_place(
-    alloc: Global,
-    group: &str,
-    resource: &str,
-    places: &mut Vec<Place>,
+fn put_place<'a>(
+    group: &'a str,
+    resource: &'a str,
+    places: &mut Vec<NamedPlace<'a>>,
 ) -> Result<(), AllocError>
     ensures { OnOk result (NameSame places.new.items
         (places.old.items ++ record { group = group.now; resource = resource.now } ∷ [])) }
@@ -106,73 +145,72 @@ fn put_place(
     if is_last(places.as_slice(), group, resource) {
         return Ok(());
     }
-    let group = Text::from_str(alloc, group)?;
-    let resource = Text::from_str(alloc, resource)?;
-    places.push(Place { group, resource })?;
+    places.push(NamedPlace::new(group, resource))?;
     Ok(())
 }
 
-fn put_group(
-    alloc: Global,
-    patterns: &[Text],
-    group: &str,
-    places: &mut Vec<Place>,
+fn put_group<'a>(
+    patterns: &'a [Text],
+    group: &'a str,
+    places: &mut Vec<NamedPlace<'a>>,
 ) -> Result<(), AllocError>
     ensures { OnOk result (NameSame places.new.items (places.old.items ++ group_places patterns.now group.now)) }
 {
     for pattern in patterns {
-        put_place(alloc, group, resource_in(pattern.as_str()), places)?;
+        put_place(group, resource_in(pattern.as_str()), places)?;
     }
     Ok(())
 }
 
-fn put_rule(alloc: Global, rule: &Rule, places: &mut Vec<Place>) -> Result<(), AllocError>
+fn put_rule<'a>(rule: &'a Rule, places: &mut Vec<NamedPlace<'a>>) -> Result<(), AllocError>
     ensures { OnOk result (NameSame places.new.items (places.old.items ++ rule_places rule.now)) }
 {
     for group in rule.api_groups.as_slice() {
-        put_group(alloc, rule.resources.as_slice(), group.as_str(), places)?;
+        put_group(rule.resources.as_slice(), group.as_str(), places)?;
     }
     Ok(())
 }
 
 /// Puts the places that rules name after others.
-pub fn put_rules(alloc: Global, rules: &[Rule], places: &mut Vec<Place>) -> Result<(), AllocError>
+pub fn put_rules<'a>(rules: &'a [Rule], places: &mut Vec<NamedPlace<'a>>) -> Result<(), AllocError>
     ensures { OnOk result (NameSame places.new.items (places.old.items ++ flat_map rule_places rules.now)) }
 {
     for rule in rules {
-        put_rule(alloc, rule, places)?;
+        put_rule(rule, places)?;
     }
     Ok(())
 }
 
 #[tactic(auto, unfolding(crate::specs::Places::places_of))]
-fn put_policy(
-    alloc: Global,
-    policy: &BoundPolicy,
-    places: &mut Vec<Place>,
+fn put_policy<'a>(
+    policy: &'a BoundPolicy,
+    places: &mut Vec<NamedPlace<'a>>,
 ) -> Result<(), AllocError>
     ensures { OnOk result (NameSame places.new.items (places.old.items ++ places_of policy.now)) }
 {
     if is_wide(policy) {
         Ok(())
     } else {
-        put_rules(alloc, rules_in(policy), places)
+        put_rules(rules_in(policy), places)
     }
 }
 
 /// The places that policies name.
-pub fn places_in(alloc: Global, policies: &[Shared<BoundPolicy>]) -> Result<Vec<Place>, AllocError>
+pub fn places_in<'a>(
+    alloc: Global,
+    policies: &'a [Shared<BoundPolicy>],
+) -> Result<Vec<NamedPlace<'a>>, AllocError>
     ensures { IfOk result (λ places. NameSame places.items (places_in policies.now)) }
 {
     let mut places = Vec::new(alloc);
     for policy in policies {
-        put_policy(alloc, policy.get(), &mut places)?;
+        put_policy(policy.get(), &mut places)?;
     }
     Ok(places)
 }
 
 /// Puts places in order, each once.
-pub fn put_in_order(places: &mut Vec<Place>)
+pub fn put_in_order(places: &mut Vec<NamedPlace<'_>>)
     ensures ordered { IsStrictlySortedBy place_cmp places.new.items }
     ensures same { (group resource : List ℕ)
         → list_any (is_place group resource) places.new.items ≡ list_any (is_place group resource) places.old.items }

@@ -18,6 +18,6 @@ returns c =
     ap (list_any (is_place g s)) c.as_slice.ensures.value
     ∙ c.put_in_order.ensures.same g s
     ∙ c.in_ok-put_rules.ensures g s
-    ∙ ap (λ (ks : List Place). list_any (is_place g s) (ks ++ flat_map rule_places c.rules_in.result.now)) c.new-places.ensures.items
+    ∙ ap (λ (ks : List Place). list_any (is_place g s) (ks ++ flat_map rule_places c.rules_in.result.now)) c.clear.ensures.items
     ∙ ap (λ (rs : List Rule). list_any (is_place g s) (flat_map rule_places rs)) rules)
     c.put_at_each.ensures

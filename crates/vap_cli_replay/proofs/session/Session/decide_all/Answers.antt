@@ -1,5 +1,4 @@
 use Rattle.std.proofs.Common.{◌≡◌, ◌∷◌, ap, sym, ◌∙◌}
-use Rattle.std.specs.Prelude.{string_bytes}
 use Rattle.std.specs.Vec.Iter.{into_iter_items}
 use Rattle.vap_watch.specs.Places.{Written}
 use Rattle.vap_audit.specs.Verdicts.{verdict_at}
@@ -27,7 +26,7 @@ loop-request-preserved c =
     let left = into_iter_items c.loop-request.request-iterator in
     let rest = into_iter_items c.next.new.self in
     let is : left ≡ request ∷ rest = c.in-Some.ensures.steps.0 in
-    let done = c.in_ok-decide.ensures.decided in
+    let done = c.in_ok-text.ensures.decided in
     let old = c.loop-request.self in
     let new = c.decide.new.self in
     record {
@@ -36,8 +35,8 @@ loop-request-preserved c =
       none = ap (λ g. g.items) c.decide.ensures.group ∙ inv.none;
       entries = decided_next old.writer new.writer old.history new.history request left rest _ done.log done.history is inv.entries;
       text =
-          told_next old.writer new.writer old.history new.history request left rest (string_bytes c.loop-request.text)
-          (string_bytes c.decide.new.text) _ done.log done.history is c.in_ok-decide.ensures.text inv.text;
+          told_next old.writer new.writer old.history new.history request left rest c.loop-request.text.items
+          c.in_ok-text.text.items _ done.log done.history is c.in_ok-text.ensures.text inv.text;
       room = history_next old.history new.history left rest request _ _ is done.history inv.room;
       verdicts =
           (verdicts_next c.args.self.now.writer.published left rest request (into_iter_items c.loop-request.answers)

@@ -1,5 +1,4 @@
 use Rattle.std.proofs.Common.{◌≡◌, ◌≤◌, ◌+◌, ◌++◌, [], length}
-use Rattle.std.specs.Prelude.{string_bytes}
 use Rattle.std.specs.Vec.Iter.{into_iter_items}
 use Rattle.vap_audit.specs.Entries.{most_entries}
 use Rattle.vap_plane.specs.Answers.{verdicts_at}
@@ -17,7 +16,7 @@ invariant-loop-request l =
       lines : l.self.lines ≡ l.fn.self.lines;
       none : l.self.group.items ≡ [];
       entries : l.self.history ++ left ≡ l.fn.self.history ++ all;
-      text : string_bytes l.text ++ answers_text left ≡ answers_text all;
+      text : l.text.items ++ answers_text left ≡ answers_text all;
       room : length l.self.history + length (into_iter_items l.request-iterator) ≤ most_entries;
       verdicts : into_iter_items l.answers ≡ verdicts_at l.fn.self.writer.published (into_iter_items l.request-iterator);
     }
