@@ -41,7 +41,7 @@ def in_readme():
     for line in re.findall(r"(?m)^    (.*)$", part("README.md", "## The rooms", "## ").rpartition("([crates.txt]")[2]):
         goes_on = line.startswith(" ")
         found += [] if goes_on else [[]]
-        found[-1] += [it for it in line.split()[0 if goes_on else 1:] if re.fullmatch(r"(base|cel|vap)_\w+|vap|\w+_calls|calls_notation|rows", it)]
+        found[-1] += [it for it in line.split()[0 if goes_on else 1:] if re.fullmatch(r"(base|cel|vap)_\w+|vap|\w+_calls|\w+_notation", it)]
     return found
 
 

@@ -1,10 +1,10 @@
 """In which order `rt ci` proves the crates, so that no processor is idle.
 
 Each crate is proved by a run of its own, in a copy of the crates that it uses, once these are proved, and first those for which the most
-lines wait. What one run has proved the others take. The crate of all these for which the most lines wait has the processors first, and is
-checked by several jobs, of which `rt ci` finds out how many there is memory for; so is one beside which processors would be idle; any other
-is checked by one (RT_JOBS). Where memory is free, the run of the crate that comes next begins early: it takes what it uses, of hundreds of
-megabytes each, and waits for the last.
+lines of Rust wait: how long a crate takes grows with these, and hardly with its definitions and proofs. What one run has proved the others
+take. One run less goes on than there are processors, since `rt ci` checks most crates by two jobs where it finds memory for them, and the
+crate for which more lines wait has the processors first. Where memory is free, the run of the crate that comes next begins early: it takes
+what it uses, of hundreds of megabytes each, and waits for the last.
 """
 import os
 import re
@@ -17,10 +17,9 @@ from pathlib import Path
 # What a check holds at most, in KiB. (`rt ci` by itself counts with nearly twice as much, and proves fewer side by side than there is room
 # for.)
 HELD = 5 * 2**20
-# How many jobs `rt ci` gives a crate that is alone, and the memory, in KiB, by which it gives them to each.
-SEVERAL = 2
-FOR_SEVERAL = 17 * 2**20
-# How far the other runs are behind that of the crate for which the most lines wait, as `nice` counts it. (The edits are behind all.)
+# The memory, in KiB, by which `rt ci` gives nearly each crate two jobs.
+FOR_TWO = 15 * 2**20
+# How far a run is behind each of a crate for which more lines wait, as `nice` counts it. (The edits are behind all.)
 BEHIND = 5
 # After how many seconds a run has surely begun its check, so that another that needs the crate waits for it.
 UNDER_WAY = 20
@@ -57,8 +56,8 @@ class Listed:
         return [name for name in self.below if name in found]
 
     def length(self, crate):
-        """How many lines of code, definitions and proofs a crate has."""
-        files = [it for end in ("rt", "antt") for it in (self.top / "crates" / crate).rglob(f"*.{end}") if "out" not in it.parts]
+        """How many lines of Rust a crate has."""
+        files = [it for it in (self.top / "crates" / crate).rglob("*.rt") if "out" not in it.parts]
         return sum(it.read_text(encoding="utf-8").count("\n") for it in files)
 
     def lengths(self):
@@ -78,17 +77,14 @@ class Listed:
 
 
 class Run:
-    """A run of `rt ci` in a folder, with some jobs or as many as it chooses, and so far behind others: the crates that it has built so far,
-    whether it has ended, and the counts of its last line. `hear` gets each of its lines, but for those that tell what other runs did for
-    another crate than `of`, if one is named."""
+    """A run of `rt ci` in a folder, so far behind others: the crates that it has built so far, whether it has ended, and the counts of its
+    last line. `hear` gets each of its lines, but for those that tell what other runs did for another crate than `of`, if one is named."""
 
-    def __init__(self, folder, jobs, hear, of=None, behind=0):
-        self.folder, self.jobs, self.of, self.built = folder, jobs, of, set()
+    def __init__(self, folder, hear, of=None, behind=0):
+        self.folder, self.of, self.built = folder, of, set()
         self.has_ended, self.passed, self.failed, self.begun = False, 0, 1, time.monotonic()
-        # (what RT_JOBS is from outside holds for each run)
-        env = {"RT_JOBS": str(jobs), **os.environ} if jobs else {**os.environ}
         how = {"stdin": subprocess.DEVNULL, "stdout": subprocess.PIPE, "stderr": subprocess.STDOUT, "text": True, "errors": "replace"}
-        self.ran = subprocess.Popen(["nice", "-n", str(behind), "rt", "ci"], cwd=folder, env=env, **how)
+        self.ran = subprocess.Popen(["nice", "-n", str(behind), "rt", "ci"], cwd=folder, **how)
         self.reader = threading.Thread(target=self.follow, args=(hear,))
         self.reader.start()
 
@@ -124,7 +120,7 @@ class Proofs:
         try:
             self.prove_each()
             # (A run of all takes what is proved, and says what is not.)
-            self.whole = self.run_of_all() or Run(self.listed.top, None, self.hear)
+            self.whole = self.run_of_all() or Run(self.listed.top, self.hear)
             return self.whole.wait()
         finally:
             self.has_ended = True
@@ -139,12 +135,9 @@ class Proofs:
         while True:
             ready = [it for it in left if not self.lacking(it)]
             running = [it for it, run in self.runs.items() if not (run.has_ended or it in run.built or self.lacking(it))]
-            if ready and len(running) < processors() and (not running or available() >= HELD):
+            if ready and (not running or len(running) < processors() - 1 and available() >= HELD):
                 left.remove(ready[0])
-                others = running + ready
-                is_longest = all(self.lengths[ready[0]] >= self.lengths[it] for it in others)
-                jobs = None if is_longest or self.idle(running, ready) >= SEVERAL else 1
-                self.begin(ready[0], jobs, 0 if is_longest else BEHIND)
+                self.begin(ready[0], BEHIND * sum(self.lengths[it] > self.lengths[ready[0]] for it in running))
             elif not ready and not running:
                 return
             self.begin_following(running, left)
@@ -161,24 +154,20 @@ class Proofs:
         waiting = [it for it, run in self.runs.items() if self.lacking(it) and not run.has_ended]
         first = max(running, key=self.lengths.get, default=None)
         is_early = not first or time.monotonic() < self.runs[first].begun + UNDER_WAY
-        if not (waiting or is_early) and available() >= FOR_SEVERAL:
+        if not (waiting or is_early) and available() >= FOR_TWO:
             following = next((it for it in left if self.lacking(it) == [first]), None)
             if following:
                 left.remove(following)
-                self.begin(following, None)
+                self.begin(following)
         for crate in waiting:
             if any(it in self.runs and self.runs[it].has_ended for it in self.lacking(crate)):
                 self.runs[crate].ran.kill()
 
-    def idle(self, running, ready):
-        """How many processors would be idle beside some crates that are running, if those that are ready begin, all but one."""
-        return processors() - sum(self.runs[it].jobs or SEVERAL for it in running) - (len(ready) - 1)
-
-    def begin(self, crate, jobs, behind=0):
+    def begin(self, crate, behind=0):
         # (for whichever user a program is run as)
         self.room.chmod(0o755)
         self.listed.copy(self.listed.needed([crate]), self.room / crate)
-        self.runs[crate] = Run(self.room / crate, jobs, self.hear, crate, behind)
+        self.runs[crate] = Run(self.room / crate, self.hear, crate, behind)
 
     def place_of(self, crate):
         """The folder in which a crate is built, if it is."""

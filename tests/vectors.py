@@ -4,7 +4,7 @@
 The first word of a file's name is the command that its lines are for. Lines of `replay` are run with one worker, with
 two, with three and with 16, and their streams are given to `worker_calls` too: after each event the set that a writer advances must be as
 one that is built anew, in its report and in its answers to all reviews of the stream. Lines of `language_calls`,
-`cluster_calls` and `worker_calls` are for the programs of these names, which make the calls that lines ask for: all
+`cluster_calls`, `worker_calls` and `replay_calls` are for the programs of these names, which make the calls that lines ask for: all
 lines of a file in one run. So are those of `fit` and `image`, for `language_calls`. With names of files, it runs those alone. The last line is
 'N passed, M failed'.
 """
@@ -88,6 +88,7 @@ ASKED = {
     "language_calls": ("language_calls", asked_in),
     "cluster_calls": ("cluster_calls", asked_in),
     "worker_calls": ("worker_calls", asked_in),
+    "replay_calls": ("replay_calls", asked_in),
     "fit": ("language_calls", lambda line: {"call": "schemas.row", "input": line["line"]}),
     "image": ("language_calls", lambda line: {"call": "bytes.decoded", "input": line["hex"]}),
 }

@@ -3,22 +3,15 @@
 //! A line is a JSON document: `call` names a part of the libraries and, after a dot, what is asked of it; `with` has the texts
 //! and numbers that the call is given beside its input, if it is given any; and `input` is a text. The answer is a text, which
 //! is printed as a JSON string, a line each.
-//!
-//! What no line can say is in the tests: that values, patterns, events and verdicts go from thread to thread. They compile only if
-//! these may.
 #![tactic(auto)]
 
 mod asked;
-mod misconfigured;
 mod question;
 mod reviews;
 mod showing;
-#[cfg(test)]
-mod threads;
 mod types;
 
 pub use asked::{Asked, unknown};
-pub use misconfigured::reported;
 pub use question::{json, quoted, unreadable};
 pub use reviews::request_in;
 pub use showing::{put, put_type, shown, shown_type};

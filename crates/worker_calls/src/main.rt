@@ -1,16 +1,12 @@
-//! Makes the calls on a writer, its workers and the replay of a stream that lines ask for, and prints what each answers: what desks
-//! publish, sets after events, histories, lists of steps, what readers see, what workers do side by side, lines of a reader, streams of
-//! events and reviews, and streams that break.
+//! Makes the calls on a writer and its workers that lines ask for, and prints what each answers: what desks publish, sets after events,
+//! histories, lists of steps, what readers see, and what workers do side by side.
 #![tactic(auto)]
 
-mod broken;
 mod desks;
 mod histories;
-mod lines;
 mod readers;
 mod sets;
 mod steps;
-mod streams;
 mod workers;
 
 use calls_notation::{Asked, json, quoted, unknown};
@@ -44,14 +40,11 @@ fn answer_to<R: Threads + Wait + Clock + Sync>(
     asked: &Asked,
 ) -> Result<String, AllocError> {
     match asked.part {
-        "broken" => broken::answer(rt, alloc, asked),
         "desks" => desks::answer(alloc, asked),
         "readers" => readers::answer(rt, alloc, asked),
-        "lines" => lines::answer(alloc, asked),
         "sets" => sets::answer(alloc, asked),
         "histories" => histories::answer(alloc, asked),
         "steps" => steps::answer(alloc, asked),
-        "streams" => streams::answer(rt, alloc, asked),
         "workers" => workers::answer(rt, alloc, asked),
         _ => unknown(alloc),
     }

@@ -4,7 +4,8 @@
 //! others by itself. After each such step every review of the stream is judged by both sets. A line that is neither an event nor
 //! a review, or for which there is no room, is left out.
 
-use calls_notation::{Asked, json, reported, request_in, unknown};
+use calls_notation::{Asked, json, request_in, unknown};
+use report_notation::reported;
 use std::alloc::{AllocError, Global};
 use vap_match::{Request, ReviewError};
 use vap_policy::{JudgeError, PolicySet, RunFault, Workspace, answer_text, judge};

@@ -1,7 +1,7 @@
 //! Where the policies of a set are misconfigured.
 
 use crate::matching::objects::after;
-use calls_notation::reported;
+use report_notation::reported;
 use std::alloc::{AllocError, Global};
 use vap_policy_set::{BuildError, BuildFault, PolicySet};
 

@@ -1,6 +1,6 @@
 use denote.Param.Send.{sendable}
 use Rattle.vap_policy.proofs.Crossing.{verdict_send, verdict_sync}
-use Rattle.calls_notation.proofs.threads.verdicts_cross_threads.Goals as goal
+use Rattle.report_notation.proofs.threads.verdicts_cross_threads.Goals as goal
 
 pub crosses_threads-requires-send-T : goal.crosses_threads-requires-send-T
 crosses_threads-requires-send-T g c κs = search (verdict_send, sendable)
