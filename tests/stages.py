@@ -17,10 +17,10 @@ from pathlib import Path
 # What a check holds at most, in KiB. (`rt ci` by itself counts with nearly twice as much, and proves fewer side by side than there is room
 # for.)
 HELD = 5 * 2**20
-# The memory, in KiB, by which `rt ci` gives nearly each crate two jobs.
-FOR_TWO = 15 * 2**20
+# The memory, in KiB, by which `rt ci` gives each crate two jobs.
+FOR_TWO = 17 * 2**20
 # How far a run is behind each of a crate for which more lines wait, as `nice` counts it. (The edits are behind all.)
-BEHIND = 5
+BEHIND = 2
 # After how many seconds a run has surely begun its check, so that another that needs the crate waits for it.
 UNDER_WAY = 20
 # What `rt ci` says of a crate that is built, and of one that another run has proved or is at.
@@ -137,7 +137,7 @@ class Proofs:
             running = [it for it, run in self.runs.items() if not (run.has_ended or it in run.built or self.lacking(it))]
             if ready and (not running or len(running) < processors() - 1 and available() >= HELD):
                 left.remove(ready[0])
-                self.begin(ready[0], BEHIND * sum(self.lengths[it] > self.lengths[ready[0]] for it in running))
+                self.begin(ready[0], running)
             elif not ready and not running:
                 return
             self.begin_following(running, left)
@@ -158,15 +158,17 @@ class Proofs:
             following = next((it for it in left if self.lacking(it) == [first]), None)
             if following:
                 left.remove(following)
-                self.begin(following)
+                self.begin(following, [it for it in running if it != first])
         for crate in waiting:
             if any(it in self.runs and self.runs[it].has_ended for it in self.lacking(crate)):
                 self.runs[crate].ran.kill()
 
-    def begin(self, crate, behind=0):
+    def begin(self, crate, others):
+        """Begins the run of a crate, beside those of others."""
         # (for whichever user a program is run as)
         self.room.chmod(0o755)
         self.listed.copy(self.listed.needed([crate]), self.room / crate)
+        behind = BEHIND * sum(self.lengths[it] > self.lengths[crate] for it in others)
         self.runs[crate] = Run(self.room / crate, self.hear, crate, behind)
 
     def place_of(self, crate):
