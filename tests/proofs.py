@@ -18,21 +18,11 @@ from pathlib import Path
 
 import edits
 from edits import CRATES, TOP, Trial
-from stages import Listed, Proofs, available
+from stages import Listed, Proofs, available, has_idle_processor
 from wrong_bodies import Edits
 
 # The memory, in KiB, that has to be free where a check of edits begins beside the proofs.
 ROOM = 6 * 2**20
-
-
-def has_idle_processor():
-    """Whether fewer processes than there are processors are running or ready to run, this one left out, for a second."""
-    for _ in range(4):
-        ready, _, _ = Path("/proc/loadavg").read_text().split()[3].partition("/")
-        if int(ready) > (os.cpu_count() or 1):
-            return False
-        time.sleep(0.25)
-    return True
 
 
 class Turns:

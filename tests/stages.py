@@ -2,9 +2,9 @@
 
 Each crate is proved by a run of its own, in a copy of the crates that it uses, once these are proved, and first those for which the most
 lines of Rust wait: how long a crate takes grows with these, and hardly with its definitions and proofs. What one run has proved the others
-take. One run less goes on than there are processors, since `rt ci` checks most crates by two jobs where it finds memory for them, and the
-crate for which more lines wait has the processors first. Where memory is free, the run of the crate that comes next begins early: it takes
-what it uses, of hundreds of megabytes each, and waits for the last.
+take. One run less goes on than there are processors, since `rt ci` checks a crate by two jobs where it finds memory for them; where it
+finds none and a processor is idle, one more. The crate for which more lines wait has the processors first. Where memory is free, the run of
+the crate that comes next begins early: it takes what it uses, of hundreds of megabytes each, and waits for the last.
 """
 import os
 import re
@@ -38,6 +38,16 @@ def processors():
     """How many checks may run side by side: as many as RT_JOBS says from outside, else one a processor."""
     number = os.environ.get("RT_JOBS", "")
     return int(number) if number.isdigit() and int(number) else os.cpu_count() or 1
+
+
+def has_idle_processor():
+    """Whether fewer processes than there are processors are running or ready to run, this one left out, for a second."""
+    for _ in range(4):
+        ready, _, _ = Path("/proc/loadavg").read_text().split()[3].partition("/")
+        if int(ready) > (os.cpu_count() or 1):
+            return False
+        time.sleep(0.25)
+    return True
 
 
 class Listed:
@@ -135,7 +145,7 @@ class Proofs:
         while True:
             ready = [it for it in left if not self.lacking(it)]
             running = [it for it, run in self.runs.items() if not (run.has_ended or it in run.built or self.lacking(it))]
-            if ready and (not running or len(running) < processors() - 1 and available() >= HELD):
+            if ready and (not running or self.has_place(len(running)) and available() >= HELD):
                 left.remove(ready[0])
                 self.begin(ready[0], running)
             elif not ready and not running:
@@ -143,6 +153,10 @@ class Proofs:
             self.begin_following(running, left)
             # (until a check holds what it needs, or ends)
             time.sleep(1)
+
+    def has_place(self, running):
+        """Whether one more crate may be proved beside so many."""
+        return running < processors() - 1 or running < processors() and has_idle_processor()
 
     def lacking(self, crate):
         """The libraries of a crate that are not proved yet."""
