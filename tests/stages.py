@@ -17,7 +17,7 @@ from pathlib import Path
 # What a check holds at most, in KiB. (`rt ci` by itself counts with nearly twice as much, and proves fewer side by side than there is room
 # for.)
 HELD = 5 * 2**20
-# The memory, in KiB, by which `rt ci` gives each crate two jobs.
+# The free memory, in KiB, at which `rt ci` counts room for two jobs of any crate.
 FOR_TWO = 17 * 2**20
 # How far a run is behind each of a crate for which more lines wait, as `nice` counts it. (The edits are behind all.)
 BEHIND = 2
