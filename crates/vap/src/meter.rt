@@ -1,5 +1,6 @@
 //! One line on a terminal that reports how far a replay is, and what it resulted in.
 
+use std::mem;
 use std::time::{Clock, Duration, Instant};
 use vap_audit::History;
 use vap_cli_replay::Progress;
@@ -81,10 +82,12 @@ impl<'a, R: Clock + Eprint + AllocGlobal> Progress for Meter<'a, R> {
         }
     }
 
-    fn replayed(&mut self, history: &History) {
+    fn replayed(&mut self, history: History) {
         self.end();
         if self.has_summary {
-            self.tell(history);
+            self.tell(&history);
         }
+        // The program is about to end, and all memory goes with it: to let go of each entry would only take time.
+        mem::forget(history);
     }
 }

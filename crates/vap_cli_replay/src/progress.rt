@@ -6,8 +6,8 @@ use vap_audit::History;
 pub trait Progress {
     fn reached(&mut self, lines: u64, reviews: usize, revision: usize);
 
-    /// The replay has ended, after its last line or before.
-    fn replayed(&mut self, history: &History);
+    /// The replay has ended, after its last line or before. What was decided is handed over.
+    fn replayed(&mut self, history: History);
 }
 
 /// Reports to nobody.
@@ -17,5 +17,5 @@ pub struct Silent;
 impl Progress for Silent {
     fn reached(&mut self, _lines: u64, _reviews: usize, _revision: usize) {}
 
-    fn replayed(&mut self, _history: &History) {}
+    fn replayed(&mut self, _history: History) {}
 }

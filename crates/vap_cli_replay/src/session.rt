@@ -72,18 +72,21 @@ impl Session {
         }
     }
 
-    /// Gives up what is published, and what was decided.
-    pub(crate) fn end<H: Wait>(self, rt: &H) {
+    /// Gives up what is published, and hands over what was decided.
+    pub(crate) fn end<H: Wait>(self, rt: &H) -> History
+        ensures { result ≡ self.history }
+    {
         let Session {
             alloc: _,
             events: _events,
             writer,
-            history: _history,
+            history,
             group: _group,
             lines: _,
             first: _,
         } = self;
         writer.end(rt);
+        history
     }
 
     pub(crate) fn events(&self) -> &EventReader {

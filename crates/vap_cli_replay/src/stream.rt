@@ -158,8 +158,7 @@ fn replay_as<L: Plan + Send + Sync, H: Threads + Wait + Sync, R: Read, W: Write,
         audit,
         progress,
     );
-    progress.replayed(&session.history);
-    session.end(rt);
+    progress.replayed(session.end(rt));
     replayed
 }
 

@@ -1,34 +1,29 @@
 //! What `request` holds.
 
-ghost use Rattle.std.specs.Prelude.{◌≡◌, ◌++◌, ◌∷◌, [], List, IfOk, OnOk, codes, map, true};
+ghost use Rattle.std.specs.Prelude.{◌≡◌, ◌++◌, ◌∷◌, [], IfOk, OnOk, codes, map, true};
+ghost use Rattle.base_containers.specs.Keys.{IsInKeyOrder};
 ghost use Rattle.cel_value.specs.CelType.{fits};
-ghost use Rattle.base_containers.specs.declared.text.Keyed.{Keyed as KeyedOf};
-ghost use Rattle.cel_value.specs.declared.value.Value.{Value as ValueOf};
 ghost use Rattle.cel_value.specs.declared.value.Value as V;
 ghost use Rattle.vap_policy_programs.specs.RequestType.{request_type};
-ghost use Rattle.vap_policy_programs.specs.RequestValue.{asked_values, request_value, texts_entry, texts_value, user_value};
-ghost use Rattle.vap_policy_programs.specs.RequestValue.{versioned_value};
-ghost use Rattle.vap_policy_programs.specs.RequestValue.{with_field, with_text};
+ghost use Rattle.vap_policy_programs.specs.RequestValue.{request_value, texts_entry, texts_value, user_value, versioned_value};
 
 use base_containers::{Items, Keyed, Text, TextMap};
 use cel_value::Value;
 use std::alloc::{AllocError, Global};
 use vap_match::{Admission, Request, UserInfo};
 
-/// Fields that were made, if memory sufficed.
-type Fields = Result<TextMap<Value>, AllocError>;
-
-/// The fields with one more, in place of what is under its name.
-fn with_field(alloc: Global, fields: Fields, name: &str, value: Result<Value, AllocError>) -> Fields
-    ensures { (fs : List (KeyedOf ValueOf)) (v : ValueOf) → IfOk fields (λ it. it ≡ fs) → IfOk value (λ it. it ≡ v)
-        → IfOk result (λ all. all ≡ with_field name.now v fs) }
+/// Puts a value under a name behind other fields.
+fn put(
+    alloc: Global,
+    name: &str,
+    value: Value,
+    fields: &mut Vec<Keyed<Value>>,
+) -> Result<(), AllocError>
+    ensures { OnOk result (fields.new.items ≡ fields.old.items ++ record { key = name.now; value = value } ∷ []) }
 {
     let key = Text::from_str(alloc, name)?;
-    let value = value?;
-    let mut fields = fields?;
-    fields.remove(name);
-    fields.insert(key, value)?;
-    Ok(fields)
+    fields.push(Keyed { key, value })?;
+    Ok(())
 }
 
 fn text_value(text: &Text) -> Result<Value, AllocError>
@@ -37,37 +32,21 @@ fn text_value(text: &Text) -> Result<Value, AllocError>
     Ok(Value::Text(text.copy()?))
 }
 
-fn with_text(alloc: Global, fields: Fields, name: &str, text: &Text) -> Fields
-    ensures { (fs : List (KeyedOf ValueOf)) → IfOk fields (λ it. it ≡ fs) → IfOk result (λ all. all ≡ with_text name.now text.now fs) }
-{
-    with_field(alloc, fields, name, text_value(text))
-}
-
-fn object_of(fields: Fields) -> Result<Value, AllocError>
-    ensures { (want : List (KeyedOf ValueOf)) → IfOk fields (λ fs. fs ≡ want) → IfOk result (λ v. v ≡ V.Object want) }
-{
-    Ok(Value::Object(fields?))
-}
-
-/// A group, a version and a last part of this name.
-fn versioned_value(
+fn put_text(
     alloc: Global,
-    last: &str,
-    group: &Text,
-    version: &Text,
+    name: &str,
     text: &Text,
-) -> Result<Value, AllocError>
-    ensures { IfOk result (λ v. v ≡ versioned_value last.now group.now version.now text.now) }
+    fields: &mut Vec<Keyed<Value>>,
+) -> Result<(), AllocError>
+    ensures { OnOk result (fields.new.items ≡ fields.old.items ++ record { key = name.now; value = V.Text text.now } ∷ []) }
 {
-    let fields = with_text(alloc, Ok(TextMap::new(alloc)), "group", group);
-    let fields = with_text(alloc, fields, "version", version);
-    object_of(with_text(alloc, fields, last, text))
+    put(alloc, name, text_value(text)?, fields)
 }
 
 fn texts_value(alloc: Global, texts: &[Text]) -> Result<Value, AllocError>
     ensures { IfOk result (λ v. v ≡ texts_value texts.now) }
 {
-    let mut items = Vec::new(alloc);
+    let mut items = Vec::with_capacity(alloc, texts.len())?;
     for text in texts {
         items.push(text_value(text)?)?;
     }
@@ -93,7 +72,7 @@ fn texts_entries(
 ) -> Result<Vec<Keyed<Value>>, AllocError>
     ensures { IfOk result (λ entries. entries.items ≡ map texts_entry extra.now) }
 {
-    let mut entries = Vec::new(alloc);
+    let mut entries = Vec::with_capacity(alloc, extra.len())?;
     for entry in extra {
         put_texts(alloc, entry, &mut entries)?;
     }
@@ -111,30 +90,29 @@ fn extra_value(alloc: Global, extra: &TextMap<Items<Text>>) -> Result<Value, All
 fn user_value(alloc: Global, user: &UserInfo) -> Result<Value, AllocError>
     ensures { IfOk result (λ v. v ≡ user_value user.now) }
 {
-    let fields = with_text(alloc, Ok(TextMap::new(alloc)), "username", &user.username);
-    let fields = with_text(alloc, fields, "uid", &user.uid);
-    let groups = texts_value(alloc, user.groups.as_slice());
-    let fields = with_field(alloc, fields, "groups", groups);
-    let extra = extra_value(alloc, &user.extra);
-    object_of(with_field(alloc, fields, "extra", extra))
-}
-
-/// What is asked, and on what.
-fn asked_values(alloc: Global, request: &Admission) -> Fields
-    ensures { IfOk result (λ fields. fields ≡ asked_values request.now) }
-{
-    let fields = with_text(alloc, Ok(TextMap::new(alloc)), "name", &request.name);
-    let fields = with_text(alloc, fields, "namespace", &request.namespace);
-    let fields = with_text(alloc, fields, "subResource", &request.sub_resource);
-    let fields = with_text(alloc, fields, "operation", &request.operation);
-    with_field(alloc, fields, "dryRun", Ok(Value::Bool(request.dry_run)))
+    let mut fields = Vec::with_capacity(alloc, 4)?;
+    put(
+        alloc,
+        "extra",
+        extra_value(alloc, &user.extra)?,
+        &mut fields,
+    )?;
+    let groups = texts_value(alloc, user.groups.as_slice())?;
+    put(alloc, "groups", groups, &mut fields)?;
+    put_text(alloc, "uid", &user.uid, &mut fields)?;
+    put_text(alloc, "username", &user.username, &mut fields)?;
+    Ok(Value::Object(TextMap::from_vec(fields)))
 }
 
 fn kind_value(alloc: Global, request: &Admission) -> Result<Value, AllocError>
     ensures { IfOk result (λ v. v ≡ versioned_value (codes "kind") request.now.kind.group request.now.kind.version request.now.kind.kind) }
 {
     let kind = &request.kind;
-    versioned_value(alloc, "kind", &kind.group, &kind.version, &kind.kind)
+    let mut fields = Vec::with_capacity(alloc, 3)?;
+    put_text(alloc, "group", &kind.group, &mut fields)?;
+    put_text(alloc, "kind", &kind.kind, &mut fields)?;
+    put_text(alloc, "version", &kind.version, &mut fields)?;
+    Ok(Value::Object(TextMap::from_vec(fields)))
 }
 
 fn resource_value(alloc: Global, request: &Admission) -> Result<Value, AllocError>
@@ -142,24 +120,44 @@ fn resource_value(alloc: Global, request: &Admission) -> Result<Value, AllocErro
         ≡ versioned_value (codes "resource") request.now.resource.group request.now.resource.version request.now.resource.resource) }
 {
     let resource = &request.resource;
-    versioned_value(
+    let mut fields = Vec::with_capacity(alloc, 3)?;
+    put_text(alloc, "group", &resource.group, &mut fields)?;
+    put_text(alloc, "resource", &resource.resource, &mut fields)?;
+    put_text(alloc, "version", &resource.version, &mut fields)?;
+    Ok(Value::Object(TextMap::from_vec(fields)))
+}
+
+/// Puts the fields of a request, in the order of their names.
+fn put_fields(
+    alloc: Global,
+    request: &Admission,
+    fields: &mut Vec<Keyed<Value>>,
+) -> Result<(), AllocError>
+    requires none { fields.old.items ≡ [] }
+    ensures ordered { OnOk result (IsInKeyOrder fields.new.items) }
+    ensures is { OnOk result (V.Object fields.new.items ≡ request_value request.now) }
+{
+    put(alloc, "dryRun", Value::Bool(request.dry_run), fields)?;
+    put(alloc, "kind", kind_value(alloc, request)?, fields)?;
+    put_text(alloc, "name", &request.name, fields)?;
+    put_text(alloc, "namespace", &request.namespace, fields)?;
+    put_text(alloc, "operation", &request.operation, fields)?;
+    put(alloc, "resource", resource_value(alloc, request)?, fields)?;
+    put_text(alloc, "subResource", &request.sub_resource, fields)?;
+    put(
         alloc,
-        "resource",
-        &resource.group,
-        &resource.version,
-        &resource.resource,
+        "userInfo",
+        user_value(alloc, &request.user_info)?,
+        fields,
     )
 }
 
 fn value_of(alloc: Global, request: &Admission) -> Result<Value, AllocError>
     ensures { IfOk result (λ v. v ≡ request_value request.now) }
 {
-    let kind = kind_value(alloc, request);
-    let fields = with_field(alloc, asked_values(alloc, request), "kind", kind);
-    let resource = resource_value(alloc, request);
-    let fields = with_field(alloc, fields, "resource", resource);
-    let user = user_value(alloc, &request.user_info);
-    object_of(with_field(alloc, fields, "userInfo", user))
+    let mut fields = Vec::with_capacity(alloc, 8)?;
+    put_fields(alloc, request, &mut fields)?;
+    Ok(Value::Object(TextMap::from_vec(fields)))
 }
 
 /// What `request` holds, which is of its type.
