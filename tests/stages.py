@@ -21,8 +21,8 @@ HELD = 5 * 2**20
 FOR_TWO = 17 * 2**20
 # How far a run is behind each of a crate for which more lines wait, as `nice` counts it. (The edits are behind all.)
 BEHIND = 2
-# After how many seconds a run has surely begun its check, so that another that needs the crate waits for it.
-UNDER_WAY = 20
+# After how many seconds a check holds most of the memory that it needs.
+UNDER_WAY = 60
 # What `rt ci` says of a crate that is built, and of one that another run has proved or is at.
 BUILT = re.compile(r"rt: (\w+) (?:proved|is kept)")
 ELSEWHERE = re.compile(r"rt: (\w+)(?: is kept|: another run)")
@@ -92,7 +92,7 @@ class Run:
 
     def __init__(self, folder, hear, of=None, behind=0):
         self.folder, self.of, self.built = folder, of, set()
-        self.has_ended, self.passed, self.failed, self.begun = False, 0, 1, time.monotonic()
+        self.has_ended, self.passed, self.failed = False, 0, 1
         how = {"stdin": subprocess.DEVNULL, "stdout": subprocess.PIPE, "stderr": subprocess.STDOUT, "text": True, "errors": "replace"}
         self.ran = subprocess.Popen(["nice", "-n", str(behind), "rt", "ci"], cwd=folder, **how)
         self.reader = threading.Thread(target=self.follow, args=(hear,))
@@ -124,6 +124,8 @@ class Proofs:
     def __init__(self, listed, room, hear):
         self.listed, self.room, self.hear = listed, room, hear
         self.lengths, self.runs, self.whole, self.has_ended = listed.lengths(), {}, None, False
+        # when the check of a crate could begin, since its libraries were there
+        self.begun = {}
 
     def make(self):
         """Makes them all. Answers whether all is well."""
@@ -150,6 +152,8 @@ class Proofs:
                 self.begin(ready[0], running)
             elif not ready and not running:
                 return
+            for crate in running:
+                self.begun.setdefault(crate, time.monotonic())
             self.begin_following(running, left)
             # (until a check holds what it needs, or ends)
             time.sleep(1)
@@ -164,10 +168,10 @@ class Proofs:
 
     def begin_following(self, running, left):
         """Begins the run of the first crate that waits only for the crate for which the most lines wait, if that one's check is under way
-        and there is memory. Ends a run that waits in vain."""
+        and memory is left for two jobs of any crate. Ends a run that waits in vain."""
         waiting = [it for it, run in self.runs.items() if self.lacking(it) and not run.has_ended]
         first = max(running, key=self.lengths.get, default=None)
-        is_early = not first or time.monotonic() < self.runs[first].begun + UNDER_WAY
+        is_early = not first or time.monotonic() < self.begun[first] + UNDER_WAY
         if not (waiting or is_early) and available() >= FOR_TWO:
             following = next((it for it in left if self.lacking(it) == [first]), None)
             if following:
