@@ -1,6 +1,6 @@
 -- The audit, one entry further.
 use Rattle.std.proofs.Common.{◌≡◌, ℕ, zero, suc, ◌+◌, ◌<◌, List, [], ◌∷◌, ◌++◌, length, take, Option, Some}
-use Rattle.std.proofs.Common.{refl, sym, ap, ◌∙◌, append-nil, append_assoc, arith}
+use Rattle.std.proofs.Common.{refl, sym, ap, subst, ◌∙◌, append-nil, append_assoc, arith}
 use Rattle.std.specs.Prelude.{slice_get}
 use Rattle.std.specs.Io.KnownBytes.{Appends}
 use Rattle.vap_watch.proofs.Alike.{one_more}
@@ -26,12 +26,45 @@ next entries n e at =
     ap (λ (es : List Entry). audit_lines es) (one_more entries n e at)
     ∙ (audit_more (take n entries) (e ∷ []) ∙ ap (λ (l : List ℕ). audit_lines (take n entries) ++ l) (append-nil (audit_line e)))
 
--- the line of an entry is written after those of the entries before it
-pub audited_next : (start before after : Option (List ℕ)) (entries : List Entry) (n : ℕ) (line : List ℕ) → n < length entries
-    → ((e : Entry) → slice_get entries n ≡ Some e → line ≡ audit_line e) → Appends start before (audit_lines (take n entries))
-    → Appends before after line → Appends start after (audit_lines (take (n + 1) entries))
-audited_next start before after entries n line below is written more =
-    let (e, at) = there entries n below in
-    appends_same start after (audit_lines (take (n + 1) entries)) (audit_lines (take n entries) ++ line)
-    (next entries n e at ∙ ap (λ (l : List ℕ). audit_lines (take n entries) ++ l) (sym (is e at)))
-    (appends_more start before after (audit_lines (take n entries)) line written more)
+-- the line of an entry stands behind the lines of those before it, of which some are written
+lines_next : (entries : List Entry) (written number : ℕ) (text all : List ℕ) → number < length entries
+    → ((e : Entry) → slice_get entries number ≡ Some e → all ≡ text ++ audit_line e)
+    → audit_lines (take written entries) ++ text ≡ audit_lines (take number entries)
+    → audit_lines (take written entries) ++ all ≡ audit_lines (take (number + 1) entries)
+lines_next entries written number text all below is so_far =
+    let (e, at) = there entries number below in
+    ap (λ (l : List ℕ). audit_lines (take written entries) ++ l) (is e at)
+    ∙ (sym (append_assoc (audit_lines (take written entries)) text (audit_line e))
+    ∙ (ap (λ (l : List ℕ). l ++ audit_line e) so_far ∙ sym (next entries number e at)))
+
+-- lines of the first entries are written, and the text has those of the others before a number
+abbrev pub Audits : (start now : Option (List ℕ)) (entries : List Entry) (number : ℕ) (text : List ℕ) → Type 0
+Audits start now entries number text =
+    (n : ℕ) × Appends start now (audit_lines (take n entries)) × (audit_lines (take n entries) ++ text ≡ audit_lines (take number entries))
+
+-- the text has the line of an entry more
+pub audits_more : (start now : Option (List ℕ)) (entries : List Entry) (number : ℕ) (text all : List ℕ) → number < length entries
+    → ((e : Entry) → slice_get entries number ≡ Some e → all ≡ text ++ audit_line e) → Audits start now entries number text
+    → Audits start now entries (number + 1) all
+audits_more start now entries number text all below is (n, there, so_far) =
+    (n, there, lines_next entries n number text all below is so_far)
+
+-- the text is written
+pub audits_all : (start before after : Option (List ℕ)) (entries : List Entry) (number : ℕ) (text : List ℕ)
+    → Audits start before entries number text → Appends before after text → Appends start after (audit_lines (take number entries))
+audits_all start before after entries number text (n, there, so_far) more =
+    appends_same start after (audit_lines (take number entries)) (audit_lines (take n entries) ++ text) (sym so_far)
+    (appends_more start before after (audit_lines (take n entries)) text there more)
+
+-- and another is begun
+pub audits_on : (start before after : Option (List ℕ)) (entries : List Entry) (number : ℕ) (text : List ℕ)
+    → Audits start before entries number text → Appends before after text → Audits start after entries number []
+audits_on start before after entries number text so_far more =
+    (number, audits_all start before after entries number text so_far more, append-nil (audit_lines (take number entries)))
+
+-- the same, of what is the same
+pub audits_same : (start now same : Option (List ℕ)) (entries : List Entry) (number : ℕ) (text rest : List ℕ) → same ≡ now → rest ≡ text
+    → Audits start now entries number text → Audits start same entries number rest
+audits_same start now same entries number text rest is left so_far =
+    subst (λ (x : Option (List ℕ)). Audits start x entries number rest) (sym is)
+    (subst (λ (x : List ℕ). Audits start now entries number x) (sym left) so_far)

@@ -1,12 +1,12 @@
 //! The line that the audit has for an entry.
 
-ghost use Rattle.std.specs.Prelude.{◌≡◌, ◌++◌, IfOk, OnOk, string_bytes};
+ghost use Rattle.std.specs.Prelude.{◌≡◌, ◌++◌, IfOk, OnOk};
 ghost use Rattle.vap_cli_replay.specs.AuditLine.{allowed_member, annotation_members, audit_text, decided_members, named_members};
 ghost use Rattle.vap_cli_replay.specs.AuditLine.{number_members, object_member};
 
 use base_containers::{Keyed, Text};
 use json::Writer;
-use std::alloc::{AllocError, Global};
+use std::alloc::AllocError;
 use vap_audit::Entry;
 use vap_policy::{Verdict, put_number, put_text};
 
@@ -66,14 +66,15 @@ fn put_named(entry: &Entry, out: &mut Writer) -> Result<(), AllocError>
     put_text("uid", entry.request.admission().uid.as_str(), out)
 }
 
-/// The line for an entry, without its line feed: compact JSON, the members by the bytes of their keys.
-pub(crate) fn audit_text(alloc: Global, entry: &Entry) -> Result<String, AllocError>
-    ensures { IfOk result (λ text. string_bytes text ≡ audit_text entry.now) }
+/// A text with the line for an entry behind it, without its line feed: compact JSON, the members by the bytes of their keys. If memory is
+/// refused, the text is let go.
+pub(crate) fn with_audit_text(entry: &Entry, text: Vec<u8>) -> Result<Vec<u8>, AllocError>
+    ensures { IfOk result (λ all. all.items ≡ text.items ++ audit_text entry.now) }
 {
-    let mut out = Writer::new(Vec::new(alloc));
+    let mut out = Writer::new(text);
     out.begin_object()?;
     put_decided(&entry.verdict, &mut out)?;
     put_named(entry, &mut out)?;
     out.end_object()?;
-    Ok(String::from_utf8(out.into_inner()).unwrap())
+    Ok(out.into_inner())
 }

@@ -1,7 +1,7 @@
 //! A replay under way.
 
 ghost use Rattle.std.specs.Prelude.{◌≡◌, ◌≢◌, ◌+◌, ◌<◌, ◌≤◌, ◌^◌, ◌∷◌, ◌++◌, ℕ, [], false, true};
-ghost use Rattle.std.specs.Prelude.{length, take, slice_get, Some, IfErr, IfOk, IsErr, IsErrOf, OnOk, string_bytes};
+ghost use Rattle.std.specs.Prelude.{length, take, slice_get, Some, IfErr, IfOk, IsErr, IsErrOf, OnOk};
 ghost use Rattle.std.specs.Io.KnownBytes.{Appends, Keeps};
 ghost use Rattle.std.specs.Vec.Iter.{into_iter_items};
 ghost use Rattle.base_containers.specs.Counted.{inner_of};
@@ -21,7 +21,7 @@ ghost use Rattle.vap_cli_replay.specs.Groups.{OneMayMatch};
 ghost use Rattle.vap_cli_replay.specs.Sessions.{Answered, Decided, HasRoom, IsInStep, IsOpening, RefusesEvent, TakesEvent, TakesReview};
 ghost use Rattle.vap_cli_replay.specs.Sessions.{TellsGroup, first_with, group_entries, sofar_of, waiting_entries};
 
-use crate::audit_line::audit_text;
+use crate::audit_line::with_audit_text;
 use crate::crew::Crew;
 use crate::fault::{LineFault, ReplayError, unpublished, unstaged};
 use crate::line::{Line, read_line};
@@ -42,6 +42,9 @@ use vap_watch::Writer;
 
 /// The most reviews that are judged together.
 pub const LARGEST_GROUP: usize = 1_024;
+
+/// From how many bytes on the lines of the audit are written, in one write.
+const FULL_TEXT: usize = 65_536;
 
 /// A replay under way: what reads its events, what is published, what was decided, by call, and the reviews that are read and not
 /// yet answered, with the line of the first of them. It is not `Drop`: give it up by [`Session::end`].
@@ -417,7 +420,7 @@ impl Session {
         flush(out)
     }
 
-    /// Writes a line for each entry of the history, by call.
+    /// Writes a line for each entry of the history, by call: so many at a time that a write is worth it.
     fn write_audit<W: Write>(&self, out: &mut Counted<W>) -> Result<(), ReplayError>
         ensures written { OnOk result
             (Appends (W.contents (inner_of out.old)) (W.contents (inner_of out.new)) (audit_lines self.now.history)) }
@@ -427,23 +430,28 @@ impl Session {
         ensures counts { CountsWrites result out.old out.new }
         ensures no_read { IsErrOf result ReplayError.Read → ⊥ }
     {
+        let mut text = Vec::new(self.alloc);
         for number in 0..self.history.len() {
-            let line = self.audit_line(number)?;
-            write_text(line.as_bytes(), out)?;
+            text = self.with_audit_line(number, text)?;
+            if text.len() >= FULL_TEXT {
+                write_text(text.as_slice(), out)?;
+                text.clear();
+            }
         }
-        Ok(())
+        write_text(text.as_slice(), out)
     }
 
-    /// The line that the audit has for an entry.
-    fn audit_line(&self, number: usize) -> Result<String, ReplayError>
+    /// The text with the line that the audit has for an entry behind it.
+    fn with_audit_line(&self, number: usize, text: Vec<u8>) -> Result<Vec<u8>, ReplayError>
         requires { number < length self.now.history }
-        ensures line { IfOk result (λ line. (e : EntryOf) → slice_get self.now.history number ≡ Some e → string_bytes line ≡ audit_line e) }
+        ensures line { IfOk result (λ all. (e : EntryOf) → slice_get self.now.history number ≡ Some e
+            → all.items ≡ text.items ++ audit_line e) }
         ensures memory { IfErr result (λ error. error ≡ ReplayError.OutOfMemory) }
     {
         let entry = self.history.at(number);
-        let mut line = audit_text(self.alloc, entry)?;
-        line.push('\n')?;
-        Ok(line)
+        let mut lines = with_audit_text(entry, text)?;
+        lines.push(b'\n')?;
+        Ok(lines)
     }
 }
 
