@@ -49,7 +49,7 @@ def copied_edits(origin, folder):
 
 
 def try_beside(proofs, tried, trials, lanes):
-    """Runs each trial once the libraries below its crate are built, the largest first, and counts it."""
+    """Runs each trial once the libraries below its crate are built, the dearest first, and counts it."""
     waiting, running = list(trials), {}
     with ThreadPoolExecutor(lanes) as pool:
         while waiting or running:

@@ -15,6 +15,16 @@ from record import Record, Tree
 from stages import processors
 
 
+# How many lines of Rust take a check as long as one more edit.
+LINES_OF_AN_EDIT = 80
+
+
+def dearness(trial):
+    """About how long the check of a trial takes beside others, by the lines of its crate and its edits."""
+    sources = (TOP / "crates" / trial.crate / "src").rglob("*.rt")
+    return sum(it.read_text(encoding="utf-8").count("\n") for it in sources) + LINES_OF_AN_EDIT * len(trial.edits)
+
+
 class Edits:
     """All edits of a folder of crates, by the record that tells which were refused before."""
 
@@ -24,14 +34,14 @@ class Edits:
         self.record.keep([it for it in CRATES if any((folder / it / "must-fail").glob("*"))])
 
     def trials(self, names, is_anew):
-        """A trial of each crate with edits that the record does not tell of, the largest first."""
+        """A trial of each crate with edits that the record does not tell of, the dearest first."""
         trials = [Trial(crate, self.tree.edits, self.turn) for crate in names]
         for trial in trials:
             trial.rests_on = self.tree.rests_on(trial.crate)
         with_edits = [it for it in trials if it.edits or it.results]
         left = [it for it in with_edits if is_anew or not self.record.has(it.crate, len(it.edits), it.rests_on)]
         self.recorded = sum(len(it.edits) for it in with_edits if it not in left)
-        return sorted(left, key=lambda it: -len(it.edits))
+        return sorted(left, key=dearness, reverse=True)
 
     def end(self, trial):
         """Counts what became of the edits of a trial, and puts it on the record where all are refused."""

@@ -3,6 +3,7 @@ pub mod Gathering
 pub mod Innermost
 pub mod Meters
 pub mod Running
+pub mod ShortTexts
 pub mod Values
 mod Runs
 mod Matches

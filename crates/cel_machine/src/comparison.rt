@@ -1,31 +1,40 @@
-//! Comparisons of two integers, whose truth value needs no room: what any operator makes is moved from call to call.
+//! Comparisons of two integers, and of two texts for equality. Their truth value needs no room: what any operator makes is moved from
+//! call to call.
 
-ghost use Rattle.std.specs.Prelude.{◌≡◌, IfSome, Some, Ok, reverse, option_map, not};
-ghost use Rattle.cel_value.specs.Value.{same};
+ghost use Rattle.std.specs.Prelude.{◌≡◌, ◌-◌, ◌^◌, min, IfSome, IsTrue, Some, Ok, reverse, option_map};
+ghost use Rattle.cel_value.specs.Value.{same, text_weight_of};
 ghost use Rattle.cel_operators.specs.Operators.{row, at_two, less, lesser_weight};
+ghost use Rattle.std.specs.Str.{bytes_eq};
 ghost use Rattle.cel_operators_applied.specs.Counted.{counted};
-ghost use Rattle.cel_machine.specs.Follow.{made_of_two, truth_made};
+ghost use Rattle.cel_machine.specs.Follow.{made_of_two, opposed, truth_made};
 
 use crate::operand::{Operand, read};
 use cel_operators::Operator;
-use cel_value::{CelError, Value, equal};
+use cel_value::{CelError, Value, code_points, tenths};
 
-/// Whether a comparison of the two operands on top holds, if they are integers. It charges 1.
-pub fn compared(op: Operator, operands: &[Result<Operand<'_>, CelError>]) -> Option<bool>
-    ensures { IfSome result (λ holds. made_of_two (row op) (reverse operands.now) ≡ Some (truth_made holds)) }
+/// Whether a comparison holds, and what it charges.
+#[derive(Clone, Copy)]
+pub struct Comparison {
+    pub holds: bool,
+    pub charge: u64,
+}
+
+/// The comparison of the two operands on top, if they are integers, or texts that may be equal.
+pub fn compared(op: Operator, operands: &[Result<Operand<'_>, CelError>]) -> Option<Comparison>
+    ensures { IfSome result (λ c. made_of_two (row op) (reverse operands.now) ≡ Some (truth_made c)) }
 {
     let [.., x, y] = operands else {
         return None;
     };
     match (read(x), read(y)) {
-        (Ok(v), Ok(w)) => holds(op, v, w),
+        (Ok(v), Ok(w)) => compared_values(op, v, w),
         _ => None,
     }
 }
 
-// Whether a comparison of two integers holds; nothing for another operator or other values.
-fn holds(op: Operator, v: &Value, w: &Value) -> Option<bool>
-    ensures { IfSome result (λ holds. counted (at_two (row op) (Some (Ok v.now)) (Some (Ok w.now))) ≡ Some (truth_made holds)) }
+// The comparison of two integers, or of two texts that may be equal; nothing for another operator or other values.
+fn compared_values(op: Operator, v: &Value, w: &Value) -> Option<Comparison>
+    ensures { IfSome result (λ c. counted (at_two (row op) (Some (Ok v.now)) (Some (Ok w.now))) ≡ Some (truth_made c)) }
 {
     match op {
         Operator::Equal => is_same(v, w),
@@ -38,33 +47,72 @@ fn holds(op: Operator, v: &Value, w: &Value) -> Option<bool>
     }
 }
 
-fn opposite(holds: Option<bool>) -> Option<bool>
-    ensures { result ≡ option_map not holds }
+fn opposite(comparison: Option<Comparison>) -> Option<Comparison>
+    ensures { result ≡ option_map opposed comparison }
 {
-    match holds {
-        Some(holds) => Some(!holds),
-        None => None,
+    let Comparison { holds, charge } = comparison?;
+    Some(Comparison {
+        holds: !holds,
+        charge,
+    })
+}
+
+// Whether two integers or two texts are the same.
+fn is_same(v: &Value, w: &Value) -> Option<Comparison>
+    ensures same { IfSome result (λ c. c.holds ≡ same v.now w.now) }
+    ensures charge { IfSome result (λ c. c.charge ≡ min (lesser_weight v.now w.now) (2 ^ 64 - 1)) }
+{
+    match (v, w) {
+        (Value::Int(m), Value::Int(n)) => Some(Comparison {
+            holds: m == n,
+            charge: 1,
+        }),
+        (Value::Text(a), Value::Text(b)) => Some(are_same_texts(a.as_str(), b.as_str())),
+        _ => None,
     }
 }
 
-// Whether two integers are the same.
-fn is_same(v: &Value, w: &Value) -> Option<bool>
-    ensures same { IfSome result (λ b. same v.now w.now ≡ b) }
-    ensures charge { IfSome result (λ b. lesser_weight v.now w.now ≡ 1) }
+fn are_same_texts(a: &str, b: &str) -> Comparison
+    ensures same { result.holds ≡ bytes_eq a.now b.now }
+    ensures charge { result.charge ≡ min (text_weight_of a.now) (text_weight_of b.now) }
 {
-    match (v, w) {
-        (Value::Int(_), Value::Int(_)) => Some(equal(v, w)),
-        _ => None,
+    Comparison {
+        holds: a == b,
+        charge: text_weight(a).min(text_weight(b)),
     }
 }
 
 // Whether an integer is less than another.
-fn is_less(v: &Value, w: &Value) -> Option<bool>
-    ensures less { IfSome result (λ b. less v.now w.now ≡ Some b) }
-    ensures charge { IfSome result (λ b. lesser_weight v.now w.now ≡ 1) }
+fn is_less(v: &Value, w: &Value) -> Option<Comparison>
+    ensures less { IfSome result (λ c. less v.now w.now ≡ Some c.holds) }
+    ensures charge { IfSome result (λ c. c.charge ≡ min (lesser_weight v.now w.now) (2 ^ 64 - 1)) }
 {
     match (v, w) {
-        (Value::Int(m), Value::Int(n)) => Some(m < n),
+        (Value::Int(m), Value::Int(n)) => Some(Comparison {
+            holds: m < n,
+            charge: 1,
+        }),
         _ => None,
+    }
+}
+
+// What a text weighs. The code points of a short one are not counted.
+fn text_weight(text: &str) -> u64
+    ensures { result ≡ text_weight_of text.now }
+{
+    if is_short(text.as_bytes()) {
+        2
+    } else {
+        1 + tenths(code_points(text) as u64)
+    }
+}
+
+// Whether a text has one to ten bytes, of which the first is a code point.
+fn is_short(text: &[u8]) -> bool
+    ensures { IsTrue result → text_weight_of text.now ≡ 2 }
+{
+    match text {
+        [first, ..] => *first < 128 && text.len() <= 10,
+        [] => false,
     }
 }

@@ -8,6 +8,7 @@ ghost use Rattle.cel_expression.specs.Expressions.{estimate_at, run_of, type_at}
 ghost use Rattle.cel_expression.specs.Patterns.{MayMatch};
 
 use crate::fault::RunError;
+use crate::memory::Memory;
 use crate::slots::Slots;
 use cel_expression::Compiled;
 use cel_operators::Matchers;
@@ -24,10 +25,10 @@ pub struct Ran {
 
 /// What the definitions say of the text, if its names hold these; it is given up if memory does not suffice, or if a
 /// pattern that it looks for is not built: the latter only if `matches` is given a literal text in it.
-pub fn run(
+pub fn run<'a>(
     alloc: Global,
-    compiled: &Compiled,
-    slots: &Slots<'_>,
+    compiled: &'a Compiled,
+    slots: &'a Slots<'_>,
     matchers: &mut Matchers,
 ) -> Result<Ran, RunError>
     requires { slots_fit (types_in compiled.now.names) slots.now ≡ true }
@@ -37,7 +38,26 @@ pub fn run(
     ensures small { IfOk result (λ r. r.charged ≤ budget) }
     ensures pattern { IsErrOf result (Fault Pattern) → MayMatch compiled.now }
 {
-    let ended = crate::machine::run(alloc, compiled.program(), slots, matchers)?;
+    let mut memory = Memory::new(alloc);
+    run_on(alloc, compiled, slots, &mut memory, matchers)
+}
+
+/// The same on memory that is kept from one run to the next.
+pub fn run_on<'a>(
+    alloc: Global,
+    compiled: &'a Compiled,
+    slots: &'a Slots<'_>,
+    memory: &mut Memory<'a>,
+    matchers: &mut Matchers,
+) -> Result<Ran, RunError>
+    requires { slots_fit (types_in compiled.now.names) slots.now ≡ true }
+    ensures run { IfOk result (λ r. run_of compiled.now slots.now ≡ Some (record { outcome = r.outcome; charged = r.charged })) }
+    ensures fits { IfOk result (λ r. outcome_fits (type_at compiled.now) (Some r.outcome) ≡ true) }
+    ensures within { IfOk result (λ r. r.charged ≤ estimate_at compiled.now) }
+    ensures small { IfOk result (λ r. r.charged ≤ budget) }
+    ensures pattern { IsErrOf result (Fault Pattern) → MayMatch compiled.now }
+{
+    let ended = crate::machine::run_on(alloc, compiled.program(), slots, memory, matchers)?;
     Ok(Ran {
         outcome: ended.outcome,
         charged: ended.charged,

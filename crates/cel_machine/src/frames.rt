@@ -38,6 +38,13 @@ impl<'a> Frames<'a> {
         }
     }
 
+    /// Closes all loops.
+    pub fn clear(&mut self)
+        ensures { self.new ≡ [] }
+    {
+        self.items.clear();
+    }
+
     /// One more open loop.
     pub fn push(&mut self, frame: Frame<'a>) -> Result<(), AllocError>
         ensures { OnOk result (self.new ≡ frame.entry ∷ self.old) }

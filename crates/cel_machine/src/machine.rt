@@ -11,7 +11,7 @@ ghost use Rattle.cel_code.specs.Matches.{HasMatches};
 
 use crate::ended::Run;
 use crate::fault::RunError;
-use crate::frames::Frames;
+use crate::memory::Memory;
 use crate::operand::outcome_of;
 use crate::position::Position;
 use crate::slots::Slots;
@@ -48,9 +48,32 @@ pub fn run<'a>(
     ensures declared { IfOk result (λ r. (most : ℕ) → program.now.declared ≡ Some most → (r.charged ≤ most) × (most ≤ budget)) }
     ensures pattern { IsErrOf result (Fault Pattern) → HasMatches program.now }
 {
+    let mut memory = Memory::new(alloc);
+    run_on(alloc, program, slots, &mut memory, matchers)
+}
+
+/// The same on memory that is kept from one run to the next: more is taken for the stack and for open loops only where these have not
+/// the room yet.
+pub fn run_on<'a>(
+    alloc: Global,
+    program: &'a Program,
+    slots: &'a Slots<'_>,
+    memory: &mut Memory<'a>,
+    matchers: &mut Matchers,
+) -> Result<Run, RunError>
+    requires { slots_fit program.now.slots slots.now ≡ true }
+    ensures run { IfOk result (λ r. IsRun program.now slots.now r.outcome r.charged r.steps) }
+    ensures fits { IfOk result (λ r. Fits r.outcome program.now.result) }
+    ensures steps { IfOk result (λ r. IsWithin (IsRouteLength program.now) r.steps) }
+    ensures charged { IfOk result (λ r. IsWithin (IsRouteCharge program.now) r.charged) }
+    ensures within_budget { IfOk result (λ r. r.charged ≤ budget) }
+    ensures declared { IfOk result (λ r. (most : ℕ) → program.now.declared ≡ Some most → (r.charged ≤ most) × (most ≤ budget)) }
+    ensures pattern { IsErrOf result (Fault Pattern) → HasMatches program.now }
+{
+    let Memory { stack, frames } = memory;
     let image = program.image();
-    let mut stack = Stack::with_room(alloc, program.max_depth() + 1)?;
-    let mut frames = Frames::new(alloc);
+    stack.make_room(program.max_depth() + 1)?;
+    frames.clear();
     let mut position = Position { at: 0, charge: 0 };
     let mut charged: u64 = 0;
     let mut steps: u64 = 0;
@@ -61,8 +84,8 @@ pub fn run<'a>(
             slots,
             *instr,
             &mut position,
-            &mut stack,
-            &mut frames,
+            stack,
+            frames,
             matchers,
         )? {
             Move::GoesOn => {
@@ -70,7 +93,7 @@ pub fn run<'a>(
                 steps += 1;
             }
             Move::IsOver => {
-                let outcome = taken(alloc, &mut stack)?;
+                let outcome = taken(alloc, stack)?;
                 return Ok(Run {
                     outcome,
                     charged,

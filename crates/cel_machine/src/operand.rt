@@ -1,4 +1,4 @@
-ghost use Rattle.std.specs.Prelude.{◌≡◌, IfOk};
+ghost use Rattle.std.specs.Prelude.{◌≡◌, IfOk, IfSome};
 ghost use Rattle.cel_operators_applied.specs.Lent.{lent};
 ghost use Rattle.cel_machine.specs.Operand.{content_of};
 
@@ -62,6 +62,16 @@ impl<'a> Operand<'a> {
         match &self.held {
             Held::Lent(value) => value,
             Held::Own(value) => value,
+        }
+    }
+
+    /// The value, if it is elsewhere.
+    pub fn lent_value(&self) -> Option<&'a Value>
+        ensures { IfSome result (λ value. value.now ≡ self.now) }
+    {
+        match &self.held {
+            Held::Lent(value) => Some(*value),
+            Held::Own(_) => None,
         }
     }
 

@@ -35,8 +35,8 @@ pub fn field<'a>(
     }
 }
 
-// A field, in its place.
-fn field_in<'v>(value: &'v Value, name: &str) -> Option<Result<&'v Value, CelError>>
+/// A field, in its place.
+pub fn field_in<'v>(value: &'v Value, name: &str) -> Option<Result<&'v Value, CelError>>
     ensures { option_map lent result ≡ outcome_made (at_one (row_with TextOperator.Select name.now) (Some (Ok value.now))) }
 {
     match members(Ok(value)) {

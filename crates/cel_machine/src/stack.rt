@@ -1,4 +1,4 @@
-ghost use Rattle.std.specs.Prelude.{◌≡◌, ◌∷◌, ◌<◌, [], IfOk, MatchOption, length, option_map, reverse};
+ghost use Rattle.std.specs.Prelude.{◌≡◌, ◌∷◌, ◌<◌, [], Ok, IfOk, IfSome, MatchOption, OnOk, length, option_map, reverse};
 ghost use Rattle.cel_machine.specs.Follow.{below_top, below_two, top_of};
 ghost use Rattle.cel_operators_applied.specs.Lent.{lent};
 ghost use Rattle.cel_machine.specs.Room.{HasRoom};
@@ -31,6 +31,17 @@ impl<'a> Model for Stack<'a> {
 }
 
 impl<'a> Stack<'a> {
+    /// An empty stack without room. This takes no memory.
+    pub fn new(alloc: Global) -> Stack<'a>
+        ensures items { result.items ≡ [] }
+        ensures room { result.room ≡ 0 }
+    {
+        Stack {
+            items: Vec::new(alloc),
+            room: 0,
+        }
+    }
+
     /// An empty stack with room for so many operands.
     pub fn with_room(alloc: Global, room: usize) -> Result<Stack<'a>, AllocError>
         ensures items { IfOk result (λ stack. stack.items ≡ []) }
@@ -40,6 +51,17 @@ impl<'a> Stack<'a> {
             items: Vec::with_capacity(alloc, room)?,
             room,
         })
+    }
+
+    /// Lets go of the operands, and makes room for so many. It takes memory only where there was never that much room.
+    pub fn make_room(&mut self, room: usize) -> Result<(), AllocError>
+        ensures items { OnOk result (self.new.items ≡ []) }
+        ensures room { OnOk result (self.new.room ≡ room) }
+    {
+        self.items.clear();
+        self.items.reserve(room)?;
+        self.room = room;
+        Ok(())
     }
 
     /// One more operand, for which there is room: this takes no memory.
@@ -60,11 +82,32 @@ impl<'a> Stack<'a> {
     }
 
     /// Lets go of the top, if there is one.
+    #[inline(always)]
     pub fn drop_top(&mut self)
         ensures items { self.new.items ≡ below_top self.old.items }
         ensures room { self.new.room ≡ self.old.room }
     {
         self.pop();
+    }
+
+    /// The value on top, if it is lent.
+    pub fn lent_top(&self) -> Option<&'a Value>
+        ensures { IfSome result (λ value. self.now.items ≡ Ok value.now ∷ below_top self.now.items) }
+    {
+        match self.items.last() {
+            Some(Ok(operand)) => operand.lent_value(),
+            _ => None,
+        }
+    }
+
+    /// An operand in place of the top: this takes no memory.
+    pub fn put_over_top(&mut self, item: Result<Operand<'a>, CelError>)
+        requires room { HasRoom self.old }
+        ensures items { self.new.items ≡ item.entry ∷ below_top self.old.items }
+        ensures room { self.new.room ≡ self.old.room }
+    {
+        self.drop_top();
+        self.items.push_reserved(item);
     }
 
     /// An operand in place of the two on top: this takes no memory.

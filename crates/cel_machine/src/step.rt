@@ -44,6 +44,7 @@ pub enum Move {
 
 /// One instruction, which is the one that the position has. Its operands are the constants and what the slots hold, which are
 /// not copied, and what the run made. A loop that it opens is among the open ones, and goes over what is lent in its place.
+#[inline(always)]
 pub fn step<'a>(
     alloc: Global,
     image: &'a Image,
@@ -177,9 +178,9 @@ fn operate(
     ensures acts { IfOk result (λ m. LeadsTo (operate_by (Some op) position.old.at stack.old.items) m position.new stack.new.items) }
     ensures room { stack.new.room ≡ stack.old.room }
 {
-    if let Some(holds) = compared(op, stack.as_slice()) {
-        stack.put_over_two(Ok(Operand::own(Value::Bool(holds))));
-        return Ok(position.go_on(1));
+    if let Some(comparison) = compared(op, stack.as_slice()) {
+        stack.put_over_two(Ok(Operand::own(Value::Bool(comparison.holds))));
+        return Ok(position.go_on(comparison.charge));
     }
     match op.operands() {
         Operands::One(_) => operate_one(alloc, op, position, stack),

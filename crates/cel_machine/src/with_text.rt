@@ -1,16 +1,16 @@
 //! The instruction of the operators that are given a text.
 
-ghost use Rattle.std.specs.Prelude.{◌≡◌, ◌+◌, ◌<◌, ◌^◌, IfOk, IsErrOf, Some, option_map, slice_get};
+ghost use Rattle.std.specs.Prelude.{◌≡◌, ◌+◌, ◌<◌, ◌^◌, ◌∷◌, Ok, IfOk, IsErrOf, Some, option_map, slice_get};
 ghost use Rattle.base_containers.specs.declared.failed.Failed.TheVariants.{Fault};
 ghost use Rattle.cel_machine.specs.declared.fault.RunFault.TheVariants.{Pattern};
 ghost use Rattle.cel_operators.specs.TextOperators.{row_with};
 ghost use Rattle.cel_code.specs.Machine.{constant_text, operate_with};
 ghost use Rattle.cel_machine.specs.Room.{HasRoom};
-ghost use Rattle.cel_machine.specs.Follow.{LeadsTo, Comes, metered_one};
+ghost use Rattle.cel_machine.specs.Follow.{LeadsTo, Comes, below_top, metered_one};
 
 use crate::fault::RunError;
 use crate::operand::read;
-use crate::parts::{field, has_field};
+use crate::parts::{field, field_in, has_field, lend};
 use crate::position::Position;
 use crate::search::matches;
 use crate::stack::Stack;
@@ -65,6 +65,9 @@ fn select(
         m position.new stack.new.items) }
     ensures room { stack.new.room ≡ stack.old.room }
 {
+    if let Some(value) = stack.lent_top() {
+        return Ok(select_in(value, name, position, stack));
+    }
     let Some(x) = stack.pop() else {
         return Ok(Move::IsStuckHere);
     };
@@ -73,6 +76,27 @@ fn select(
     };
     stack.push(part);
     Ok(position.go_on(1))
+}
+
+// A field of the value on top, which is lent.
+fn select_in<'a>(
+    value: &'a Value,
+    name: &str,
+    position: &mut Position,
+    stack: &mut Stack<'a>,
+) -> Move
+    requires at { position.old.at + 1 < 2 ^ 64 }
+    requires room { HasRoom stack.old }
+    requires top { stack.old.items ≡ Ok value.now ∷ below_top stack.old.items }
+    ensures acts { Comes (metered_one (row_with TextOperator.Select name.now) position.old.at stack.old.items)
+        result position.new stack.new.items }
+    ensures room { stack.new.room ≡ stack.old.room }
+{
+    let Some(part) = field_in(value, name) else {
+        return Move::IsStuckHere;
+    };
+    stack.put_over_top(lend(part));
+    position.go_on(1)
 }
 
 fn has(name: &str, position: &mut Position, stack: &mut Stack<'_>) -> Result<Move, AllocError>

@@ -2,7 +2,7 @@
 
 use cel_operators::{Matchers, Patterns};
 use cel_value::{CelError, CelType, Value};
-use vap_policy::unfit_verdict;
+use vap_policy_verdict::unfit_verdict;
 use vap_read::Event;
 
 fn crosses_threads<T: Send + Sync>(_value: &T) -> bool {

@@ -2,7 +2,7 @@
 use denote.Param.Send.{IsSend, IsSync, sendable}
 use Rattle.std.proofs.Crossing.{crosses}
 use Rattle.base_containers.proofs.Crossing.{document_send, document_sync}
-use Rattle.vap_policy.proofs.Crossing.{verdict_send, verdict_sync}
+use Rattle.vap_policy_verdict.proofs.Crossing.{verdict_send, verdict_sync}
 use Rattle.vap_watch.proofs.Crossing.{log_send, log_sync}
 use Rattle.vap_match.specs.contracts.request.Admission as admission
 use Rattle.vap_match.specs.contracts.request.Request as request

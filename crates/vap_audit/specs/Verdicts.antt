@@ -2,7 +2,7 @@
 -- inside one, except for its revision and its charge.
 use Rattle.std.specs.Prelude.{ℕ, List}
 use Rattle.vap_match.specs.declared.request.Request.{Request}
-use Rattle.vap_policy.specs.declared.verdict.Verdict.{Verdict as VerdictOf}
+use Rattle.vap_policy_verdict.specs.declared.verdict.Verdict.{Verdict as VerdictOf}
 use Rattle.vap_policy.specs.Evaluations as evaluations
 use Rattle.vap_policy.specs.Judging as judging
 use Rattle.vap_policy.specs.RequestPatterns as patterns

@@ -2,7 +2,7 @@
 
 use base_containers::Shared;
 use vap_match::Request;
-use vap_policy::Verdict;
+use vap_policy_verdict::Verdict;
 use vap_watch::Log;
 
 /// What was decided in one call, and at which log. Calls and workers are counted from 0.

@@ -8,7 +8,8 @@ ghost use Rattle.vap_audit.specs.Verdicts.{MayMatch, budget, verdict_at};
 
 use std::alloc::Global;
 use vap_match::Request;
-use vap_policy::{JudgeError, Verdict, Workspace};
+use vap_policy::{JudgeError, Workspace};
+use vap_policy_verdict::Verdict;
 use vap_watch::Snapshot;
 
 /// The verdict on a request at a snapshot's log. Its revision is the number of the log's events, and it charges at most the budget of a

@@ -1,7 +1,7 @@
 -- Streams, worked out.
 use Rattle.std.proofs.Common.{◌≡◌, [], ◌∷◌, ◌++◌, true, false, None, Some, refl}
 use Rattle.vap_match.specs.declared.request.Request.{Request}
-use Rattle.vap_policy.specs.AnswerText.{answer_text}
+use Rattle.vap_policy_verdict.specs.AnswerText.{answer_text}
 use Rattle.vap_cli_replay.specs.Replay.{Choices, replay_of}
 use Rattle.vap_cli_replay.specs.declared.fault.LineFault.TheVariants.{BadJson}
 use Rattle.vap_cli_replay.specs.declared.line.Line.TheVariants.{Skipped, Asks, Refused}

@@ -3,8 +3,8 @@ use Rattle.std.specs.Prelude.{ℕ, Bool, List, [], ◌∷◌, ◌++◌, codes, f
 use Rattle.json.specs.Print.{print}
 use Rattle.json.specs.Token.{Token, begin_object, boolean, end_object, key}
 use Rattle.base_containers.specs.declared.text.Keyed.{Keyed}
-use Rattle.vap_policy.specs.Members.{number_member, text_member}
-use Rattle.vap_policy.specs.declared.verdict.Verdict.{Verdict}
+use Rattle.vap_policy_verdict.specs.Members.{number_member, text_member}
+use Rattle.vap_policy_verdict.specs.declared.verdict.Verdict.{Verdict}
 use Rattle.vap_audit.specs.declared.entry.Entry.{Entry}
 
 -- the annotations, each under its key

@@ -4,7 +4,7 @@ use Rattle.std.specs.Prelude.{ℕ, ◌+◌, nat_lt, Bool, ◌&&◌, if◌then◌
 use Rattle.std.specs.Prelude.{is_none, Option, Some, None, Result, Ok, Err}
 use Rattle.vap_read.specs.declared.event.Event.{Event}
 use Rattle.vap_match.specs.declared.request.Request.{Request}
-use Rattle.vap_policy.specs.AnswerText.{answer_text}
+use Rattle.vap_policy_verdict.specs.AnswerText.{answer_text}
 use Rattle.vap_watch.specs.Given.{Choice, takes}
 use Rattle.vap_watch.specs.Logs.{objects_of, publication}
 use Rattle.vap_watch.specs.Places.{most_events}

@@ -8,7 +8,7 @@ use base_containers::{Keyed, Text};
 use json::Writer;
 use std::alloc::AllocError;
 use vap_audit::Entry;
-use vap_policy::{Verdict, put_number, put_text};
+use vap_policy_verdict::{Verdict, put_number, put_text};
 
 fn put_annotations(annotations: &[Keyed<Text>], out: &mut Writer) -> Result<(), AllocError>
     ensures ok { OnOk result (out.new.tokens ≡ out.old.tokens ++ annotation_members annotations.now) }

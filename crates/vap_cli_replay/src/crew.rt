@@ -22,7 +22,8 @@ use vap_match::Request;
 use vap_plane::{
     Open, Pass, Plan, PlaneError, PlaneFault, SharedHistory, Worker, run_workers, told_to,
 };
-use vap_policy::{JudgeError, RunFault, Verdict, Workspace};
+use vap_policy::{JudgeError, RunFault, Workspace};
+use vap_policy_verdict::Verdict;
 use vap_watch::{ReaderError, ReaderSource, Snapshot, Told, revision_of};
 
 /// The workers of a replay, which are made once, the history that they share, and a log that names the board that they read.

@@ -3,7 +3,7 @@
 use std::alloc::{AllocError, Global};
 use std::mem;
 use vap_audit::{Entry, History};
-use vap_policy::Verdict;
+use vap_policy_verdict::Verdict;
 
 /// Whether the entries from number `first` on are those of as many calls as there are verdicts, from the same number on: each call
 /// once, at a log of this revision, with its verdict.

@@ -36,7 +36,7 @@ use std::vec::IntoIter;
 use vap_audit::{AuditFault, Entry, History, MOST_ENTRIES};
 use vap_match::Request;
 use vap_plane::Plan;
-use vap_policy::{Verdict, with_answer};
+use vap_policy_verdict::{Verdict, with_answer};
 use vap_read::{Event, EventReader};
 use vap_watch::Writer;
 

@@ -4,7 +4,7 @@ use serde_json::Value as Json;
 use std::alloc::{AllocError, Global};
 use vap_cli::{DocumentError, document_of};
 use vap_match::{items_of, text_in};
-use vap_policy::Verdict;
+use vap_policy_verdict::Verdict;
 
 /// Under which key they are.
 const FAILURES: &str = "validation.policy.admission.k8s.io/validation_failure";

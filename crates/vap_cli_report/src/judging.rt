@@ -2,7 +2,8 @@
 
 use std::alloc::{AllocError, Global};
 use vap_audit::{Entry, judge};
-use vap_policy::{JudgeError, Verdict, Workspace};
+use vap_policy::{JudgeError, Workspace};
+use vap_policy_verdict::Verdict;
 use vap_read::Event;
 use vap_watch::{Desk, PublishError, StageFault};
 

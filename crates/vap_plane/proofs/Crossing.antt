@@ -6,7 +6,8 @@ use denote.Struct.Declared.{shape}
 use Rattle.std.proofs.Crossing.{crosses}
 use Rattle.core.proofs.ledger.Sent.{book_send, share_send}
 use Rattle.std.specs.declared.sync.ledger.Ledger as ledger
-use Rattle.vap_policy.proofs.Crossing.{verdict_send, verdict_sync, workspace_send}
+use Rattle.vap_policy.proofs.Crossing.{workspace_send}
+use Rattle.vap_policy_verdict.proofs.Crossing.{verdict_send}
 use Rattle.vap_watch.proofs.BoardCrossing.{told_sync}
 use Rattle.vap_watch.proofs.Crossing.{reader_send}
 use Rattle.vap_audit.proofs.Crossing.{request_send, request_sync, history_send}

@@ -1,5 +1,3 @@
-pub mod Played
-pub mod Taken
 pub mod Closed
 pub mod Numbered
 pub mod Replies

@@ -7,7 +7,7 @@ use Rattle.std.proofs.lemmas.Bool.Decides.{nat_tests}
 use Rattle.std.specs.Prelude.{◌==◌, slice_get, slice_set, Option, Some, None, if◌then◌else◌}
 use Rattle.base_containers.specs.declared.failed.Failed.{Failed}
 use Rattle.base_containers.specs.declared.failed.Failed.TheVariants.{OutOfMemory, Fault}
-use Rattle.vap_policy.specs.declared.verdict.Verdict.{Verdict}
+use Rattle.vap_policy_verdict.specs.declared.verdict.Verdict.{Verdict}
 use Rattle.vap_plane.specs.Numbered.{once_more, came, IsFine, HasFault, IsListOf, IsLeastFault, IsWhy, LeastOf, IsBroken, IsGap}
 use Rattle.vap_plane.specs.Numbered.{AreCame, IsLeastStranger, Breaks}
 use Rattle.vap_plane.specs.declared.gathering.Came.{Came}

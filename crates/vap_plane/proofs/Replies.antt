@@ -8,7 +8,7 @@ use Rattle.std.specs.Prelude.{◌==◌, slice_get, Some, Bool, true, false, if�
 use Rattle.std.specs.List.{All}
 use Rattle.vap_watch.specs.Shown.{Shown}
 use Rattle.vap_match.specs.declared.request.Request.{Request}
-use Rattle.vap_policy.specs.declared.verdict.Verdict.{Verdict}
+use Rattle.vap_policy_verdict.specs.declared.verdict.Verdict.{Verdict}
 use Rattle.vap_watch.specs.Logs.{StartsWith}
 use Rattle.vap_watch.specs.Seen.{Known, Learns, Looks, SeesMore}
 use Rattle.vap_watch.specs.declared.log.Logged.{Logged}

@@ -3,7 +3,7 @@ use Rattle.std.specs.Prelude.{◌≡◌, ℕ, List, length, map, slice_get, Some
 use Rattle.std.specs.List.{All}
 use Rattle.vap_watch.specs.Shown.{Shown}
 use Rattle.vap_match.specs.declared.request.Request.{Request}
-use Rattle.vap_policy.specs.declared.verdict.Verdict.{Verdict}
+use Rattle.vap_policy_verdict.specs.declared.verdict.Verdict.{Verdict}
 use Rattle.vap_watch.specs.Logs.{StartsWith}
 use Rattle.vap_watch.specs.Seen.{Known}
 use Rattle.vap_watch.specs.declared.log.Logged.{Logged}

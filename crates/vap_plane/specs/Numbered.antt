@@ -3,7 +3,7 @@ use Rattle.std.specs.Prelude.{◌≡◌, ◌≢◌, ◌⊎◌, ◌==◌, ◌<◌
 use Rattle.std.specs.Prelude.{Option, Some, None}
 use Rattle.base_containers.specs.Failures.{IfFault}
 use Rattle.base_containers.specs.declared.failed.Failed.{Failed}
-use Rattle.vap_policy.specs.declared.verdict.Verdict.{Verdict}
+use Rattle.vap_policy_verdict.specs.declared.verdict.Verdict.{Verdict}
 use Rattle.vap_plane.specs.declared.gathering.Came.{Came}
 use Rattle.vap_plane.specs.declared.gathering.Came.TheVariants.{Never, Once, Again}
 use Rattle.vap_plane.specs.declared.gathering.GatherFault.{GatherFault}

@@ -7,7 +7,7 @@ use Rattle.vap_plane.specs.declared.fault.PlaneFault.{PlaneFault}
 use Rattle.vap_plane.specs.declared.fault.PlaneFault.TheVariants.{Double, Stranger, Lost, Judge, Audit, Gone}
 use Rattle.vap_watch.specs.declared.log.Logged.{Logged}
 use Rattle.vap_match.specs.declared.request.Request.{Request}
-use Rattle.vap_policy.specs.declared.verdict.Verdict.{Verdict}
+use Rattle.vap_policy_verdict.specs.declared.verdict.Verdict.{Verdict}
 
 -- the entry of what was judged at a log by this worker
 abbrev pub entry_of : ℕ → List Logged → Request → Verdict → ℕ → Entry

@@ -9,7 +9,7 @@ use crate::gathering::{GatherError, GatherFault, gather};
 use crate::jobs::Batch;
 use crate::messages::{Answers, Failure};
 use std::alloc::{AllocError, Global};
-use vap_policy::Verdict;
+use vap_policy_verdict::Verdict;
 
 /// Numbered answers, and, of the requests that are not answered, the failure of the one with the least number.
 #[derive(Drop)]

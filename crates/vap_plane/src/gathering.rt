@@ -8,7 +8,7 @@ use base_containers::Failed;
 use std::alloc::{AllocError, Global};
 use std::mem;
 use thiserror::Error;
-use vap_policy::Verdict;
+use vap_policy_verdict::Verdict;
 
 /// Why numbered answers do not form a list: the least number that has a fault.
 #[derive(Clone, Copy, Debug, PartialEq, Eq, Error)]

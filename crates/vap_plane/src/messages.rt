@@ -7,7 +7,7 @@ use crate::fault::PlaneError;
 use crate::jobs::Batch;
 use std::alloc::{AllocError, Global};
 use std::marker::{Model, PhantomData};
-use vap_policy::Verdict;
+use vap_policy_verdict::Verdict;
 
 /// What one worker answered: numbered verdicts, each the answer to the request of its number.
 #[derive(Drop)]
@@ -19,8 +19,8 @@ pub(crate) struct Answers<B: Batch> {
 impl<B: Batch> Model for Answers<B> {
     ghost use Rattle.std.specs.Prelude.{ℕ, List};
     ghost use Rattle.std.specs.Coded.{codes};
-    ghost use Rattle.vap_policy.specs.contracts.verdict.Verdict as answer;
-    ghost use Rattle.vap_policy.specs.declared.verdict.Verdict.{Verdict as VerdictOf};
+    ghost use Rattle.vap_policy_verdict.specs.contracts.verdict.Verdict as answer;
+    ghost use Rattle.vap_policy_verdict.specs.declared.verdict.Verdict.{Verdict as VerdictOf};
     ghost use Rattle.vap_plane.specs.Answers.{AreRight};
 
     ghost Value = { List (ℕ × VerdictOf) };

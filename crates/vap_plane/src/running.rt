@@ -18,7 +18,7 @@ use std::sync::Wait;
 use std::thread;
 use std::thread::Threads;
 use vap_match::Request;
-use vap_policy::Verdict;
+use vap_policy_verdict::Verdict;
 use vap_watch::Told;
 
 /// Judges and records each request by one of the workers; a worker takes the next request when it is done with one. Before, each

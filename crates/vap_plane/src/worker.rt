@@ -17,7 +17,8 @@ use std::sync::Wait;
 use std::sync::ledger::{Ledger, Share};
 use vap_audit::{AuditFault, Entry, judge};
 use vap_match::Request;
-use vap_policy::{JudgeError, RunFault, Verdict, Workspace};
+use vap_policy::{JudgeError, RunFault, Workspace};
+use vap_policy_verdict::Verdict;
 use vap_watch::{Log, Reader, ReaderError, Told};
 
 /// The right to be the worker of this number: of each number there is one.

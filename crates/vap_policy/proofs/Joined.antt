@@ -3,10 +3,10 @@ use Rattle.std.proofs.Common.{◌≡◌, ◌<◌, ◌+◌, ℕ, Bool, true, fals
 use Rattle.std.proofs.Common.{refl, sym, ap, ◌∙◌, append_assoc, append-nil, add_assoc, add-zero, sum_by}
 use Rattle.std.proofs.lemmas.List.Concat.{flat_map-append}
 use Rattle.std.proofs.lemmas.List.Sums.{sum_by-append}
-use Rattle.vap_policy.specs.declared.finding.Finding.{Finding}
-use Rattle.vap_policy.specs.declared.finding.Note.{Note}
+use Rattle.vap_policy_verdict.specs.declared.finding.Finding.{Finding}
+use Rattle.vap_policy_verdict.specs.declared.finding.Note.{Note}
 use Rattle.vap_policy.specs.Evaluations.{Evaluation, Findings, failures_in, notes_in, charge_in, found_by, joined}
-use Rattle.vap_policy.proofs.Steps.{next_is}
+use Rattle.vap_policy_evaluation.proofs.Steps.{next_is}
 
 abbrev findings : List Finding → List Note → ℕ → Findings
 findings fs ns n = record { failures = fs; notes = ns; charged = n }

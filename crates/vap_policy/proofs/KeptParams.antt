@@ -20,7 +20,7 @@ use Rattle.vap_policy_programs.specs.Held.{slots_of}
 use Rattle.vap_policy.specs.Evaluations.{Evaluation, Rule}
 use Rattle.vap_policy.specs.Judging.{Case, at_each, at_none, at_param, at_seen}
 use Rattle.vap_policy.specs.Ready.{CanRun}
-use Rattle.vap_policy.proofs.Steps.{next_is}
+use Rattle.vap_policy_evaluation.proofs.Steps.{next_is}
 
 -- ---- one object after the other
 

@@ -1,15 +1,4 @@
-pub mod ByKey
-pub mod Floors
-pub mod Grouped
-pub mod Once
-pub mod WorkedVerdicts
 pub mod Crossing
-pub mod Gates
-pub mod Steps
-pub mod Sums
-pub mod FittingSlots
-pub mod Charges
-pub mod WorkedFindings
 pub mod Fitting
 pub mod InBlocks
 pub mod Budget

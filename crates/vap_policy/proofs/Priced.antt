@@ -2,7 +2,7 @@
 use Rattle.std.proofs.Common.{Option, Some, None}
 use Rattle.std.proofs.lemmas.List.Elements.{All-weaker}
 use Rattle.cel_check.specs.Typing.{types_in}
-use Rattle.vap_policy.proofs.Charges.{charge_within_price}
+use Rattle.vap_policy_evaluation.proofs.Charges.{charge_within_price}
 use Rattle.vap_read_objects.specs.declared.kind.Kind.{Kind}
 use Rattle.vap_policy_programs.proofs.Standing.{pair_ready, pair_within}
 use Rattle.vap_policy_programs.specs.Scopes.{first_names}

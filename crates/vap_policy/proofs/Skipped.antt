@@ -18,7 +18,7 @@ use Rattle.vap_policy_set.specs.declared.bound.BoundPolicy.{BoundPolicy}
 use Rattle.vap_policy_set.proofs.Covered.{covered_may}
 use Rattle.vap_policy.specs.Judging.{Case, of_policies, of_policy}
 use Rattle.vap_policy.specs.Matched.{matched_by}
-use Rattle.vap_policy.proofs.Steps.{next_is}
+use Rattle.vap_policy_evaluation.proofs.Steps.{next_is}
 
 -- a policy that matches a request may cover it
 matched_may : (r : Admission) (held : Labels) (p : BoundPolicy) → matches p.policy.spec.match_constraints r held ≡ true

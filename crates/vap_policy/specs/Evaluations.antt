@@ -2,13 +2,13 @@
 use Rattle.std.specs.Prelude.{ℕ, ◌+◌, ◌-◌, nat_lt, if◌then◌else◌, List, [], ◌∷◌, ◌++◌, codes, map, None}
 use Rattle.std.specs.List.{flat_map, sum_by}
 use Rattle.cel_operators.specs.Outcomes.{Outcome}
-use Rattle.vap_policy.specs.declared.finding.Finding.{Finding}
-use Rattle.vap_policy.specs.declared.finding.Note.{Note}
+use Rattle.vap_policy_verdict.specs.declared.finding.Finding.{Finding}
+use Rattle.vap_policy_verdict.specs.declared.finding.Note.{Note}
 use Rattle.vap_read.specs.declared.binding.ValidationActions.{ValidationActions}
-use Rattle.vap_policy.specs.Found.{failures_of, notes_of, charge_of}
-use Rattle.vap_policy.specs.Validations.{counted}
-use Rattle.vap_policy.specs.declared.found.Failure.{Failure}
-use Rattle.vap_policy.specs.declared.found.Note.{Note as FoundNote}
+use Rattle.vap_policy_evaluation.specs.Found.{failures_of, notes_of, charge_of}
+use Rattle.vap_policy_evaluation.specs.Validations.{counted}
+use Rattle.vap_policy_evaluation.specs.declared.found.Failure.{Failure}
+use Rattle.vap_policy_evaluation.specs.declared.found.Note.{Note as FoundNote}
 use Rattle.vap_read.specs.declared.policy.FailurePolicy.{FailurePolicy}
 use Rattle.vap_policy_programs.specs.Pairs.{price_of}
 use Rattle.vap_policy_programs.specs.declared.programs.Programs.{Programs}

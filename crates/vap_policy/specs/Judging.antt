@@ -6,8 +6,8 @@ use Rattle.base_containers.specs.declared.text.Keyed.{Keyed}
 use Rattle.cel_value.specs.declared.cel_type.CelType.{CelType}
 use Rattle.cel_value.specs.declared.value.Value as value
 use Rattle.cel_value.specs.declared.value.Value.{Value}
-use Rattle.vap_policy.specs.Verdicts as answers
-use Rattle.vap_policy.specs.declared.verdict.Verdict.{Verdict}
+use Rattle.vap_policy_verdict.specs.Verdicts as answers
+use Rattle.vap_policy_verdict.specs.declared.verdict.Verdict.{Verdict}
 use Rattle.vap_read.specs.declared.binding.Binding.{Binding}
 use Rattle.vap_read.specs.declared.binding.NotFoundAction.{NotFoundAction}
 use Rattle.vap_read.specs.declared.binding.NotFoundAction.TheVariants.{Allow, Deny}

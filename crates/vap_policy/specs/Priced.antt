@@ -3,7 +3,7 @@ use Rattle.std.specs.Prelude.{◌≡◌, ◌≤◌, true, Option, Some, None}
 use Rattle.std.specs.List.{All}
 use Rattle.cel_value.specs.CelType.{fits}
 use Rattle.cel_value.specs.declared.value.Value.{Value}
-use Rattle.vap_policy.specs.Found.{charge_of}
+use Rattle.vap_policy_evaluation.specs.Found.{charge_of}
 use Rattle.vap_read_objects.specs.declared.kind.Kind.{Kind}
 use Rattle.vap_policy_programs.specs.Pairs.{most, price_of}
 use Rattle.vap_policy_programs.specs.Scopes.{type_of_params}

@@ -1,6 +1,6 @@
 -- Whether a request needs a pattern: a policy runs there that gives `matches` a literal text.
 use Rattle.std.specs.Prelude.{◌≡◌, ◌⊎◌, false, List, [], ◌∷◌, Option, Ok}
-use Rattle.vap_policy.specs.PolicyPatterns.{PolicyMayMatch}
+use Rattle.vap_policy_evaluation.specs.PolicyPatterns.{PolicyMayMatch}
 use Rattle.vap_read_objects.specs.declared.kind.Kind.{Kind}
 use Rattle.vap_match.specs.declared.request.Admission.{Admission}
 use Rattle.vap_policy_set.specs.Ready.{type_at}

@@ -1,7 +1,8 @@
 //! What is judged.
 
-ghost use Rattle.std.specs.Prelude.{◌≡◌};
+ghost use Rattle.std.specs.Prelude.{◌≡◌, ◌&&◌};
 ghost use Rattle.std.specs.Option.{option_copied};
+ghost use Rattle.vap_match.specs.Choose.{selects_namespace, selects_object};
 ghost use Rattle.vap_match.specs.Select.{lent_labels};
 ghost use Rattle.vap_read_objects.specs.OfKind.{labels_in};
 ghost use Rattle.vap_policy_set.specs.Ready.{type_at};
@@ -12,7 +13,7 @@ ghost use Rattle.vap_policy.specs.Places.{kind_at};
 ghost use Rattle.vap_policy.specs.Ready.{IsCase};
 ghost use Rattle.vap_policy.specs.Shown.{case_of};
 
-use vap_match::{Labels, OpenRequest, Rules, matches};
+use vap_match::{Labels, OpenRequest, Rules, covers, selects_namespace, selects_object};
 use vap_policy_programs::Held;
 use vap_policy_set::PolicySet;
 use vap_read_objects::Kind;
@@ -56,6 +57,17 @@ impl<'a> Case<'a> {
         requires { IsCase self.now }
         ensures { result ≡ is_matched (case_of self.now) rules.now }
     {
-        matches(rules, self.request, &self.labels)
+        covers(rules, self.request.request) && self.is_selected(rules)
+    }
+
+    /// Whether rules select the request's namespace and an object of it. Rules without selectors do, whatever these are.
+    fn is_selected(&self, rules: &Rules) -> bool
+        ensures { result ≡ (selects_namespace rules.now self.now.request.now.request.now.admission (lent_labels self.now.labels)
+            && selects_object rules.now self.now.request.now.request.now.admission) }
+    {
+        if rules.namespace_selector.is_none() && rules.object_selector.is_none() {
+            return true;
+        }
+        selects_namespace(rules, self.request, &self.labels) && selects_object(rules, self.request)
     }
 }

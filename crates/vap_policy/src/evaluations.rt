@@ -8,7 +8,7 @@ ghost use Rattle.cel_machine.specs.declared.fault.RunFault.TheVariants.{Pattern}
 ghost use Rattle.cel_operators_applied.specs.Lent.{lent};
 ghost use Rattle.cel_operators.specs.Outcomes.{slots_fit};
 ghost use Rattle.cel_value.specs.declared.cel_type.CelType.{CelType};
-ghost use Rattle.vap_policy.specs.PolicyPatterns.{PolicyMayMatch};
+ghost use Rattle.vap_policy_evaluation.specs.PolicyPatterns.{PolicyMayMatch};
 ghost use Rattle.vap_policy_programs.specs.Pairs.{most, price_of};
 ghost use Rattle.vap_policy_programs.specs.Ready.{IsReady};
 ghost use Rattle.vap_policy_set.specs.Ready.{IsReadyAt};
@@ -114,7 +114,7 @@ impl Judging<'_> {
         ];
         let mut failures = Vec::new(self.alloc);
         let mut notes = Vec::new(self.alloc);
-        let charged = crate::evaluation::judge(
+        let charged = vap_policy_evaluation::judge(
             self.alloc,
             rule.failure_policy,
             programs,

@@ -5,12 +5,10 @@ ghost use Rattle.vap_policy.specs.Evaluations.{Failed, finding_of, found_by, joi
 ghost use Rattle.vap_policy.specs.Judging.{verdict_by};
 ghost use Rattle.vap_policy.specs.Shown.{findings_of, rule_of};
 
-use crate::decision::verdict_of;
-use crate::finding::{Finding, Note};
-use crate::found::{Failure, Note as FoundNote};
-use crate::verdict::Verdict;
 use base_containers::Text;
 use std::alloc::{AllocError, Global};
+use vap_policy_evaluation::{Failure, Note as FoundNote};
+use vap_policy_verdict::{Finding, Note, Verdict, verdict_of};
 use vap_read::{FailurePolicy, Reason, ValidationActions};
 
 /// The names of a policy and of a binding, and what becomes of a failure under them.

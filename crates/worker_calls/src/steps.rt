@@ -8,7 +8,7 @@ use serde_json::Value as Json;
 use std::alloc::{AllocError, Global};
 use vap_audit::History;
 use vap_match::Request;
-use vap_plane::{Step, World, play};
+use vap_plane_steps::{Step, World, play};
 use vap_read::Event;
 use vap_watch::revision_of;
 

@@ -27,7 +27,7 @@ use vap_plane::{
     CloseError, Gate, GatherError, Judged, Kept, Pass, Plan, PlaneError, SharedHistory, Worker,
     close, gather, run_workers, told_to,
 };
-use vap_policy::{Verdict, unfit_verdict};
+use vap_policy_verdict::{Verdict, unfit_verdict};
 use vap_read::{Event, EventError};
 use vap_watch::{ReaderSource, StageFault, Told, Writer, open};
 

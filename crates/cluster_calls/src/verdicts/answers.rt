@@ -4,7 +4,7 @@ use crate::matching::agreed;
 use crate::verdicts::found::{findings_of, notes_of};
 use calls_notation::json;
 use std::alloc::{AllocError, Global};
-use vap_policy::{Verdict, answer_text, unfit_verdict, verdict_of};
+use vap_policy_verdict::{Verdict, answer_text, unfit_verdict, verdict_of};
 
 /// The uid of each request.
 const UID: &str = "u1";

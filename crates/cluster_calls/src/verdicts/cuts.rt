@@ -2,7 +2,7 @@
 
 use crate::verdicts::found::note;
 use std::alloc::{AllocError, Global};
-use vap_policy::{Note, Verdict, cut, verdict_of};
+use vap_policy_verdict::{Note, Verdict, cut, verdict_of};
 
 /// What is left of a text within so many bytes.
 pub fn within(alloc: Global, text: &str, most: usize) -> Result<String, AllocError> {

@@ -6,7 +6,7 @@ use base_containers::Text;
 use serde_json::Value as Json;
 use std::alloc::{AllocError, Global};
 use vap_match::{items_in, text_in, text_of};
-use vap_policy::{Finding, Note};
+use vap_policy_verdict::{Finding, Note};
 use vap_read::{Reason, ValidationActions};
 
 fn has_word(words: &[Json], wanted: &str) -> bool {

@@ -1,7 +1,10 @@
 //! Runs of programs.
 
+ghost use Rattle.std.specs.Prelude.{◌≡◌, true};
+ghost use Rattle.cel_operators.specs.Outcomes.{slots_fit as fits_slots};
+
 use calls_notation::{shown, value_at};
-use cel_machine::{Matchers, Run, RunError, RunFault, Slots, run, slots_fit};
+use cel_machine::{Matchers, Memory, Run, RunError, RunFault, Slots, run_on, slots_fit};
 use cel_value::{CelError, Value};
 use cel_verify::Program;
 use serde_json::Value as Json;
@@ -47,9 +50,29 @@ fn run_often(
     values: &[Result<Value, CelError>],
     runs: usize,
 ) -> Result<String, AllocError> {
+    let lent = lend_all(alloc, values)?;
+    let made: Vec<Result<Value, CelError>> = Vec::new(alloc);
+    let slots = Slots::new(lent.as_slice(), made.as_slice());
+    if slots_fit(program, &slots) {
+        last_with(alloc, program, &slots, runs)
+    } else {
+        String::from_str(alloc, "does not fit")
+    }
+}
+
+/// What the last of so many runs on the same memory results in.
+fn last_with<'a>(
+    alloc: Global,
+    program: &'a Program,
+    slots: &'a Slots<'_>,
+    runs: usize,
+) -> Result<String, AllocError>
+    requires { fits_slots program.now.slots slots.now ≡ true }
+{
+    let mut memory = Memory::new(alloc);
     let mut last = String::new(alloc);
     for _ in 0..runs {
-        last = run_with(alloc, program, values)?;
+        last = run_with(alloc, program, slots, &mut memory)?;
     }
     Ok(last)
 }
@@ -73,19 +96,16 @@ fn lend_all<'a>(
 }
 
 /// What a run results in if slots hold these, what it charges, its steps and the constants of its program.
-fn run_with(
+fn run_with<'a>(
     alloc: Global,
-    program: &Program,
-    values: &[Result<Value, CelError>],
-) -> Result<String, AllocError> {
-    let lent = lend_all(alloc, values)?;
-    let made: Vec<Result<Value, CelError>> = Vec::new(alloc);
-    let slots = Slots::new(lent.as_slice(), made.as_slice());
-    if !slots_fit(program, &slots) {
-        return String::from_str(alloc, "does not fit");
-    }
+    program: &'a Program,
+    slots: &'a Slots<'_>,
+    memory: &mut Memory<'a>,
+) -> Result<String, AllocError>
+    requires { fits_slots program.now.slots slots.now ≡ true }
+{
     let mut matchers = Matchers::new(alloc);
-    match &run(alloc, program, &slots, &mut matchers) {
+    match &run_on(alloc, program, slots, memory, &mut matchers) {
         Ok(ended) => run_text(alloc, program, ended),
         Err(RunError::Fault(RunFault::Pattern)) => String::from_str(alloc, "Pattern"),
         Err(RunError::OutOfMemory) => Err(AllocError),

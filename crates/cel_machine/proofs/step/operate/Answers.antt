@@ -9,7 +9,7 @@ pub returns-in-Some-clause-acts : goal.returns-in-Some-clause-acts
 returns-in-Some-clause-acts c = λ frames.
     let at = c.args.position.now.at in
     let before = c.args.stack.now.items in
-    let answer = truth_made c.in-Some.holds in
+    let answer = truth_made c.in-Some.comparison in
     let makes : made_of_two (row c.args.op) before ≡ Some answer =
     ap (made_of_two (row c.args.op)) c.as_slice.ensures ∙ c.in-Some.ensures in
     let there : made (Some answer) at (below_two before) frames

@@ -1,5 +1,5 @@
 use denote.Param.Send.{sendable}
-use Rattle.vap_policy.proofs.Crossing.{verdict_send, verdict_sync}
+use Rattle.vap_policy_verdict.proofs.Crossing.{verdict_send, verdict_sync}
 use Rattle.report_notation.proofs.threads.verdicts_cross_threads.Goals as goal
 
 pub crosses_threads-requires-send-T : goal.crosses_threads-requires-send-T

@@ -1,7 +1,7 @@
 use Rattle.std.proofs.Common.{◌≡◌, List, ◌++◌, Result, Ok, Err, ap, ◌∙◌, append_assoc, codes}
 use Rattle.std.specs.Prelude.{OnOk}
 use Rattle.json.specs.Token.{Token}
-use Rattle.vap_policy.specs.Members.{number_member}
+use Rattle.vap_policy_verdict.specs.Members.{number_member}
 use Rattle.vap_cli_replay.specs.AuditLine.{number_members}
 use Rattle.vap_cli_replay.proofs.audit_line.put_numbers.Goals as goal
 

@@ -1,5 +1,5 @@
 use Rattle.std.proofs.Common.{◌≡◌, arith, rules}
-use Rattle.vap_policy.specs.declared.verdict.Verdict.{Verdict}
+use Rattle.vap_policy_verdict.specs.declared.verdict.Verdict.{Verdict}
 use Rattle.vap_cli_replay.proofs.Crews.{all_next, all_whole}
 use Rattle.vap_cli_replay.proofs.crew.are_at.Goals as goal
 

@@ -2,7 +2,7 @@ use Rattle.std.proofs.Common.{◌≡◌, ◌∙◌, ℕ, List, length, sym, ap, 
 use Rattle.std.specs.Prelude.{true}
 use Rattle.std.specs.List.{All}
 use Rattle.vap_watch.specs.Shown.{Shown}
-use Rattle.vap_policy.specs.declared.verdict.Verdict.{Verdict}
+use Rattle.vap_policy_verdict.specs.declared.verdict.Verdict.{Verdict}
 use Rattle.vap_watch.specs.declared.log.Logged.{Logged}
 use Rattle.vap_plane.specs.Answers.{verdicts_at}
 use Rattle.vap_plane.proofs.There.{all_there}

@@ -1,5 +1,5 @@
 use Rattle.std.proofs.Common.{◌≡◌, ◌∙◌, ◌++◌, ◌∷◌, [], ℕ, List, sym, ap, subst}
-use Rattle.vap_policy.specs.declared.verdict.Verdict.{Verdict}
+use Rattle.vap_policy_verdict.specs.declared.verdict.Verdict.{Verdict}
 use Rattle.vap_plane.specs.Answers.{AreRight}
 use Rattle.vap_plane.proofs.Replies.{one_more}
 use Rattle.vap_plane.proofs.messages.Answers.push.Goals as goal

@@ -1,6 +1,0 @@
-use Rattle.std.proofs.Common.{◌≡◌, ◌≤◌, take}
-use Rattle.vap_plane.specs.Steps.{Runs, opening}
-use Rattle.vap_plane.proofs.world.play.Given as goal
-
-abbrev pub invariant-loop-step : goal.invariant-loop-step
-invariant-loop-step l = Runs (take l.step-index l.steps) opening l.world × (l.world.entered ≤ l.step-index)

@@ -1,6 +1,0 @@
-use Rattle.std.proofs.Common.{◌≡◌, ◌++◌, drop}
-use Rattle.vap_policy.specs.Verdicts.{warnings_of}
-use Rattle.vap_policy.proofs.decision.warnings_of.Given as goal
-
-abbrev pub invariant-loop-failure : goal.invariant-loop-failure
-invariant-loop-failure l = l.made.items ++ warnings_of (drop l.failure-index l.findings) ≡ warnings_of l.findings

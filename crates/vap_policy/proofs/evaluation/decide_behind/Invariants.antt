@@ -1,4 +1,0 @@
-use Rattle.vap_policy.proofs.evaluation.decide_behind.Given as goal
-
-abbrev pub ghost-decide : goal.ghost-decide
-ghost-decide g a = g.types

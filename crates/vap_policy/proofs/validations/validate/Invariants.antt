@@ -1,4 +1,0 @@
-use Rattle.vap_policy.proofs.validations.validate.Given as goal
-
-abbrev pub ghost-message : goal.ghost-message
-ghost-message g a = g.types
