@@ -16,14 +16,14 @@ ABOVE = "cel_lex"
 PARTS = [*(f"base_containers/{part}" for part in ("src", "specs", "proofs")), "cel_code/src", *(f"{ABOVE}/{part}" for part in record.PARTS)]
 # What is changed: a file, a text that it has, what takes its place, and whether the line still matches.
 CHANGES = [
-    ("the body of a public function below", "base_containers/src/text.rt", "text: self.text.clone()?", "text: String::new(alloc)", True),
-    ("a comment below", "base_containers/src/text.rt", "/// A `String` that", "/// A text that", True),
+    ("the body of a public function below", "base_containers/src/text.rt", "Held::Long(text.clone()?)", "Held::Long(String::new(alloc))", True),
+    ("a comment below", "base_containers/src/text.rt", "/// A text that contracts", "/// What contracts", True),
     ("a function below that is not public", "base_containers/src/text_map.rt", "fn place_of(", "fn place_under(", True),
-    ("answers of a function's own proof below", "base_containers/proofs/text/Text/copy/Answers.antt", "\n", "\n\n", True),
+    ("answers of a function's own proof below", "base_containers/proofs/lines/feed_at/Answers.antt", "\n", "\n\n", True),
     ("a crate that is not below", "cel_code/src/lib.rt", "//! ", "use x;\n//! ", True),
     ("a clause below", "base_containers/src/text.rt", "t ≡ self.now", "t ≡ []", False),
     ("a signature below", "base_containers/src/text_map.rt", "pub fn len(&self) -> usize", "pub fn len(self) -> usize", False),
-    ("what contracts see of a type below", "base_containers/src/text.rt", "string_bytes t.text", "[]", False),
+    ("what contracts see of a type below", "base_containers/src/text.rt", "bytes_of t.held", "[]", False),
     ("a definition below", "base_containers/specs/Keys.antt", "keys_in es = map", "keys_in es = rev", False),
     ("a lemma below", "base_containers/proofs/Order.antt", "Below a b", "Above a b", False),
     ("a body of its own", f"{ABOVE}/src/scan.rt", "{\n", "{\n\n", False),

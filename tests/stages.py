@@ -23,6 +23,9 @@ FOR_TWO = 17 * 2**20
 BEHIND = 2
 # After how many seconds a check holds most of the memory that it needs.
 UNDER_WAY = 60
+# For how many lines a run does not begin early: there nothing goes on beside the last crate, and a run that begins when it has ended counts
+# all memory as free, and so room for two jobs.
+NEAR_END = 3000
 # What `rt ci` says of a crate that is built, and of one that another run has proved or is at.
 BUILT = re.compile(r"rt: (\w+) (?:proved|is kept)")
 ELSEWHERE = re.compile(r"rt: (\w+)(?: is kept|: another run)")
@@ -167,8 +170,8 @@ class Proofs:
         return [it for it in self.listed.below[crate] if not self.place_of(it)]
 
     def begin_following(self, running, left):
-        """Begins the run of the first crate that waits only for the crate for which the most lines wait, if that one's check is under way
-        and memory is left for two jobs of any crate. Ends a run that waits in vain."""
+        """Begins the run of the first crate that waits only for the crate for which the most lines wait, if it is not near the end, that
+        one's check is under way and memory is left for two jobs of any crate. Ends a run that waits in vain."""
         waiting = [it for it, run in self.runs.items() if self.lacking(it) and not run.has_ended]
         first = max(running, key=self.lengths.get, default=None)
         is_early = not first or time.monotonic() < self.begun[first] + UNDER_WAY

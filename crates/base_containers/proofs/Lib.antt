@@ -1,4 +1,5 @@
 pub mod BytesRead
+pub mod Feeds
 pub mod Order
 pub mod Removal
 pub mod Splits

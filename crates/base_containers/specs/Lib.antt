@@ -3,6 +3,7 @@ pub mod formers
 pub mod Failures
 pub mod Counted
 pub mod Handing
+pub mod Held
 pub mod Lines
 pub mod Accepted
 pub mod DocumentCode

@@ -44,7 +44,7 @@ IsLine old new line TooLong = Consumes old new line × GoesOn new line
 
 -- the most bytes that may still come, if a read gives at most so many
 abbrev pub room : Pending → ℕ
-room pending = pending.reads * 65536 + length pending.bytes
+room pending = pending.reads * 262144 + length pending.bytes
 
 -- at most so many of the reads gave no byte. Each other read gave at least one, and the known bytes are fewer by those
 abbrev pub AllGive : ℕ → Option (List ℕ) → Option (List ℕ) → Pending → Pending → Type 0

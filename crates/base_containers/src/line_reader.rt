@@ -18,7 +18,7 @@ use std::marker::Model;
 pub const MOST_READS: u64 = 1_099_511_627_776;
 
 /// How many bytes one read may give.
-const CHUNK: usize = 65_536;
+const CHUNK: usize = 262_144;
 
 /// What was read and not yet handed on. Contracts see it as these bytes with the number of reads that may follow.
 #[derive(Drop)]
@@ -37,7 +37,7 @@ impl Model for LineReader {
 
     ghost view = { λ r. record { bytes = slice_range r.chunk.items r.at r.end; reads = r.reads } };
 
-    ghost invariant = { λ r. (r.at ≤ r.end) × (r.end ≤ vec_len r.chunk) × (vec_len r.chunk ≡ 65536) };
+    ghost invariant = { λ r. (r.at ≤ r.end) × (r.end ≤ vec_len r.chunk) × (vec_len r.chunk ≡ 262144) };
 }
 
 impl LineReader {

@@ -31,7 +31,7 @@ pub(crate) fn feed_at(bytes: &[u8]) -> Option<usize>
         × (bytes.now ≡ take i bytes.now ++ 10 ∷ drop (i + 1) bytes.now) × All (λ x. x ≢ 10) (take i bytes.now)) }
     ensures none { IfNone result (All (λ x. x ≢ 10) bytes.now) }
 {
-    bytes.iter().position(|b| *b == b'\n')
+    memchr::memchr(b'\n', bytes)
 }
 
 pub(crate) fn append(line: &mut Vec<u8>, bytes: &[u8]) -> Result<(), LineError>

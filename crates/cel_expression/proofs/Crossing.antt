@@ -1,6 +1,6 @@
 -- Compiled expressions may go to another thread.
 use denote.Param.Send.{IsSend, IsSync, sendable}
-use Rattle.std.proofs.Crossing.{crosses}
+use Rattle.base_containers.proofs.Crossing.{crosses}
 use Rattle.cel_value.proofs.Crossing.{type_send, type_sync}
 use Rattle.cel_verify.proofs.Crossing.{program_send, program_sync}
 use Rattle.cel_expression.specs.contracts.compiled.Compiled as compiled

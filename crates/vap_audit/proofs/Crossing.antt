@@ -1,7 +1,6 @@
 -- Histories may go to another thread, type by type: each search ends at what was shown before it.
 use denote.Param.Send.{IsSend, IsSync, sendable}
-use Rattle.std.proofs.Crossing.{crosses}
-use Rattle.base_containers.proofs.Crossing.{document_send, document_sync}
+use Rattle.base_containers.proofs.Crossing.{crosses, document_send, document_sync}
 use Rattle.vap_policy_verdict.proofs.Crossing.{verdict_send, verdict_sync}
 use Rattle.vap_watch.proofs.Crossing.{log_send, log_sync}
 use Rattle.vap_match.specs.contracts.request.Admission as admission

@@ -15,9 +15,9 @@ use Rattle.vap_cli_replay.specs.Moves.{IsRefusal, RefusesAt, Takes}
 use Rattle.vap_cli_replay.specs.Replay.{answers_text, entry_of}
 use Rattle.vap_cli_replay.specs.Sessions.{Answered, HasRoom, IsInStep, RefusesEvent, TakesEvent, TakesReview}
 use Rattle.vap_cli_replay.specs.Sessions.{group_entries, sofar_of, waiting_entries}
-use Rattle.vap_cli_replay.specs.declared.fault.LineFault.{LineFault}
-use Rattle.vap_cli_replay.specs.declared.fault.LineFault.TheVariants as fault
-use Rattle.vap_cli_replay.specs.declared.line.Line.TheVariants.{Happens, Asks, Refused}
+use Rattle.vap_cli_lines.specs.declared.fault.LineFault.{LineFault}
+use Rattle.vap_cli_lines.specs.declared.fault.LineFault.TheVariants as fault
+use Rattle.vap_cli_lines.specs.declared.line.Line.TheVariants.{Happens, Asks, Refused}
 use Rattle.vap_cli_replay.specs.declared.session.Session.{Session}
 use Rattle.vap_cli_replay.proofs.Groups.{group_last, group_length}
 use Rattle.vap_cli_replay.proofs.Taking.{event_refused, review_refused, took_event}

@@ -9,9 +9,9 @@ use Rattle.vap_watch.specs.declared.log.Logged.{Logged}
 use Rattle.vap_audit.specs.Entries.{most_entries}
 use Rattle.vap_cli_replay.specs.Moves.{after_lines, and_then}
 use Rattle.vap_cli_replay.specs.Replay.{Choices, Sofar, after_line}
-use Rattle.vap_cli_replay.specs.declared.fault.LineFault.{LineFault}
-use Rattle.vap_cli_replay.specs.declared.line.Line.{Line}
-use Rattle.vap_cli_replay.specs.declared.line.Line.TheVariants.{Skipped, Happens, Asks, Refused}
+use Rattle.vap_cli_lines.specs.declared.fault.LineFault.{LineFault}
+use Rattle.vap_cli_lines.specs.declared.line.Line.{Line}
+use Rattle.vap_cli_lines.specs.declared.line.Line.TheVariants.{Skipped, Happens, Asks, Refused}
 
 -- one line more is counted, and the log goes on
 pub record GoesOn (s t : Sofar) : Type 0 where

@@ -2,14 +2,11 @@ pub mod Arms
 pub mod Auditing
 pub mod Choosing
 pub mod Crews
-pub mod Crossing
 pub mod Endings
 pub mod Groups
 pub mod Growth
-pub mod LineQueues
 pub mod Next
 pub mod Reached
-pub mod Reading
 pub mod Steps
 pub mod Stopping
 pub mod Taking

@@ -7,14 +7,14 @@ use Rattle.base_containers.specs.Lines.{IsFirst, IsLine, lines_of}
 use Rattle.base_containers.specs.declared.counted.Counted.{Counted}
 use Rattle.base_containers.specs.declared.lines.Ending.{Ending}
 use Rattle.base_containers.specs.declared.lines.Ending.TheVariants.{Feed, End, TooLong}
-use Rattle.vap_cli_replay.specs.Lines.{Reads}
+use Rattle.vap_cli_lines.specs.Lines.{Reads}
 use Rattle.vap_cli_replay.specs.Moves.{Advances, IsReadAs, RefusesAt, RefusesBytes, RefusesNext, Takes, Waits}
 use Rattle.vap_cli_replay.specs.Sessions.{sofar_of}
 use Rattle.vap_cli_replay.specs.Streams.{Stops}
-use Rattle.vap_cli_replay.specs.declared.fault.LineFault.{LineFault}
-use Rattle.vap_cli_replay.specs.declared.fault.LineFault.TheVariants as fault
-use Rattle.vap_cli_replay.specs.declared.line.Line.{Line}
-use Rattle.vap_cli_replay.specs.declared.line.Line.TheVariants.{Asks, Refused}
+use Rattle.vap_cli_lines.specs.declared.fault.LineFault.{LineFault}
+use Rattle.vap_cli_lines.specs.declared.fault.LineFault.TheVariants as fault
+use Rattle.vap_cli_lines.specs.declared.line.Line.{Line}
+use Rattle.vap_cli_lines.specs.declared.line.Line.TheVariants.{Asks, Refused}
 use Rattle.vap_cli_replay.specs.declared.session.Session.{Session}
 use Rattle.vap_cli_replay.proofs.Choosing.{agrees_itself, choices_of}
 use Rattle.vap_cli_replay.proofs.Growth.{goes_on}

@@ -4,12 +4,12 @@ use Rattle.std.proofs.Math.Seq.{take-append-add}
 use Rattle.base_containers.specs.declared.lines.Ending.{Ending}
 use Rattle.vap_watch.specs.declared.log.Logged.{Logged}
 use Rattle.vap_audit.specs.declared.entry.Entry.{Entry}
-use Rattle.vap_cli_replay.specs.Lines.{EachReads}
+use Rattle.vap_cli_lines.specs.Lines.{EachReads}
 use Rattle.vap_cli_replay.specs.Moves.{Advances, Reaches, after_lines, lines_ended}
 use Rattle.vap_cli_replay.specs.Replay.{Choices, Replayed, Sofar, beginning, replayed}
 use Rattle.vap_cli_replay.specs.Sessions.{Agrees, group_entries, sofar_of}
-use Rattle.vap_cli_replay.specs.declared.fault.LineFault.{LineFault}
-use Rattle.vap_cli_replay.specs.declared.line.Line.{Line}
+use Rattle.vap_cli_lines.specs.declared.fault.LineFault.{LineFault}
+use Rattle.vap_cli_lines.specs.declared.line.Line.{Line}
 use Rattle.vap_cli_replay.specs.declared.session.Session.{Session}
 use Rattle.vap_cli_replay.proofs.Choosing.{agrees_itself, agrees_start, choices_of}
 use Rattle.vap_cli_replay.proofs.Growth.{lines_counted, log_goes_on}

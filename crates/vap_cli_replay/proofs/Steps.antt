@@ -1,10 +1,10 @@
 -- One line more.
 use Rattle.std.proofs.Common.{◌≡◌, ℕ, List, [], ◌∷◌, ◌++◌, Result, Ok, Err, ap}
-use Rattle.vap_cli_replay.specs.Lines.{EachReads}
+use Rattle.vap_cli_lines.specs.Lines.{EachReads}
 use Rattle.vap_cli_replay.specs.Moves.{after_lines, and_then}
 use Rattle.vap_cli_replay.specs.Replay.{Choices, Sofar, after_line, behind, replay_from}
-use Rattle.vap_cli_replay.specs.declared.fault.LineFault.{LineFault}
-use Rattle.vap_cli_replay.specs.declared.line.Line.{Line}
+use Rattle.vap_cli_lines.specs.declared.fault.LineFault.{LineFault}
+use Rattle.vap_cli_lines.specs.declared.line.Line.{Line}
 
 -- more lines are read after others
 pub reads_more : (bytes more : List (List ℕ)) (lines others : List Line) → EachReads bytes lines → EachReads more others

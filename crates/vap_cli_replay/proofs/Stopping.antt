@@ -9,14 +9,14 @@ use Rattle.base_containers.specs.Counted.{inner_of}
 use Rattle.base_containers.specs.Lines.{lines_of}
 use Rattle.base_containers.specs.declared.counted.Counted.{Counted}
 use Rattle.vap_audit.specs.declared.entry.Entry.{Entry}
-use Rattle.vap_cli_replay.specs.Lines.{Reads}
+use Rattle.vap_cli_lines.specs.Lines.{Reads}
 use Rattle.vap_cli_replay.specs.Moves.{Reaches, RefusesAt, StopsAt, after_lines}
 use Rattle.vap_cli_replay.specs.Replay.{Choices, Replayed, Sofar, answer_line, answers_text, audit_line, beginning, behind, replay_from}
 use Rattle.vap_cli_replay.specs.Replay.{replayed, text_of, told_lines}
 use Rattle.vap_cli_replay.specs.Sessions.{Agrees, sofar_of, waiting_entries}
 use Rattle.vap_cli_replay.specs.Streams.{Refuses, Stops, are_all_lines}
-use Rattle.vap_cli_replay.specs.declared.fault.LineFault.{LineFault}
-use Rattle.vap_cli_replay.specs.declared.line.Line.{Line}
+use Rattle.vap_cli_lines.specs.declared.fault.LineFault.{LineFault}
+use Rattle.vap_cli_lines.specs.declared.line.Line.{Line}
 use Rattle.vap_cli_replay.specs.declared.session.Session.{Session}
 use Rattle.vap_cli_replay.proofs.Choosing.{agrees_itself, choices_of}
 use Rattle.vap_cli_replay.proofs.Groups.{answers_more}

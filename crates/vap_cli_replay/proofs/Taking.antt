@@ -22,16 +22,16 @@ use Rattle.base_containers.specs.declared.lines.Ending.{Ending}
 use Rattle.base_containers.specs.declared.lines.Ending.TheVariants.{Feed, End, TooLong}
 use Rattle.vap_audit.specs.Entries.{most_entries}
 use Rattle.vap_audit.specs.declared.entry.Entry.{Entry}
-use Rattle.vap_cli_replay.specs.Lines.{Reads}
+use Rattle.vap_cli_lines.specs.Lines.{Reads}
 use Rattle.vap_cli_replay.specs.Moves.{Advances, IsReadAs, Takes, Waits, Writes, after_lines, and_then, lines_ended}
 use Rattle.vap_cli_replay.specs.Replay.{Choices, Sofar, after_event, after_line, after_review, answers_text, entry_of}
 use Rattle.vap_cli_replay.specs.Sessions.{Agrees, RefusesEvent, TakesEvent, TakesReview, sofar_of, unpublished, unstaged, waiting_entries}
 use Rattle.vap_cli_replay.specs.Streams.{is_of_the_lines}
-use Rattle.vap_cli_replay.specs.declared.fault.LineFault.{LineFault}
-use Rattle.vap_cli_replay.specs.declared.fault.LineFault.TheVariants as fault
+use Rattle.vap_cli_lines.specs.declared.fault.LineFault.{LineFault}
+use Rattle.vap_cli_lines.specs.declared.fault.LineFault.TheVariants as fault
 use Rattle.vap_cli_replay.specs.declared.fault.ReplayError.TheVariants.{Line}
-use Rattle.vap_cli_replay.specs.declared.line.Line.{Line as LineOf}
-use Rattle.vap_cli_replay.specs.declared.line.Line.TheVariants.{Happens, Asks, Refused}
+use Rattle.vap_cli_lines.specs.declared.line.Line.{Line as LineOf}
+use Rattle.vap_cli_lines.specs.declared.line.Line.TheVariants.{Happens, Asks, Refused}
 use Rattle.vap_cli_replay.specs.declared.session.Session.{Session}
 use Rattle.vap_cli_replay.proofs.Choosing.{agrees_itself, choices_of, kept_last}
 use Rattle.vap_cli_replay.proofs.Told.{appends_none}

@@ -2,15 +2,15 @@
 use Rattle.std.proofs.Common.{◌≡◌, ◌≢◌, ◌<◌, ℕ, false, List, [], ◌∷◌, Contains, Some, refl, subst, zero, suc, arith}
 use Rattle.std.specs.Prelude.{slice_get}
 use Rattle.vap_match.specs.declared.request.Request.{Request}
-use Rattle.vap_plane.specs.declared.fault.PlaneFault.{PlaneFault}
+use Rattle.vap_plane_gathering.specs.declared.fault.PlaneFault.{PlaneFault}
 use Rattle.vap_watch.specs.Logs.{set_of}
 use Rattle.vap_watch.specs.declared.log.Logged.{Logged}
 use Rattle.vap_audit.specs.Verdicts.{MayMatch}
 use Rattle.vap_cli_replay.specs.Groups.{IsOfGroup, OneMayMatch, TellsRequests}
-use Rattle.vap_cli_replay.specs.declared.fault.LineFault.{LineFault}
+use Rattle.vap_cli_lines.specs.declared.fault.LineFault.{LineFault}
 use Rattle.vap_cli_replay.specs.Streams.{is_of_the_lines}
-use Rattle.vap_cli_replay.specs.declared.fault.LineFault.TheVariants as fault
-use Rattle.vap_cli_replay.specs.declared.fault.LineFault.TheVariants.{Pattern, Stray, OfWorkers}
+use Rattle.vap_cli_lines.specs.declared.fault.LineFault.TheVariants as fault
+use Rattle.vap_cli_lines.specs.declared.fault.LineFault.TheVariants.{Pattern, Stray, OfWorkers}
 use Rattle.vap_cli_replay.specs.declared.fault.ReplayError.TheVariants.{Line}
 
 contains_at : {X : Type 0} (xs : List X) (k : ℕ) (x : X) → slice_get xs k ≡ Some x → Contains xs x

@@ -9,7 +9,7 @@ use Rattle.vap_audit.specs.declared.entry.Entry.{Entry}
 use Rattle.vap_cli_replay.specs.Moves.{RefusesNext, StopsAt, Writes}
 use Rattle.vap_cli_replay.specs.Replay.{answers_text}
 use Rattle.vap_cli_replay.specs.Streams.{Refuses, Stops}
-use Rattle.vap_cli_replay.specs.declared.fault.LineFault.{LineFault}
+use Rattle.vap_cli_lines.specs.declared.fault.LineFault.{LineFault}
 use Rattle.vap_cli_replay.specs.declared.fault.ReplayError.{ReplayError}
 use Rattle.vap_cli_replay.specs.declared.fault.ReplayError.TheVariants.{Write, Line as AtLine}
 use Rattle.vap_cli_replay.specs.declared.session.Session.{Session}
@@ -49,6 +49,15 @@ pub told_unwritten : {A W : Type 0} (r : Result A ReplayError) (before after : C
     → r ≡ Err (AtLine number why) → IfErr r (λ error. error ≢ Write → after ≡ before) → after ≡ before
 told_unwritten (Ok x) before after number why is at = cc
 told_unwritten (Err e) before after number why is at = at (λ same. cc)
+
+-- a call that ends by the error of another, which wrote nothing, stops here
+pub stops_unless_written : {A B W : Type 0} (r : Result A ReplayError) (s : Result B ReplayError) (e : ReplayError)
+    (contents : W → Option (List ℕ)) (session : Session) (before after : Counted W) → r ≡ Err e → s ≡ Err e
+    → IfErr r (λ error. error ≢ Write → after ≡ before) → IfErr s (λ error. error ≢ Write → StopsAt contents session before after)
+stops_unless_written r (Ok x) e contents session before after failed is at = tt
+stops_unless_written (Ok x) (Err f) e contents session before after failed is at = cc
+stops_unless_written (Err d) (Err f) e contents session before after failed is at =
+    λ not. stops_here contents session before after (at (λ write. not (let same : f ≡ Write = cc in same)))
 
 -- the replay stops after what was taken
 pub stopped_next : {W : Type 0} (contents : W → Option (List ℕ)) (audit : Bool) (all text : Option (List ℕ)) (session : Session)

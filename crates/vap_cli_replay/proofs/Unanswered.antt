@@ -12,14 +12,14 @@ use Rattle.vap_watch.specs.Logs.{set_of}
 use Rattle.vap_watch.specs.declared.log.Logged.{Logged}
 use Rattle.vap_audit.specs.declared.entry.Entry.{Entry}
 use Rattle.vap_audit.specs.Verdicts.{MayMatch}
-use Rattle.vap_cli_replay.specs.Lines.{EachReads, IsAskedIn, Reads}
+use Rattle.vap_cli_lines.specs.Lines.{EachReads, IsAskedIn, Reads}
 use Rattle.vap_cli_replay.specs.Moves.{BeginsWith, IsUnjudged, IsUnpublished, after_lines}
 use Rattle.vap_cli_replay.specs.Replay.{Choices, Sofar, answers_text, beginning}
 use Rattle.vap_cli_replay.specs.Sessions.{TellsGroup, sofar_of, waiting_entries}
 use Rattle.vap_cli_replay.specs.Streams.{Comes, IsUnansweredAt, IsUnverifiedAt}
-use Rattle.vap_cli_replay.specs.declared.fault.LineFault.TheVariants as fault
-use Rattle.vap_cli_replay.specs.declared.line.Line.{Line}
-use Rattle.vap_cli_replay.specs.declared.line.Line.TheVariants.{Happens, Asks}
+use Rattle.vap_cli_lines.specs.declared.fault.LineFault.TheVariants as fault
+use Rattle.vap_cli_lines.specs.declared.line.Line.{Line}
+use Rattle.vap_cli_lines.specs.declared.line.Line.TheVariants.{Happens, Asks}
 use Rattle.vap_cli_replay.specs.declared.session.Session.{Session}
 use Rattle.vap_cli_replay.proofs.Choosing.{agrees_itself, choices_of}
 use Rattle.vap_cli_replay.proofs.Groups.{answers_more}

@@ -24,16 +24,16 @@ use Rattle.vap_watch.specs.Logs.{objects_after, objects_of, set_of}
 use Rattle.vap_watch.specs.Places.{Written}
 use Rattle.vap_watch.specs.declared.log.Logged.{Logged}
 use Rattle.vap_audit.specs.Verdicts.{MayMatch}
-use Rattle.vap_cli_replay.specs.Lines.{Reads, event_line, line_by, review_line}
+use Rattle.vap_cli_lines.specs.Lines.{Reads, event_line, line_by, review_line}
 use Rattle.vap_cli_replay.specs.Moves.{BeginsWith, IsReadAs, IsUnjudged, IsUnpublished, Waits, lines_ended}
 use Rattle.vap_cli_replay.specs.Replay.{answers_text}
 use Rattle.vap_cli_replay.specs.Groups.{OneMayMatch, TellsRequests}
 use Rattle.vap_cli_replay.specs.Sessions.{Answered, TakesReview, TellsGroup, first_with, waiting_entries}
 use Rattle.vap_cli_replay.specs.Streams.{IsPlain, is_of_the_lines}
-use Rattle.vap_cli_replay.specs.declared.fault.LineFault.{LineFault}
-use Rattle.vap_cli_replay.specs.declared.fault.LineFault.TheVariants as fault
-use Rattle.vap_cli_replay.specs.declared.line.Line.{Line as LineOf}
-use Rattle.vap_cli_replay.specs.declared.line.Line.TheVariants.{Skipped, Happens, Asks, Refused}
+use Rattle.vap_cli_lines.specs.declared.fault.LineFault.{LineFault}
+use Rattle.vap_cli_lines.specs.declared.fault.LineFault.TheVariants as fault
+use Rattle.vap_cli_lines.specs.declared.line.Line.{Line as LineOf}
+use Rattle.vap_cli_lines.specs.declared.line.Line.TheVariants.{Skipped, Happens, Asks, Refused}
 use Rattle.vap_cli_replay.specs.declared.session.Session.{Session}
 
 -- ---- the first line of a group

@@ -7,12 +7,12 @@ use Rattle.base_containers.specs.Lines.{IsFirstOf, lines_of}
 use Rattle.base_containers.specs.declared.lines.Ending.{Ending}
 use Rattle.base_containers.specs.declared.lines.Ending.TheVariants.{Feed, End, TooLong}
 use Rattle.vap_match.specs.declared.request.Request.{Request}
-use Rattle.vap_cli_replay.specs.Lines.{EachReads, IsAskedIn, Reads}
+use Rattle.vap_cli_lines.specs.Lines.{EachReads, IsAskedIn, Reads}
 use Rattle.vap_cli_replay.specs.Moves.{BeginsWith, IsReadAs, Reaches, TakesNext, Waits, after_lines, lines_ended}
 use Rattle.vap_cli_replay.specs.Replay.{Choices, Sofar, beginning}
 use Rattle.vap_cli_replay.specs.Sessions.{Agrees, IsOpening, sofar_of}
-use Rattle.vap_cli_replay.specs.declared.line.Line.{Line}
-use Rattle.vap_cli_replay.specs.declared.line.Line.TheVariants.{Asks}
+use Rattle.vap_cli_lines.specs.declared.line.Line.{Line}
+use Rattle.vap_cli_lines.specs.declared.line.Line.TheVariants.{Asks}
 use Rattle.vap_cli_replay.specs.declared.session.Session.{Session}
 use Rattle.vap_cli_replay.proofs.Unjudged.{first_none, first_stays, some_wait}
 use Rattle.vap_cli_replay.proofs.Reached.{agrees_same, advanced, none_waiting, reached_counted}

@@ -3,8 +3,8 @@ use Rattle.std.proofs.Common.{◌≡◌, [], ◌∷◌, ◌++◌, true, false, N
 use Rattle.vap_match.specs.declared.request.Request.{Request}
 use Rattle.vap_policy_verdict.specs.AnswerText.{answer_text}
 use Rattle.vap_cli_replay.specs.Replay.{Choices, replay_of}
-use Rattle.vap_cli_replay.specs.declared.fault.LineFault.TheVariants.{BadJson}
-use Rattle.vap_cli_replay.specs.declared.line.Line.TheVariants.{Skipped, Asks, Refused}
+use Rattle.vap_cli_lines.specs.declared.fault.LineFault.TheVariants.{BadJson}
+use Rattle.vap_cli_lines.specs.declared.line.Line.TheVariants.{Skipped, Asks, Refused}
 use Rattle.vap_audit.specs.Verdicts.{verdict_at}
 
 -- no line, no text

@@ -4,8 +4,8 @@ use Rattle.vap_match.specs.declared.request.Request.{Request}
 use Rattle.vap_watch.specs.Logs.{set_of}
 use Rattle.vap_watch.specs.declared.log.Logged.{Logged}
 use Rattle.vap_audit.specs.Verdicts.{MayMatch}
-use Rattle.vap_cli_replay.specs.declared.fault.LineFault.{LineFault}
-use Rattle.vap_cli_replay.specs.declared.fault.LineFault.TheVariants.{Pattern, Stray, OfWorkers}
+use Rattle.vap_cli_lines.specs.declared.fault.LineFault.{LineFault}
+use Rattle.vap_cli_lines.specs.declared.fault.LineFault.TheVariants.{Pattern, Stray, OfWorkers}
 
 -- at one of these requests the set of a log looks for a pattern
 pub record OneMayMatch (log : List Logged) (requests : List Request) : Type 0 where

@@ -1,8 +1,5 @@
 pub mod AuditLine
-pub mod Faults
 pub mod Groups
-pub mod Lines
-pub mod LineQueues
 pub mod Moves
 pub mod Replay
 pub mod Sessions

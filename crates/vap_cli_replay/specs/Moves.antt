@@ -12,15 +12,15 @@ use Rattle.vap_watch.specs.Given.{AreUnverified}
 use Rattle.vap_watch.specs.Logs.{objects_after, objects_of, set_of}
 use Rattle.vap_audit.specs.declared.entry.Entry.{Entry}
 use Rattle.vap_audit.specs.Verdicts.{MayMatch}
-use Rattle.vap_cli_replay.specs.Lines.{EachReads, Reads}
+use Rattle.vap_cli_lines.specs.Lines.{EachReads, Reads}
 use Rattle.vap_cli_replay.specs.Replay.{Choices, Sofar, after_line, answers_text, beginning}
 use Rattle.vap_cli_replay.specs.Sessions.{Agrees, first_with, sofar_of, waiting_entries}
-use Rattle.vap_cli_replay.specs.declared.fault.LineFault.{LineFault}
-use Rattle.vap_cli_replay.specs.declared.fault.LineFault.TheVariants as fault
+use Rattle.vap_cli_lines.specs.declared.fault.LineFault.{LineFault}
+use Rattle.vap_cli_lines.specs.declared.fault.LineFault.TheVariants as fault
 use Rattle.vap_cli_replay.specs.declared.fault.ReplayError.{ReplayError}
 use Rattle.vap_cli_replay.specs.declared.fault.ReplayError.TheVariants.{Write}
-use Rattle.vap_cli_replay.specs.declared.line.Line.{Line}
-use Rattle.vap_cli_replay.specs.declared.line.Line.TheVariants.{Happens, Asks, Refused}
+use Rattle.vap_cli_lines.specs.declared.line.Line.{Line}
+use Rattle.vap_cli_lines.specs.declared.line.Line.TheVariants.{Happens, Asks, Refused}
 use Rattle.vap_cli_replay.specs.declared.session.Session.{Session}
 
 -- what follows lines that were taken

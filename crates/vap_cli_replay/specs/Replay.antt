@@ -13,10 +13,10 @@ use Rattle.vap_audit.specs.Entries.{most_entries}
 use Rattle.vap_audit.specs.declared.entry.Entry.{Entry}
 use Rattle.vap_audit.specs.Verdicts.{verdict_at}
 use Rattle.vap_cli_replay.specs.AuditLine.{audit_text}
-use Rattle.vap_cli_replay.specs.declared.fault.LineFault.{LineFault}
-use Rattle.vap_cli_replay.specs.declared.fault.LineFault.TheVariants.{LogFull, TooManyObjects, AuditFull}
-use Rattle.vap_cli_replay.specs.declared.line.Line.{Line}
-use Rattle.vap_cli_replay.specs.declared.line.Line.TheVariants.{Skipped, Happens, Asks, Refused}
+use Rattle.vap_cli_lines.specs.declared.fault.LineFault.{LineFault}
+use Rattle.vap_cli_lines.specs.declared.fault.LineFault.TheVariants.{LogFull, TooManyObjects, AuditFull}
+use Rattle.vap_cli_lines.specs.declared.line.Line.{Line}
+use Rattle.vap_cli_lines.specs.declared.line.Line.TheVariants.{Skipped, Happens, Asks, Refused}
 
 -- the choice by which the set of each revision was built
 abbrev pub Choices : Type 0

@@ -19,8 +19,8 @@ use Rattle.vap_watch.specs.declared.fault.PublishFault.{PublishFault}
 use Rattle.vap_watch.specs.declared.fault.PublishFault.TheVariants as publishing
 use Rattle.vap_watch.specs.declared.fault.StageFault.{StageFault}
 use Rattle.vap_watch.specs.declared.fault.StageFault.TheVariants as staging
-use Rattle.vap_cli_replay.specs.declared.fault.LineFault.{LineFault}
-use Rattle.vap_cli_replay.specs.declared.fault.LineFault.TheVariants.{LogFull, TooManyObjects, Unverified}
+use Rattle.vap_cli_lines.specs.declared.fault.LineFault.{LineFault}
+use Rattle.vap_cli_lines.specs.declared.fault.LineFault.TheVariants.{LogFull, TooManyObjects, Unverified}
 use Rattle.vap_cli_replay.specs.declared.fault.ReplayError.{ReplayError}
 use Rattle.vap_cli_replay.specs.declared.fault.ReplayError.TheVariants.{Line, Read, OutOfMemory}
 use Rattle.vap_cli_replay.specs.declared.session.Session.{Session}

@@ -8,13 +8,13 @@ use Rattle.vap_match.specs.declared.request.Request.{Request}
 use Rattle.vap_watch.specs.Given.{AreUnverified}
 use Rattle.vap_watch.specs.Logs.{objects_after, objects_of, set_of}
 use Rattle.vap_audit.specs.Verdicts.{MayMatch}
-use Rattle.vap_cli_replay.specs.Lines.{EachReads, IsAskedIn}
+use Rattle.vap_cli_lines.specs.Lines.{EachReads, IsAskedIn}
 use Rattle.vap_cli_replay.specs.Moves.{after_lines}
 use Rattle.vap_cli_replay.specs.Replay.{Choices, Refusal, Sofar, answers_text, beginning, replay_of, replayed, told_lines}
-use Rattle.vap_cli_replay.specs.declared.fault.LineFault.{LineFault}
-use Rattle.vap_cli_replay.specs.declared.fault.LineFault.TheVariants as fault
-use Rattle.vap_cli_replay.specs.declared.line.Line.{Line}
-use Rattle.vap_cli_replay.specs.declared.line.Line.TheVariants.{Happens, Asks, Refused}
+use Rattle.vap_cli_lines.specs.declared.fault.LineFault.{LineFault}
+use Rattle.vap_cli_lines.specs.declared.fault.LineFault.TheVariants as fault
+use Rattle.vap_cli_lines.specs.declared.line.Line.{Line}
+use Rattle.vap_cli_lines.specs.declared.line.Line.TheVariants.{Happens, Asks, Refused}
 
 -- whether the lines alone determine a fault: they do not if it is that of a set or a pattern that cannot be built, or of workers
 abbrev pub is_of_the_lines : LineFault → Bool

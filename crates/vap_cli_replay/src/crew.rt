@@ -9,19 +9,19 @@ ghost use Rattle.cel_machine.specs.declared.fault.RunFault.TheVariants.{Pattern}
 ghost use Rattle.vap_plane.specs.Answers.{verdicts_at};
 ghost use Rattle.vap_cli_replay.specs.Groups.{TellsRequests};
 ghost use Rattle.vap_cli_replay.specs.Streams.{is_of_the_lines};
-ghost use Rattle.vap_cli_replay.specs.declared.fault.LineFault.{LineFault as FaultOf};
+ghost use Rattle.vap_cli_lines.specs.declared.fault.LineFault.{LineFault as FaultOf};
 
-use crate::fault::{LineFault, ReplayError};
+use crate::fault::ReplayError;
 use crate::recorded::is_recorded;
 use std::alloc::{AllocError, Global};
 use std::sync::Wait;
 use std::sync::ledger::{Blank, Ledger};
 use std::thread::Threads;
 use vap_audit::judge;
+use vap_cli_lines::LineFault;
 use vap_match::Request;
-use vap_plane::{
-    Open, Pass, Plan, PlaneError, PlaneFault, SharedHistory, Worker, run_workers, told_to,
-};
+use vap_plane::{Open, Pass, Plan, SharedHistory, Worker, run_workers, told_to};
+use vap_plane_gathering::{PlaneError, PlaneFault};
 use vap_policy::{JudgeError, RunFault, Workspace};
 use vap_policy_verdict::Verdict;
 use vap_watch::{ReaderError, ReaderSource, Snapshot, Told, revision_of};

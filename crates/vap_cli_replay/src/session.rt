@@ -5,7 +5,6 @@ ghost use Rattle.std.specs.Prelude.{length, take, slice_get, Some, IfErr, IfOk, 
 ghost use Rattle.std.specs.Io.KnownBytes.{Appends, Keeps};
 ghost use Rattle.std.specs.Vec.Iter.{into_iter_items};
 ghost use Rattle.base_containers.specs.Counted.{inner_of};
-ghost use Rattle.base_containers.specs.Lines.{longest_line};
 ghost use Rattle.vap_audit.specs.Entries.{most_entries};
 ghost use Rattle.vap_audit.specs.declared.entry.Entry.{Entry as EntryOf};
 ghost use Rattle.vap_plane.specs.Answers.{verdicts_at};
@@ -14,8 +13,7 @@ ghost use Rattle.vap_watch.specs.Logs.{objects_after, objects_of};
 ghost use Rattle.vap_audit.specs.Verdicts.{verdict_at};
 ghost use Rattle.vap_cli_replay.specs.Moves.{CountsWrites, IsRefusal, IsUnjudged, IsUnpublished, RefusesAt, StopsAt, Takes, Waits, Writes};
 ghost use Rattle.vap_cli_replay.specs.Streams.{IsPlain, is_of_the_lines};
-ghost use Rattle.vap_cli_replay.specs.declared.fault.LineFault.{LineFault as FaultOf};
-ghost use Rattle.vap_cli_replay.specs.Lines.{Reads};
+ghost use Rattle.vap_cli_lines.specs.declared.fault.LineFault.{LineFault as FaultOf};
 ghost use Rattle.vap_cli_replay.specs.Replay.{answer_line, answers_text, audit_line, audit_lines, audit_where, entry_of};
 ghost use Rattle.vap_cli_replay.specs.Groups.{OneMayMatch};
 ghost use Rattle.vap_cli_replay.specs.Sessions.{Answered, Decided, HasRoom, IsInStep, IsOpening, RefusesEvent, TakesEvent, TakesReview};
@@ -23,17 +21,16 @@ ghost use Rattle.vap_cli_replay.specs.Sessions.{TellsGroup, first_with, group_en
 
 use crate::audit_line::with_audit_text;
 use crate::crew::Crew;
-use crate::fault::{LineFault, ReplayError, unpublished, unstaged};
-use crate::line::{Line, read_line};
+use crate::fault::{ReplayError, unpublished, unstaged};
 use base_containers::Counted;
-use json::Scratch;
-use std::alloc::{AllocError, Global};
+use std::alloc::Global;
 use std::io::Write;
 use std::mem;
 use std::sync::Wait;
 use std::thread::Threads;
 use std::vec::IntoIter;
 use vap_audit::{AuditFault, Entry, History, MOST_ENTRIES};
+use vap_cli_lines::{Line, LineFault};
 use vap_match::Request;
 use vap_plane::Plan;
 use vap_policy_verdict::{Verdict, with_answer};
@@ -94,14 +91,6 @@ impl Session {
 
     pub(crate) fn events(&self) -> &EventReader {
         &self.events
-    }
-
-    /// What the bytes of a line are; there are no more of them than a line may have.
-    pub(crate) fn read(&self, bytes: &[u8], scratch: &mut Scratch) -> Result<Line, AllocError>
-        requires { length bytes.now ≤ longest_line }
-        ensures { IfOk result (Reads bytes.now) }
-    {
-        read_line(self.alloc, &self.events, bytes, scratch)
     }
 
     /// The refusal of the line that was read last.

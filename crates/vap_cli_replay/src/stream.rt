@@ -9,14 +9,11 @@ ghost use Rattle.vap_cli_replay.specs.Moves.{Advances, BeginsWith, CountsWrites,
 ghost use Rattle.vap_cli_replay.specs.Moves.{RefusesNext, StopsAt, TakesNext, Writes};
 ghost use Rattle.vap_cli_replay.specs.Sessions.{IsInStep, IsOpening};
 ghost use Rattle.vap_cli_replay.specs.Streams.{IsUnansweredAt, IsUnverifiedAt, Refuses, Replays, Stops, is_of_the_lines};
-ghost use Rattle.vap_cli_replay.specs.declared.fault.LineFault.{LineFault as FaultOf};
+ghost use Rattle.vap_cli_lines.specs.declared.fault.LineFault.{LineFault as FaultOf};
 
 use crate::crew::Crew;
-use crate::fault::{LineFault, ReplayError};
-use crate::line::Line;
-use crate::line_queue::{LineQueue, LineReaders};
+use crate::fault::ReplayError;
 use crate::progress::{Progress, Silent};
-use crate::queued_line::LineBuffer;
 use crate::session::Session;
 use base_containers::{Counted, Ending};
 use std::alloc::Global;
@@ -25,6 +22,7 @@ use std::marker::Brand;
 use std::sync::Wait;
 use std::sync::ledger::Blank;
 use std::thread::Threads;
+use vap_cli_lines::{Line, LineBuffer, LineFault, LineQueue, LineReaders};
 use vap_plane::Plan;
 use vap_read::EventReader;
 use vap_watch::{open, revision_of};
@@ -345,7 +343,7 @@ fn take_bytes<L: Plan + Send + Sync, H: Threads + Wait + Sync, W: Write>(
     match ending {
         Ending::TooLong => session.take(crew, Line::Refused(LineFault::TooLong), output),
         Ending::Feed => {
-            let line = buffer.read(session)?;
+            let line = buffer.read(session.events())?;
             session.take(crew, line, output)
         }
         Ending::End => take_last(session, crew, buffer, output),
@@ -381,6 +379,6 @@ fn take_last<L: Plan + Send + Sync, H: Threads + Wait + Sync, W: Write>(
     if buffer.is_empty() {
         return Ok(());
     }
-    let line = buffer.read(session)?;
+    let line = buffer.read(session.events())?;
     session.take(crew, line, output)
 }

@@ -2,9 +2,8 @@
 use Rattle.std.proofs.Common.{◌≡◌, ℕ, ◌+◌, ◌<◌, List, [], ◌∷◌, ◌++◌, length, get_or, refl, sym, ap, subst, ◌∙◌, zero, suc}
 use Rattle.std.proofs.Common.{arith, length-append}
 use Rattle.std.proofs.lemmas.List.Elements.{All-append}
-use Rattle.std.proofs.lemmas.Bool.Decides.{nat_tests}
 use Rattle.std.proofs.lemmas.Option.{slice_get_read}
-use Rattle.std.specs.Prelude.{◌==◌, slice_get, Some, Bool, true, false, if◌then◌else◌}
+use Rattle.std.specs.Prelude.{slice_get, Some}
 use Rattle.std.specs.List.{All}
 use Rattle.vap_watch.specs.Shown.{Shown}
 use Rattle.vap_match.specs.declared.request.Request.{Request}
@@ -17,9 +16,8 @@ use Rattle.vap_watch.proofs.Grows.{sees_still}
 use Rattle.vap_audit.proofs.Revisions.{verdict_revision}
 use Rattle.vap_audit.specs.Verdicts.{verdict_at}
 use Rattle.vap_plane.specs.Answers.{AreAnswers, AreRight, BeginsWithOneOf, IsAnswer, KnowsOneOf}
-use Rattle.vap_plane.specs.Numbered.{IsListOf, came, once_more}
-use Rattle.vap_plane.specs.declared.gathering.Came.{Came}
-use Rattle.vap_plane.specs.declared.gathering.Came.TheVariants.{Never, Once, Again}
+use Rattle.vap_plane_gathering.specs.Numbered.{IsListOf}
+use Rattle.vap_plane_gathering.proofs.Numbered.{came_of}
 
 -- what follows a told log follows one that was told
 pub begins_further : (told : List (Shown Logged)) (log more : List Logged) → BeginsWithOneOf told log → StartsWith more log
@@ -97,25 +95,6 @@ pub more_right : (told : List (Shown Logged)) (requests : List Request) (old mor
 more_right told requests old more all right others whole =
     subst (AreRight told requests) (sym whole)
     (All-append (λ (a : ℕ × Verdict). IsAnswer told requests a.0 a.1) old more right others)
-
-nat_same : (n m : ℕ) → (m == n) ≡ true → m ≡ n
-nat_same n m e = grind (arith, nat_tests)
-
-one : (v w : Verdict) (c : Came) → once_more v c ≡ Once w → (v ≡ w) × (c ≡ Never)
-one v w Never e = ((let s : v ≡ w = cc in s), refl)
-one v w (Once u) e = cc
-one v w Again e = cc
-
-came_by : (P : ℕ × Verdict → Type 0) (n : ℕ) (w : Verdict) (y : ℕ × Verdict) (c : Came) (b : Bool) → (y.0 == n) ≡ b
-    → (if b then once_more y.1 c else c) ≡ Once w → P y → (c ≡ Once w → P (n, w)) → P (n, w)
-came_by P n w y c true is e here rest = let o = one y.1 w c e in let s = nat_same n y.0 is in subst P (λ i. (s i, o.0 i)) here
-came_by P n w y c false is e here rest = rest e
-
--- what came once is one of the answers
-came_of : (P : ℕ × Verdict → Type 0) (n : ℕ) (w : Verdict) (ys : List (ℕ × Verdict)) → All P ys → came n ys ≡ Once w → P (n, w)
-came_of P n w [] all e = cc
-came_of P n w (y ∷ ys) all e =
-    came_by P n w y (came n ys) (y.0 == n) refl e (all zero y (omega arith)) (λ r. came_of P n w ys (all_rest P y ys all) r)
 
 -- the element at a seam
 pub at_seam : {X : Type 0} (all xs : List X) (x : X) (ys : List X) → xs ++ x ∷ ys ≡ all → slice_get all (length xs) ≡ Some x

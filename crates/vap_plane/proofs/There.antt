@@ -12,7 +12,7 @@ use Rattle.vap_watch.specs.Logs.{StartsWith}
 use Rattle.vap_watch.specs.declared.log.Logged.{Logged}
 use Rattle.vap_audit.specs.Verdicts.{verdict_at}
 use Rattle.vap_plane.specs.Answers.{AreAnswers, AreAtTold, verdicts_at}
-use Rattle.vap_plane.proofs.Numbered.{get_mapped, mapped_length}
+use Rattle.vap_plane_gathering.proofs.Numbered.{get_mapped, mapped_length}
 use Rattle.vap_plane.proofs.Replies.{all_rest}
 
 -- two lists with the same elements in the same places

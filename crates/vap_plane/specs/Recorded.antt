@@ -1,10 +1,10 @@
 -- What is recorded, and why a call is not answered.
-use Rattle.std.specs.Prelude.{◌≡◌, ◌⊎◌, ℕ, List, codes}
+use Rattle.std.specs.Prelude.{◌≡◌, ◌⊎◌, ℕ, List}
 use Rattle.vap_audit.specs.declared.entry.Entry.{Entry}
 use Rattle.base_containers.specs.declared.failed.Failed.{Failed}
 use Rattle.base_containers.specs.declared.failed.Failed.TheVariants.{OutOfMemory, Fault}
-use Rattle.vap_plane.specs.declared.fault.PlaneFault.{PlaneFault}
-use Rattle.vap_plane.specs.declared.fault.PlaneFault.TheVariants.{Double, Stranger, Lost, Judge, Audit, Gone}
+use Rattle.vap_plane_gathering.specs.declared.fault.PlaneFault.{PlaneFault}
+use Rattle.vap_plane_gathering.specs.declared.fault.PlaneFault.TheVariants.{Judge, Audit, Gone}
 use Rattle.vap_watch.specs.declared.log.Logged.{Logged}
 use Rattle.vap_match.specs.declared.request.Request.{Request}
 use Rattle.vap_policy_verdict.specs.declared.verdict.Verdict.{Verdict}
@@ -32,12 +32,3 @@ IsUnrecorded call error = (error ≡ Fault (Audit call)) ⊎ (error ≡ OutOfMem
 -- the call is not judged or not recorded, or there is no memory
 abbrev pub IsUnanswered : ℕ → Failed PlaneFault → Type 0
 IsUnanswered call error = (error ≡ Fault (Gone call)) ⊎ ((error ≡ Fault (Judge call)) ⊎ IsUnrecorded call error)
-
--- the name of a fault, as it is printed
-abbrev pub plane_fault_name : PlaneFault → List ℕ
-plane_fault_name (Double call) = codes "Double"
-plane_fault_name (Stranger call) = codes "Stranger"
-plane_fault_name (Lost call) = codes "Lost"
-plane_fault_name (Judge call) = codes "Judge"
-plane_fault_name (Audit call) = codes "Audit"
-plane_fault_name (Gone call) = codes "Gone"

@@ -2,13 +2,12 @@
 
 ghost use Rattle.std.specs.Prelude.{◌≡◌, ◌++◌, [], IfOk, OnOk};
 ghost use Rattle.vap_plane.specs.Answers.{AreRight};
-ghost use Rattle.vap_plane.specs.Numbered.{IsListOf};
+ghost use Rattle.vap_plane_gathering.specs.Numbered.{IsListOf};
 
-use crate::fault::{PlaneError, PlaneFault};
-use crate::gathering::{GatherError, GatherFault, gather};
 use crate::jobs::Batch;
 use crate::messages::{Answers, Failure};
 use std::alloc::{AllocError, Global};
+use vap_plane_gathering::{GatherError, GatherFault, PlaneError, PlaneFault, gather};
 use vap_policy_verdict::Verdict;
 
 /// Numbered answers, and, of the requests that are not answered, the failure of the one with the least number.

@@ -9,9 +9,7 @@
 
 mod closing;
 mod collected;
-mod fault;
 mod gate;
-mod gathering;
 mod jobs;
 mod kept;
 mod messages;
@@ -20,9 +18,7 @@ mod running;
 mod worker;
 
 pub use closing::{CloseError, Plan, Report, SharedHistory, close, settle};
-pub use fault::{PlaneError, PlaneFault};
 pub use gate::{Gate, Open};
-pub use gathering::{GatherError, GatherFault, gather};
 pub use jobs::Batch;
 pub use kept::Kept;
 pub use running::{run_workers, told_to};

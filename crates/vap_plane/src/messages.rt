@@ -3,10 +3,10 @@
 ghost use Rattle.std.specs.Prelude.{◌≡◌, ◌++◌, ◌∷◌, [], OnErr, OnOk};
 ghost use Rattle.vap_plane.specs.Answers.{AreRight, IsAnswer};
 
-use crate::fault::PlaneError;
 use crate::jobs::Batch;
 use std::alloc::{AllocError, Global};
 use std::marker::{Model, PhantomData};
+use vap_plane_gathering::PlaneError;
 use vap_policy_verdict::Verdict;
 
 /// What one worker answered: numbered verdicts, each the answer to the request of its number.

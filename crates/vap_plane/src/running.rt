@@ -5,7 +5,6 @@ ghost use Rattle.vap_plane.specs.Answers.{AreAnswers, AreAtTold, AreRight, Knows
 
 use crate::closing::{Plan, SharedHistory};
 use crate::collected::{Collected, joined};
-use crate::fault::PlaneError;
 use crate::gate::Gate;
 use crate::jobs::{Batch, Job, Round};
 use crate::messages::{Answers, Failure, Reply};
@@ -18,6 +17,7 @@ use std::sync::Wait;
 use std::thread;
 use std::thread::Threads;
 use vap_match::Request;
+use vap_plane_gathering::PlaneError;
 use vap_policy_verdict::Verdict;
 use vap_watch::Told;
 

@@ -9,7 +9,6 @@ ghost use Rattle.vap_audit.specs.Verdicts.{MayMatch, verdict_at};
 ghost use Rattle.vap_plane.specs.Recorded.{IsUnanswered, IsUndecided, IsUnjudged, IsUnrecorded, IsUnseen, entry_of};
 
 use crate::closing::{Plan, SharedHistory};
-use crate::fault::{PlaneError, PlaneFault};
 use crate::kept::Kept;
 use base_containers::Shared;
 use std::alloc::Global;
@@ -17,6 +16,7 @@ use std::sync::Wait;
 use std::sync::ledger::{Ledger, Share};
 use vap_audit::{AuditFault, Entry, judge};
 use vap_match::Request;
+use vap_plane_gathering::{PlaneError, PlaneFault};
 use vap_policy::{JudgeError, RunFault, Workspace};
 use vap_policy_verdict::Verdict;
 use vap_watch::{Log, Reader, ReaderError, Told};

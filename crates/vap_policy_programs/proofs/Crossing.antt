@@ -1,6 +1,6 @@
 -- Policies at kinds may go to another thread, type by type: each search ends at what was shown before it.
 use denote.Param.Send.{IsSend, IsSync, sendable}
-use Rattle.std.proofs.Crossing.{crosses}
+use Rattle.base_containers.proofs.Crossing.{crosses}
 use Rattle.cel_value.proofs.Crossing.{type_send, type_sync}
 use Rattle.cel_expression.proofs.Crossing.{compiled_send, compiled_sync}
 use Rattle.vap_policy_programs.specs.contracts.names.ParamsType as params_type

@@ -1,6 +1,6 @@
 -- The types of names may go to another thread.
 use denote.Param.Send.{IsSend, IsSync, sendable}
-use Rattle.std.proofs.Crossing.{crosses}
+use Rattle.base_containers.proofs.Crossing.{crosses}
 use Rattle.cel_value.proofs.Crossing.{type_send, type_sync}
 use Rattle.vap_policy_programs.specs.contracts.fixed_types.FixedTypes as fixed_types
 

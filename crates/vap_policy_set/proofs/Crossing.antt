@@ -1,6 +1,6 @@
 -- Sets may go to another thread, type by type: each search ends at what was shown before it.
 use denote.Param.Send.{IsSend, IsSync, sendable}
-use Rattle.std.proofs.Crossing.{crosses}
+use Rattle.base_containers.proofs.Crossing.{crosses}
 use Rattle.std.proofs.MapsCrossing.{crosses as map_crosses}
 use Rattle.cel_operators.proofs.Crossing.{patterns_send, patterns_sync}
 use Rattle.cel_value.proofs.Crossing.{type_send, type_sync, value_send, value_sync}

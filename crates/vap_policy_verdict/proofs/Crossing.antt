@@ -1,6 +1,6 @@
 -- Verdicts may go to another thread, and be looked at by several.
 use denote.Param.Send.{IsSend, IsSync, sendable}
-use Rattle.std.proofs.Crossing.{crosses}
+use Rattle.base_containers.proofs.Crossing.{crosses}
 use Rattle.vap_policy_verdict.specs.contracts.verdict.Verdict as verdict
 
 pub verdict_send : IsSend verdict.the_field.row

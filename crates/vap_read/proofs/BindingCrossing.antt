@@ -1,6 +1,6 @@
 -- Bindings may go to another thread.
 use denote.Param.Send.{IsSend, IsSync, sendable}
-use Rattle.std.proofs.Crossing.{crosses}
+use Rattle.base_containers.proofs.Crossing.{crosses}
 use Rattle.vap_read.specs.contracts.binding.Binding as binding
 
 pub binding_send : IsSend binding.the_field.row

@@ -1,6 +1,6 @@
 -- Events may go to another thread, type by type: each search ends at what was shown before it.
 use denote.Param.Send.{IsSend, IsSync, sendable}
-use Rattle.std.proofs.Crossing.{crosses}
+use Rattle.base_containers.proofs.Crossing.{crosses}
 use Rattle.std.proofs.MapsCrossing.{crosses as map_crosses}
 use Rattle.serde_json.proofs.value.Value.TheLaws.TheKnot.{crosses as json_crosses}
 use Rattle.vap_read.proofs.BindingCrossing.{binding_send, binding_sync}

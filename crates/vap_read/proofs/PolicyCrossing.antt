@@ -1,6 +1,6 @@
 -- Policies may go to another thread, type by type: each search ends at what was shown before it.
 use denote.Param.Send.{IsSend, IsSync, sendable}
-use Rattle.std.proofs.Crossing.{crosses}
+use Rattle.base_containers.proofs.Crossing.{crosses}
 use Rattle.vap_read.specs.contracts.policy.PolicySpec as policy_spec
 use Rattle.vap_read.specs.contracts.policy.Policy as policy
 

@@ -1,6 +1,6 @@
 -- Kinds may go to another thread.
 use denote.Param.Send.{IsSend, IsSync, sendable}
-use Rattle.std.proofs.Crossing.{crosses}
+use Rattle.base_containers.proofs.Crossing.{crosses}
 use Rattle.cel_value.proofs.Crossing.{type_send, type_sync}
 use Rattle.vap_read_objects.specs.contracts.kind.Kind as kind
 use Rattle.vap_read_objects.specs.contracts.read_definition.ReadDefinition as read_definition

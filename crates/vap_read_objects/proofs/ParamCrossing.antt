@@ -1,6 +1,6 @@
 -- Params may go to another thread.
 use denote.Param.Send.{IsSend, IsSync, sendable}
-use Rattle.std.proofs.Crossing.{crosses}
+use Rattle.base_containers.proofs.Crossing.{crosses}
 use Rattle.cel_value.proofs.Crossing.{type_send, type_sync, value_send, value_sync}
 use Rattle.vap_read.proofs.Crossing.{key_send, key_sync, object_send, object_sync}
 use Rattle.vap_read_objects.specs.contracts.kind_params.KindParams as kind_params

@@ -24,9 +24,9 @@ use std::time::{Clock, Duration};
 use std::{mem, thread};
 use vap_match::{Request, items_of};
 use vap_plane::{
-    CloseError, Gate, GatherError, Judged, Kept, Pass, Plan, PlaneError, SharedHistory, Worker,
-    close, gather, run_workers, told_to,
+    CloseError, Gate, Judged, Kept, Pass, Plan, SharedHistory, Worker, close, run_workers, told_to,
 };
+use vap_plane_gathering::{GatherError, PlaneError, gather};
 use vap_policy_verdict::{Verdict, unfit_verdict};
 use vap_read::{Event, EventError};
 use vap_watch::{ReaderSource, StageFault, Told, Writer, open};

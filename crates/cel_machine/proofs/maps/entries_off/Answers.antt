@@ -30,6 +30,20 @@ loop-left-preserved-in_ok-entries c =
       omega (arith, l.invariant.2, popped, popped_key),
     )
 
+pub loop-left-preserved-in_ok-entries-2 : goal.loop-left-preserved-in_ok-entries-2
+loop-left-preserved-in_ok-entries-2 c =
+    let l = c.loop-left in
+    let popped = ap (λ (xs : List Outcome). length xs) c.in-Some.ensures.items in
+    let popped_key = ap (λ (xs : List Outcome). length xs) c.in-Some-pop.ensures.items in (
+      one_more_off l.left c.args.count l.entries c.in_ok-entries.entries c.in-Some.value c.in-Some-pop.key (lent c.read.result)
+          c.args.stack.now.items
+          l.stack.items c.pop.new.self.items c.pop-in-loop-left.new.self.items c.in_ok-entry.field-0 c.in-Some-2.entry c.loop-left-test.true
+          c.in-Some.ensures.items c.in-Some-pop.ensures.items c.read.ensures c.in_ok-entry.ensures
+          c.in-Some-2.is c.in_ok-entries.ensures l.invariant.0,
+      c.in-Some-pop.ensures.room ∙ c.in-Some.ensures.room ∙ l.invariant.1,
+      omega (arith, l.invariant.2, popped, popped_key),
+    )
+
 pub loop-left-preserved-in_ok-entries-5 : goal.loop-left-preserved-in_ok-entries-5
 loop-left-preserved-in_ok-entries-5 c =
     let l = c.loop-left in
@@ -46,6 +60,20 @@ loop-left-preserved-in_ok-entries-5 c =
 
 pub loop-left-preserved-in_ok-entries-6 : goal.loop-left-preserved-in_ok-entries-6
 loop-left-preserved-in_ok-entries-6 c =
+    let l = c.loop-left in
+    let popped = ap (λ (xs : List Outcome). length xs) c.in-Some.ensures.items in
+    let popped_key = ap (λ (xs : List Outcome). length xs) c.in-Some-pop.ensures.items in (
+      one_more_off l.left c.args.count l.entries c.in_ok-entries.entries c.in-Some.value c.in-Some-pop.key (lent c.read.result)
+          c.args.stack.now.items
+          l.stack.items c.pop.new.self.items c.pop-in-loop-left.new.self.items c.in_ok-entry.field-0 c.in-Some-2.entry c.loop-left-test.true
+          c.in-Some.ensures.items c.in-Some-pop.ensures.items c.read.ensures c.in_ok-entry.ensures
+          c.in-Some-2.is c.in_ok-entries.ensures l.invariant.0,
+      c.in-Some-pop.ensures.room ∙ c.in-Some.ensures.room ∙ l.invariant.1,
+      omega (arith, l.invariant.2, popped, popped_key),
+    )
+
+pub loop-left-preserved-in_ok-entries-7 : goal.loop-left-preserved-in_ok-entries-7
+loop-left-preserved-in_ok-entries-7 c =
     let l = c.loop-left in
     let popped = ap (λ (xs : List Outcome). length xs) c.in-Some.ensures.items in
     let popped_key = ap (λ (xs : List Outcome). length xs) c.in-Some-pop.ensures.items in (

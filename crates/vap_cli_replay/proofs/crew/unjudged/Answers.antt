@@ -1,7 +1,7 @@
 use Rattle.std.proofs.Common.{◌≡◌, refl, ap}
 use Rattle.std.specs.Prelude.{Err}
 use Rattle.std.proofs.lemmas.Option.{slice_get_read}
-use Rattle.vap_cli_replay.specs.declared.fault.LineFault.TheVariants.{Pattern}
+use Rattle.vap_cli_lines.specs.declared.fault.LineFault.TheVariants.{Pattern}
 use Rattle.vap_cli_replay.specs.declared.fault.ReplayError.TheVariants.{Line}
 use Rattle.vap_cli_replay.proofs.Tellings.{tells_pattern}
 use Rattle.vap_cli_replay.proofs.crew.unjudged.Goals as goal

@@ -8,9 +8,9 @@ use Rattle.base_containers.specs.Lines.{room, unread}
 use Rattle.base_containers.specs.declared.lines.Ending.TheVariants.{End, Feed}
 use Rattle.base_containers.proofs.BytesRead.{given_next, stops_behind}
 use Rattle.vap_cli_replay.specs.declared.fault.ReplayError.TheVariants.{Line, Read}
-use Rattle.vap_cli_replay.proofs.LineQueues.{none_read}
+use Rattle.vap_cli_lines.proofs.LineQueues.{none_read}
 use Rattle.vap_cli_replay.proofs.Next.{ended_of, lines_within, none_pending, stops_first}
-use Rattle.vap_cli_replay.specs.declared.fault.LineFault.TheVariants.{Pattern, Unverified}
+use Rattle.vap_cli_lines.specs.declared.fault.LineFault.TheVariants.{Pattern, Unverified}
 use Rattle.vap_cli_replay.specs.Replay.{Sofar, answers_text}
 use Rattle.vap_audit.specs.declared.entry.Entry.{Entry}
 use Rattle.vap_cli_replay.proofs.Reached.{none_waiting}
@@ -100,7 +100,7 @@ loop-session-preserved g c =
       no_failure = on.no_failure ∙ at.no_failure;
       lines =
           lines_within c.loop-session.ending c.in_ok-ending.ending c.loop-session.session.lines c.take_next.new.session.lines
-          (room c.loop-session.queue) (room c.take_next.new.queue) (2 ^ 56 + 1) feed at.lines on.lines on.less on.no_more;
+          (room c.loop-session.queue) (room c.take_next.new.queue) (2 ^ 58 + 1) feed at.lines on.lines on.less on.no_more;
     }
 
 pub returns-clause-stopped : goal.returns-clause-stopped

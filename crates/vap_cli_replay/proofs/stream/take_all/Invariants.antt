@@ -21,7 +21,7 @@ invariant-loop-session g l = record {
       AllGive (empty_reads l.ending) (g.R.Read.remaining (inner_of l.fn.input)) (g.R.Read.remaining (inner_of l.input))
       l.initial.queue l.queue;
   no_failure : failures_of l.input ≡ failures_of l.fn.input;
-  lines : l.session.lines + (room l.queue + turns l.ending) ≤ 2 ^ 56 + 1;
+  lines : l.session.lines + (room l.queue + turns l.ending) ≤ 2 ^ 58 + 1;
 }
 
 abbrev pub decreases-loop-session : goal.decreases-loop-session

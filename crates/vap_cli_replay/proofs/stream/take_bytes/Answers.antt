@@ -1,11 +1,11 @@
 use Rattle.std.proofs.Common.{◌≡◌, ◌≢◌, ◌<◌, ◌≤◌, ◌+◌, length, refl}
 use Rattle.base_containers.specs.declared.lines.Ending.TheVariants.{End, TooLong as TooLongOf}
 use Rattle.vap_cli_replay.specs.Moves.{Advances}
-use Rattle.vap_cli_replay.specs.declared.fault.LineFault.TheVariants.{TooLong}
+use Rattle.vap_cli_lines.specs.declared.fault.LineFault.TheVariants.{TooLong}
 use Rattle.vap_cli_replay.proofs.Next.{never_taken, one_counted, one_each, one_refused}
 use Rattle.vap_cli_replay.specs.Moves.{IsReadAs}
-use Rattle.vap_cli_replay.specs.declared.line.Line.{Line}
-use Rattle.vap_cli_replay.specs.declared.line.Line.TheVariants.{Happens, Asks, Refused}
+use Rattle.vap_cli_lines.specs.declared.line.Line.{Line}
+use Rattle.vap_cli_lines.specs.declared.line.Line.TheVariants.{Happens, Asks, Refused}
 use Rattle.vap_cli_replay.proofs.Taking.{one_line}
 use Rattle.vap_cli_replay.proofs.Unjudged.{plain_read, read_as, unjudged_as, unpublished_as}
 use Rattle.vap_cli_replay.proofs.stream.take_bytes.Goals as goal

@@ -3,8 +3,8 @@ use Rattle.std.proofs.lemmas.Grind.{common_steps}
 use Rattle.base_containers.specs.declared.lines.Ending.TheVariants.{End, TooLong}
 use Rattle.vap_cli_replay.proofs.Next.{one_counted, one_each, one_refused}
 use Rattle.vap_cli_replay.specs.Moves.{IsReadAs}
-use Rattle.vap_cli_replay.specs.declared.line.Line.{Line}
-use Rattle.vap_cli_replay.specs.declared.line.Line.TheVariants.{Happens, Asks}
+use Rattle.vap_cli_lines.specs.declared.line.Line.{Line}
+use Rattle.vap_cli_lines.specs.declared.line.Line.TheVariants.{Happens, Asks}
 use Rattle.vap_cli_replay.proofs.Taking.{none_taken, one_line}
 use Rattle.vap_cli_replay.proofs.Unjudged.{plain_read, read_as, unjudged_as, unpublished_as}
 use Rattle.vap_cli_replay.proofs.stream.take_last.Goals as goal

@@ -3,7 +3,7 @@ use Rattle.std.proofs.lemmas.Result.{err_from_is_err_and}
 use Rattle.base_containers.specs.Lines.{IsFirst, unread}
 use Rattle.vap_cli_replay.specs.declared.fault.ReplayError.TheVariants.{Line}
 use Rattle.vap_cli_replay.proofs.Next.{next_refused}
-use Rattle.vap_cli_replay.specs.declared.fault.LineFault.TheVariants.{Pattern, Unverified}
+use Rattle.vap_cli_lines.specs.declared.fault.LineFault.TheVariants.{Pattern, Unverified}
 use Rattle.vap_cli_replay.proofs.Unjudged.{next_unjudged, next_unpublished}
 use Rattle.vap_cli_replay.proofs.stream.take_next.Goals as goal
 

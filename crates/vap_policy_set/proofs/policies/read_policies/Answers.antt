@@ -21,14 +21,14 @@ loop-policy-preserved c =
     c.not_below-rest.ensures choice kinds bindings (at.part choice kinds bindings are) in
     record {
       whole =
-          whole_next c.args.policies.now c.loop-policy.all.items c.push.new.self.items c.loop-policy.policy-index item
+          whole_next c.args.policies.now c.loop-policy.all.items c.push-in-loop-policy.new.self.items c.loop-policy.policy-index item
           (record { key = c.in_ok-copy.field-0; value = c.in_ok-own_texts.field-0 }) c.in_ok-push.ensures.items
           (ap₂ (λ k v. record { key = k; value = v }) c.in_ok-copy.ensures c.in_ok-own_texts.ensures) c.loop-policy-test.true
           c.policy-item.is at.whole;
       part = part;
       old =
           old_next all c.args.policies.now c.loop-policy.policy-index item (map option_copied c.loop-policy.old.items)
-          (map option_copied c.push-in-loop-policy.new.self.items) bound c.loop-policy-test.true c.policy-item.is
+          (map option_copied c.push-in-loop-policy-2.new.self.items) bound c.loop-policy-test.true c.policy-item.is
           (ap (map option_copied) c.in_ok-push-2.ensures.items ∙ map_push option_copied c.loop-policy.old.items c.old-bound.result) at.old
           (
           old_some rest all item bound part

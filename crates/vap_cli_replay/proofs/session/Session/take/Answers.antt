@@ -3,9 +3,9 @@ use Rattle.std.specs.Prelude.{IsErrOf, OnOk}
 use Rattle.std.proofs.lemmas.Result.{err_from_is_err_and}
 use Rattle.vap_cli_replay.specs.Moves.{RefusesAt, Takes}
 use Rattle.vap_cli_replay.specs.declared.fault.ReplayError.TheVariants.{Line as AtLine}
-use Rattle.vap_cli_replay.specs.declared.line.Line.{Line}
+use Rattle.vap_cli_lines.specs.declared.line.Line.{Line}
 use Rattle.vap_cli_replay.proofs.Arms.{event_step, refused_event, refused_line, refused_review, took_each}
-use Rattle.vap_cli_replay.specs.declared.fault.LineFault.TheVariants.{Pattern, Unverified}
+use Rattle.vap_cli_lines.specs.declared.fault.LineFault.TheVariants.{Pattern, Unverified}
 use Rattle.vap_cli_replay.proofs.Told.{told_unwritten}
 use Rattle.vap_cli_replay.proofs.Unjudged.{asks_waits, event_unpublished, group_unjudged, none_waits, plain_fault, review_unjudged}
 use Rattle.vap_cli_replay.proofs.Unjudged.{same_waits}
@@ -111,3 +111,14 @@ returns-in_err-answer_group-in-Happens-clause-unverified g c =
     λ number told plain.
     let same : IsErrOf c.answer_group.result (AtLine number Unverified) = cc (c.in_err-answer_group-in-Happens.was) in
     absurd (c.answer_group.ensures.pattern number Unverified same).fault
+
+-- no fault of a group is one of the lines
+pub returns-in_err-answer_group-in-Happens-clause-refused :
+    goal.returns-in_err-answer_group-in-Happens-clause-refused
+returns-in_err-answer_group-in-Happens-clause-refused g c =
+    let from = c.from_residual in
+    let p = err_from_is_err_and from.result from.ensures.1 in
+    λ number why is told.
+    let same : IsErrOf c.answer_group.result (AtLine number why) = cc (c.in_err-answer_group-in-Happens.was) in
+    let other = c.answer_group.ensures.lines number why same in
+    cc

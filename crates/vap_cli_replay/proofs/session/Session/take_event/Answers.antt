@@ -1,6 +1,6 @@
 use Rattle.std.proofs.Common.{◌≡◌, ap, sym, ◌∙◌}
 use Rattle.std.specs.Prelude.{Err}
-use Rattle.vap_cli_replay.specs.declared.fault.LineFault.TheVariants.{Unverified}
+use Rattle.vap_cli_lines.specs.declared.fault.LineFault.TheVariants.{Unverified}
 use Rattle.vap_cli_replay.specs.declared.fault.ReplayError.TheVariants.{Line}
 use Rattle.vap_cli_replay.proofs.Taking.{one_staged, unverified_only}
 use Rattle.vap_cli_replay.proofs.session.Session.take_event.Goals as goal

@@ -1,13 +1,13 @@
-use Rattle.std.proofs.Common.{◌≡◌, List, refl, rules, sym, subst, ap, ◌∙◌}
+use Rattle.std.proofs.Common.{◌≡◌, List, refl, sym, subst, ap, ◌∙◌}
 use Rattle.std.specs.Prelude.{IsErrOf}
 use Rattle.std.proofs.lemmas.Result.{err_from_is_err_and}
 use Rattle.vap_match.specs.declared.request.Request.{Request}
 use Rattle.vap_watch.specs.Places.{Written}
 use Rattle.vap_cli_replay.specs.Groups.{OneMayMatch}
-use Rattle.vap_cli_replay.specs.declared.fault.LineFault.TheVariants.{Pattern, Unverified}
+use Rattle.vap_cli_lines.specs.declared.fault.LineFault.TheVariants.{Pattern, Unverified}
 use Rattle.vap_cli_replay.specs.declared.fault.ReplayError.TheVariants.{Line}
 use Rattle.vap_cli_replay.proofs.Arms.{answered_last, answered_step, entries_length}
-use Rattle.vap_cli_replay.proofs.Told.{stops_here, told_unwritten}
+use Rattle.vap_cli_replay.proofs.Told.{stops_unless_written, told_unwritten}
 use Rattle.vap_cli_replay.proofs.Unjudged.{group_first, one_more_waits}
 use Rattle.vap_cli_replay.proofs.session.Session.take_review.Goals as goal
 
@@ -50,7 +50,23 @@ returns-then-waiting-eq-MOST_ENTRIES-clause-asked g c =
 
 pub returns-in_err-answer_group-clause-stopped :
     goal.returns-in_err-answer_group-clause-stopped
-returns-in_err-answer_group-clause-stopped g c = search (rules, stops_here)
+returns-in_err-answer_group-clause-stopped g c =
+    let from = c.from_residual-in_err-answer_group in
+    let p = err_from_is_err_and from.result from.ensures.1 in
+    let failed : IsErrOf c.answer_group.result p.0 = cc (c.in_err-answer_group.was) in
+    let same : IsErrOf from.result p.0 = cc in
+    stops_unless_written c.answer_group.result from.result p.0 g.W.Write.contents c.args.self.now c.args.out.now c.answer_group.new.out
+    failed same c.answer_group.ensures.stopped
+
+-- no fault of a group is one of the lines
+pub returns-in_err-answer_group-clause-told : goal.returns-in_err-answer_group-clause-told
+returns-in_err-answer_group-clause-told g c =
+    let from = c.from_residual-in_err-answer_group in
+    let p = err_from_is_err_and from.result from.ensures.1 in
+    λ number why is told.
+    let same : IsErrOf c.answer_group.result (Line number why) = cc (c.in_err-answer_group.was) in
+    let other = c.answer_group.ensures.lines number why same in
+    cc
 
 -- the group has the review, and is judged at the same log as before
 pub returns-in_err-answer_group-clause-asked : goal.returns-in_err-answer_group-clause-asked

@@ -1,0 +1,3 @@
+pub mod Crossing
+pub mod LineQueues
+pub mod Reading
