@@ -15,3 +15,8 @@ code_points_most (b ∷ bytes) = elim (cases_Bool (begins b)) [
 pub weighs_two : (bytes : List ℕ) → 1 ≤ length bytes → slice_index_or bytes 0 0 < 128 → length bytes ≤ 10 → text_weight_of bytes ≡ 2
 weighs_two [] some low short = absurd (omega (arith, some))
 weighs_two (b ∷ bytes) some low short = rw (or_left _ _ (lt-ltb b 128 low)) (omega (arith, short, code_points_most bytes))
+
+-- one of which the first byte is a code point weighs no less
+pub weighs_no_less : (bytes : List ℕ) → 1 ≤ length bytes → slice_index_or bytes 0 0 < 128 → 2 ≤ text_weight_of bytes
+weighs_no_less [] some low = absurd (omega (arith, some))
+weighs_no_less (b ∷ bytes) some low = rw (or_left _ _ (lt-ltb b 128 low)) (omega arith)

@@ -1,7 +1,7 @@
 //! Comparisons of two integers, and of two texts for equality. Their truth value needs no room: what any operator makes is moved from
 //! call to call.
 
-ghost use Rattle.std.specs.Prelude.{◌≡◌, ◌-◌, ◌^◌, min, IfSome, IsTrue, Some, Ok, reverse, option_map};
+ghost use Rattle.std.specs.Prelude.{◌≡◌, ◌≤◌, ◌-◌, ◌^◌, min, IfSome, IsTrue, Some, Ok, reverse, option_map};
 ghost use Rattle.cel_value.specs.Value.{same, text_weight_of};
 ghost use Rattle.cel_operators.specs.Operators.{row, at_two, less, lesser_weight};
 ghost use Rattle.std.specs.Str.{bytes_eq};
@@ -78,8 +78,21 @@ fn are_same_texts(a: &str, b: &str) -> Comparison
 {
     Comparison {
         holds: a == b,
-        charge: text_weight(a).min(text_weight(b)),
+        charge: lesser_text_weight(a, b),
     }
+}
+
+// What the lighter of two texts weighs. If one is short, the other is not counted.
+fn lesser_text_weight(a: &str, b: &str) -> u64
+    ensures { result ≡ min (text_weight_of a.now) (text_weight_of b.now) }
+{
+    if is_short(a.as_bytes()) && is_begun(b.as_bytes()) {
+        return 2;
+    }
+    if is_short(b.as_bytes()) && is_begun(a.as_bytes()) {
+        return 2;
+    }
+    text_weight(a).min(text_weight(b))
 }
 
 // Whether an integer is less than another.
@@ -96,15 +109,10 @@ fn is_less(v: &Value, w: &Value) -> Option<Comparison>
     }
 }
 
-// What a text weighs. The code points of a short one are not counted.
 fn text_weight(text: &str) -> u64
     ensures { result ≡ text_weight_of text.now }
 {
-    if is_short(text.as_bytes()) {
-        2
-    } else {
-        1 + tenths(code_points(text) as u64)
-    }
+    1 + tenths(code_points(text) as u64)
 }
 
 // Whether a text has one to ten bytes, of which the first is a code point.
@@ -113,6 +121,16 @@ fn is_short(text: &[u8]) -> bool
 {
     match text {
         [first, ..] => *first < 128 && text.len() <= 10,
+        [] => false,
+    }
+}
+
+// Whether the first byte of a text is a code point.
+fn is_begun(text: &[u8]) -> bool
+    ensures { IsTrue result → 2 ≤ text_weight_of text.now }
+{
+    match text {
+        [first, ..] => *first < 128,
         [] => false,
     }
 }

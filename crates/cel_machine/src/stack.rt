@@ -101,6 +101,7 @@ impl<'a> Stack<'a> {
     }
 
     /// An operand in place of the top: this takes no memory.
+    #[inline(always)]
     pub fn put_over_top(&mut self, item: Result<Operand<'a>, CelError>)
         requires room { HasRoom self.old }
         ensures items { self.new.items ≡ item.entry ∷ below_top self.old.items }

@@ -1,17 +1,19 @@
-ghost use Rattle.std.specs.Prelude.{◌≡◌, ◌+◌, ◌<◌, ◌^◌, [], Ok, IfOk, IsErrOf, IsTrue, Some, slice_get, option_map, reverse};
+ghost use Rattle.std.specs.Prelude.{◌≡◌, ◌+◌, ◌<◌, ◌^◌, ℕ, List, [], Ok, IfOk, IfSome, IsErrOf, IsTrue, Some};
+ghost use Rattle.std.specs.Prelude.{slice_get, option_map, reverse};
 ghost use Rattle.base_containers.specs.declared.failed.Failed.TheVariants.{Fault};
 ghost use Rattle.cel_machine.specs.declared.fault.RunFault.TheVariants.{Pattern};
+ghost use Rattle.cel_value.specs.declared.value.Value as value;
 ghost use Rattle.cel_operators.specs.Operators.{row, operator_of};
 ghost use Rattle.cel_operators.specs.Wants.{side_of};
 ghost use Rattle.cel_code.specs.Machine.{Frame, act, inputs_of, push, constant as constant_of, slot as slot_of, operate_by};
-ghost use Rattle.cel_code.specs.Machine.{made as made_next, join as sides_joined};
+ghost use Rattle.cel_code.specs.Machine.{made as made_next, join as sides_joined, joined as joined_next};
 ghost use Rattle.cel_machine.specs.Found.{made_by};
 ghost use Rattle.cel_code.specs.Matches.{is_matches};
 ghost use Rattle.cel_operators_applied.specs.Lent.{lent};
 ghost use Rattle.cel_machine.specs.Room.{HasRoom};
 ghost use Rattle.cel_machine.specs.declared.position.Position.{Position};
 ghost use Rattle.cel_machine.specs.Follow.{Follows, LeadsTo, Comes, Finishes, metered_one, metered_two, made_of_two};
-ghost use Rattle.cel_machine.specs.Follow.{test_of, join_of, sides_of, branch_of, end_of};
+ghost use Rattle.cel_machine.specs.Follow.{top_of, below_two, test_of, join_of, sides_of, branch_of, end_of};
 
 use crate::comparison::compared;
 use crate::fault::RunError;
@@ -178,10 +180,74 @@ fn operate(
     ensures acts { IfOk result (λ m. LeadsTo (operate_by (Some op) position.old.at stack.old.items) m position.new stack.new.items) }
     ensures room { stack.new.room ≡ stack.old.room }
 {
+    match op {
+        Operator::Not => negate(alloc, position, stack),
+        Operator::Equal
+        | Operator::NotEqual
+        | Operator::Less
+        | Operator::AtMost
+        | Operator::Greater
+        | Operator::AtLeast => compare(alloc, op, position, stack),
+        _ => apply(alloc, op, position, stack),
+    }
+}
+
+// `!`: the opposite of a truth value takes its place.
+fn negate(alloc: Global, position: &mut Position, stack: &mut Stack<'_>) -> Result<Move, AllocError>
+    requires at { position.old.at + 1 < 2 ^ 64 }
+    requires room { HasRoom stack.old }
+    ensures acts { IfOk result (λ m. LeadsTo (operate_by (Some Operator.Not) position.old.at stack.old.items)
+        m position.new stack.new.items) }
+    ensures room { stack.new.room ≡ stack.old.room }
+{
+    let Some(holds) = truth_on_top(stack) else {
+        return apply(alloc, Operator::Not, position, stack);
+    };
+    stack.put_over_top(Ok(Operand::own(Value::Bool(!holds))));
+    Ok(position.go_on(1))
+}
+
+fn truth_on_top(stack: &Stack<'_>) -> Option<bool>
+    ensures { IfSome result (λ holds. top_of stack.now.items ≡ Some (Ok (value.Bool holds))) }
+{
+    match stack.top() {
+        Some(Ok(Value::Bool(holds))) => Some(*holds),
+        _ => None,
+    }
+}
+
+// A comparison: of two integers, or of two texts for equality, its truth value takes their place.
+fn compare(
+    alloc: Global,
+    op: Operator,
+    position: &mut Position,
+    stack: &mut Stack<'_>,
+) -> Result<Move, AllocError>
+    requires at { position.old.at + 1 < 2 ^ 64 }
+    requires room { HasRoom stack.old }
+    ensures acts { IfOk result (λ m. LeadsTo (operate_by (Some op) position.old.at stack.old.items) m position.new stack.new.items) }
+    ensures room { stack.new.room ≡ stack.old.room }
+{
     if let Some(comparison) = compared(op, stack.as_slice()) {
         stack.put_over_two(Ok(Operand::own(Value::Bool(comparison.holds))));
         return Ok(position.go_on(comparison.charge));
     }
+    apply(alloc, op, position, stack)
+}
+
+// Any operator. What it may need is much, and is set to zero at each call: so it stands apart from what most steps are.
+#[inline(never)]
+fn apply(
+    alloc: Global,
+    op: Operator,
+    position: &mut Position,
+    stack: &mut Stack<'_>,
+) -> Result<Move, AllocError>
+    requires at { position.old.at + 1 < 2 ^ 64 }
+    requires room { HasRoom stack.old }
+    ensures acts { IfOk result (λ m. LeadsTo (operate_by (Some op) position.old.at stack.old.items) m position.new stack.new.items) }
+    ensures room { stack.new.room ≡ stack.old.room }
+{
     match op.operands() {
         Operands::One(_) => operate_one(alloc, op, position, stack),
         Operands::Two(_, _) => operate_two(alloc, op, position, stack),
@@ -344,8 +410,37 @@ fn test(stack: &Stack<'_>, ends: bool, to: usize, position: &mut Position) -> Mo
     }
 }
 
-// Both sides of `&&`, if `all` is true, or of `||`.
+// Both sides of `&&`, if `all` is true, or of `||`: of two truth values, that of both takes their place.
 fn join(stack: &mut Stack<'_>, all: bool, position: &mut Position) -> Move
+    requires at { position.old.at + 1 < 2 ^ 64 }
+    requires room { HasRoom stack.old }
+    ensures acts { LeadsTo (join_of all stack.old.items position.old.at) result position.new stack.new.items }
+    ensures room { stack.new.room ≡ stack.old.room }
+{
+    let Some(holds) = truths_joined(stack.as_slice(), all) else {
+        return join_any(stack, all, position);
+    };
+    stack.put_over_two(Ok(Operand::own(Value::Bool(holds))));
+    position.go_on(0)
+}
+
+// What the two truth values on top give; nothing if other operands are there.
+fn truths_joined(operands: &[Result<Operand<'_>, CelError>], all: bool) -> Option<bool>
+    ensures { IfSome result (λ holds. (at : ℕ) (frames : List Frame) → join_of all (reverse operands.now) at frames
+        ≡ joined_next (Some (Ok (value.Bool holds))) at (below_two (reverse operands.now)) frames) }
+{
+    let [.., x, y] = operands else {
+        return None;
+    };
+    match (read(x), read(y)) {
+        (Ok(Value::Bool(a)), Ok(Value::Bool(b))) => Some(if all { *a && *b } else { *a || *b }),
+        _ => None,
+    }
+}
+
+// Both sides, whatever they are.
+#[inline(never)]
+fn join_any(stack: &mut Stack<'_>, all: bool, position: &mut Position) -> Move
     requires at { position.old.at + 1 < 2 ^ 64 }
     requires room { HasRoom stack.old }
     ensures acts { LeadsTo (join_of all stack.old.items position.old.at) result position.new stack.new.items }

@@ -74,35 +74,37 @@ pub fn on_two(
 ) -> Result<Option<Made>, AllocError>
     ensures { IfOk result (λ made. made ≡ counted (at_two (row op) (Some (lent x.entry)) (Some (lent y.entry)))) }
 {
-    match op {
+    // One place for all that is made without memory: each place of its own would be set to zero at every call.
+    let made = match op {
         Operator::Add
         | Operator::Subtract
         | Operator::Multiply
         | Operator::Divide
-        | Operator::Remainder => Ok(on_ints(op, x, y)),
+        | Operator::Remainder => on_ints(op, x, y),
         Operator::AddUint
         | Operator::SubtractUint
         | Operator::MultiplyUint
         | Operator::DivideUint
-        | Operator::RemainderUint => Ok(on_uints(op, x, y)),
-        Operator::Equal | Operator::NotEqual => Ok(equality(op, x, y)),
-        Operator::Less | Operator::AtMost | Operator::Greater | Operator::AtLeast => Ok(order(
+        | Operator::RemainderUint => on_uints(op, x, y),
+        Operator::Equal | Operator::NotEqual => equality(op, x, y),
+        Operator::Less | Operator::AtMost | Operator::Greater | Operator::AtLeast => order(
             op, x, y,
-        )),
+        ),
         Operator::AddText | Operator::StartsWith | Operator::EndsWith | Operator::Contains =>
-            on_texts(alloc, op, x, y),
-        Operator::AddList => lists_in_a_row(alloc, x, y),
-        Operator::InList => Ok(in_list(x, y)),
-        Operator::InMap => Ok(in_map(x, y)),
-        Operator::IndexList => item_of_list(alloc, x, y),
-        Operator::IndexMap => value_of_map(alloc, x, y),
-        Operator::Join => join(alloc, x, y),
+            return on_texts(alloc, op, x, y),
+        Operator::AddList => return lists_in_a_row(alloc, x, y),
+        Operator::InList => in_list(x, y),
+        Operator::InMap => in_map(x, y),
+        Operator::IndexList => return item_of_list(alloc, x, y),
+        Operator::IndexMap => return value_of_map(alloc, x, y),
+        Operator::Join => return join(alloc, x, y),
         Operator::AddToTimestamp | Operator::SubtractFromTimestamp => {
-            Ok(on_timestamp_and_duration(op, x, y))
+            on_timestamp_and_duration(op, x, y)
         }
-        Operator::AddTimestamp => Ok(on_duration_and_timestamp(x, y)),
-        Operator::SubtractTimestamps => Ok(on_timestamps(x, y)),
-        Operator::AddDurations | Operator::SubtractDurations => Ok(on_durations(op, x, y)),
-        _ => Ok(None),
-    }
+        Operator::AddTimestamp => on_duration_and_timestamp(x, y),
+        Operator::SubtractTimestamps => on_timestamps(x, y),
+        Operator::AddDurations | Operator::SubtractDurations => on_durations(op, x, y),
+        _ => None,
+    };
+    Ok(made)
 }

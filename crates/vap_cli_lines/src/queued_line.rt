@@ -1,6 +1,6 @@
 //! Lines that are read, and the one that is taken.
 
-ghost use Rattle.std.specs.Prelude.{◌≡◌, ◌<◌, ◌≤◌, ◌==◌, length, IfOk, IsErrOf, OnOk};
+ghost use Rattle.std.specs.Prelude.{◌≡◌, ◌<◌, ◌≤◌, ◌==◌, [], length, IfOk, IsErrOf, OnOk};
 ghost use Rattle.base_containers.specs.Counted.{failures_of, inner_of};
 ghost use Rattle.base_containers.specs.Lines.{AllGive, IsCutOff, IsFirst, IsLine, empty_reads, longest_line, room, unread};
 ghost use Rattle.vap_cli_lines.specs.Lines.{Reads};
@@ -74,7 +74,9 @@ impl Model for LineBuffer {
 
 impl LineBuffer {
     /// No line yet.
-    pub fn new(alloc: Global) -> LineBuffer {
+    pub fn new(alloc: Global) -> LineBuffer
+        ensures { result ≡ [] }
+    {
         LineBuffer {
             alloc,
             bytes: Vec::new(alloc),
