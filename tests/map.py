@@ -1,7 +1,7 @@
 #!/usr/bin/env python3
 """Compares crates.txt with the map: each crate has to be in README's list of floors, in the table of docs/ARCHITECTURE.md and, unless it is
 of the tests, in docs/PROOFS.md, on the same floor as in crates.txt, and nothing may be there that is no crate. A crate may use only crates
-that are listed before it. The last line is 'N passed, M failed'.
+that are listed before it, and libraries of the kit that README and docs/PROOFS.md name as trusted. The last line is 'N passed, M failed'.
 """
 import re
 import sys
@@ -12,6 +12,9 @@ from outcome import ended_without
 TOP = Path(__file__).resolve().parent.parent
 # Where the first four floors end: nothing of the first three speaks of judging, nothing of the first two of Kubernetes.
 BEGINNINGS = [("base_",), ("cel_",), ("vap_schema", "vap_match", "vap_read"), ("vap_policy", "vap_watch", "vap_audit", "vap_plane", "vap_cli"), ("vap",)]
+
+# What is not named by itself among what is trusted, and what it is part of: the crates below `regex` are meant with it.
+PARTS = {"core": "std", "std_alloc": "std", "std_heap": "std"}
 
 
 def text(name):
@@ -45,6 +48,16 @@ def in_readme():
     return found
 
 
+def trusted(paragraph):
+    """The libraries of the kit that a paragraph names."""
+    return set(re.findall(r"`(\w+)`", paragraph))
+
+
+def whole(library):
+    """The library that is named for this one among what is trusted."""
+    return "regex" if library.startswith("regex_") else PARTS.get(library, library)
+
+
 def faults():
     listed = floors()
     names = [list(floor) for floor in listed]
@@ -64,6 +77,13 @@ def faults():
     proved = re.findall(r"(?m)^### `(\w+)`$", text("docs/PROOFS.md"))
     if proved != [it for floor in names[:-1] for it in floor]:
         yield f"docs/PROOFS.md: {proved} is not {names[:-1]}"
+    used = {whole(it) for floor in listed for libraries in floor.values() for it in libraries if it not in every} | {"std"}
+    for name, paragraph in [
+        ("README.md", text("README.md").partition("\n**Trusted:**")[2].partition("\n\n")[0]),
+        ("docs/PROOFS.md", part("docs/PROOFS.md", "## What is trusted", "## ")),
+    ]:
+        if trusted(paragraph) != used:
+            yield f"{name}: what is trusted is {sorted(trusted(paragraph))}, and not {sorted(used)}"
     here = sorted(it.name for it in (TOP / "crates").iterdir() if (it / "src").is_dir())
     if here != sorted(every):
         yield f"crates: {here} is not {sorted(every)}"

@@ -1,5 +1,5 @@
-//! Comparisons of two integers, and of two texts for equality. Their truth value needs no room: what any operator makes is moved from
-//! call to call.
+//! Comparisons of two integers and of two texts, for equality or for what one has of the other. Their truth value needs no room: what
+//! any operator makes is moved from call to call.
 
 ghost use Rattle.std.specs.Prelude.{◌≡◌, ◌≤◌, ◌-◌, ◌^◌, min, IfSome, IsTrue, Some, Ok, reverse, option_map};
 ghost use Rattle.cel_value.specs.Value.{same, text_weight_of};
@@ -43,6 +43,32 @@ fn compared_values(op: Operator, v: &Value, w: &Value) -> Option<Comparison>
         Operator::AtMost => opposite(is_less(w, v)),
         Operator::Greater => is_less(w, v),
         Operator::AtLeast => opposite(is_less(v, w)),
+        Operator::StartsWith | Operator::EndsWith | Operator::Contains => does_have(op, v, w),
+        _ => None,
+    }
+}
+
+// Whether a text has another: in front, at its end or anywhere.
+fn does_have(op: Operator, v: &Value, w: &Value) -> Option<Comparison>
+    ensures { IfSome result (λ c. counted (at_two (row op) (Some (Ok v.now)) (Some (Ok w.now))) ≡ Some (truth_made c)) }
+{
+    let (Value::Text(text), Value::Text(part)) = (v, w) else {
+        return None;
+    };
+    let (text, part) = (text.as_str(), part.as_str());
+    match op {
+        Operator::StartsWith => Some(Comparison {
+            holds: cel_operators::starts_with(text, part),
+            charge: text_weight(part),
+        }),
+        Operator::EndsWith => Some(Comparison {
+            holds: cel_operators::ends_with(text, part),
+            charge: text_weight(part),
+        }),
+        Operator::Contains => Some(Comparison {
+            holds: cel_operators::contains(text, part),
+            charge: text_weight(text).saturating_mul(text_weight(part)),
+        }),
         _ => None,
     }
 }
@@ -72,27 +98,22 @@ fn is_same(v: &Value, w: &Value) -> Option<Comparison>
     }
 }
 
+// Whether two texts are the same, for what the lighter weighs. If one is short, the other is not counted.
 fn are_same_texts(a: &str, b: &str) -> Comparison
     ensures same { result.holds ≡ bytes_eq a.now b.now }
     ensures charge { result.charge ≡ min (text_weight_of a.now) (text_weight_of b.now) }
 {
-    Comparison {
-        holds: a == b,
-        charge: lesser_text_weight(a, b),
-    }
-}
-
-// What the lighter of two texts weighs. If one is short, the other is not counted.
-fn lesser_text_weight(a: &str, b: &str) -> u64
-    ensures { result ≡ min (text_weight_of a.now) (text_weight_of b.now) }
-{
+    let holds = a == b;
     if is_short(a.as_bytes()) && is_begun(b.as_bytes()) {
-        return 2;
+        return Comparison { holds, charge: 2 };
     }
     if is_short(b.as_bytes()) && is_begun(a.as_bytes()) {
-        return 2;
+        return Comparison { holds, charge: 2 };
     }
-    text_weight(a).min(text_weight(b))
+    Comparison {
+        holds,
+        charge: text_weight(a).min(text_weight(b)),
+    }
 }
 
 // Whether an integer is less than another.
@@ -109,10 +130,15 @@ fn is_less(v: &Value, w: &Value) -> Option<Comparison>
     }
 }
 
+// What a text weighs. The code points of a short one are not counted.
 fn text_weight(text: &str) -> u64
     ensures { result ≡ text_weight_of text.now }
 {
-    1 + tenths(code_points(text) as u64)
+    if is_short(text.as_bytes()) {
+        2
+    } else {
+        1 + tenths(code_points(text) as u64)
+    }
 }
 
 // Whether a text has one to ten bytes, of which the first is a code point.

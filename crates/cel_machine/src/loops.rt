@@ -272,7 +272,10 @@ fn finish_loop<'a>(position: &mut Position, stack: &mut Stack<'a>, frames: &mut 
         return Move::IsStuckHere;
     };
     let exit = frame.exit();
-    stack.push(own(frame.into_outcome()));
+    match frame.into_outcome() {
+        Ok(Value::Bool(holds)) => stack.push(Ok(Operand::own(Value::Bool(holds)))),
+        outcome => stack.push(own(outcome)),
+    }
     position.go_to(exit, 0)
 }
 

@@ -106,11 +106,14 @@ pub fn run_on<'a>(
     unreachable!()
 }
 
-// The outcome of a run that is over, off the stack.
+// The outcome of a run that is over. A truth value is read where it is, on the stack.
 fn taken(alloc: Global, stack: &mut Stack<'_>) -> Result<Result<Value, CelError>, AllocError>
     requires { 0 < length stack.old.items }
     ensures { IfOk result (λ x. top_of stack.old.items ≡ Some x) }
 {
+    if let Some(Ok(Value::Bool(holds))) = stack.top() {
+        return Ok(Ok(Value::Bool(*holds)));
+    }
     let Some(x) = stack.pop() else {
         unreachable!();
     };

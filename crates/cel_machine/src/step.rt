@@ -143,10 +143,11 @@ fn slot<'a>(
     ensures acts { LeadsTo (slot_of (slice_get slots.now number) position.old.at stack.old.items) result position.new stack.new.items }
     ensures room { stack.new.room ≡ stack.old.room }
 {
-    let Some(held) = slots.get(number) else {
-        return Move::IsStuckHere;
-    };
-    stack.push(lend(held));
+    match slots.get(number) {
+        Some(Ok(value)) => stack.push(Ok(Operand::lent(value))),
+        Some(error) => stack.push(lend(error)),
+        None => return Move::IsStuckHere,
+    }
     position.go_on(1)
 }
 
@@ -187,7 +188,10 @@ fn operate(
         | Operator::Less
         | Operator::AtMost
         | Operator::Greater
-        | Operator::AtLeast => compare(alloc, op, position, stack),
+        | Operator::AtLeast
+        | Operator::StartsWith
+        | Operator::EndsWith
+        | Operator::Contains => compare(alloc, op, position, stack),
         _ => apply(alloc, op, position, stack),
     }
 }
@@ -216,7 +220,9 @@ fn truth_on_top(stack: &Stack<'_>) -> Option<bool>
     }
 }
 
-// A comparison: of two integers, or of two texts for equality, its truth value takes their place.
+// A comparison: of two integers or of two texts, its truth value takes their place. It is put there by what is compiled into this
+// function: if it were handed to another one in memory, it would be read in other pieces than it is written in, and a processor has to
+// wait for that.
 fn compare(
     alloc: Global,
     op: Operator,
@@ -229,7 +235,9 @@ fn compare(
     ensures room { stack.new.room ≡ stack.old.room }
 {
     if let Some(comparison) = compared(op, stack.as_slice()) {
-        stack.put_over_two(Ok(Operand::own(Value::Bool(comparison.holds))));
+        let truth = Ok(Operand::own(Value::Bool(comparison.holds)));
+        stack.drop_top();
+        stack.put_over_top(truth);
         return Ok(position.go_on(comparison.charge));
     }
     apply(alloc, op, position, stack)
@@ -265,10 +273,12 @@ fn operate_one(
     ensures acts { IfOk result (λ m. Comes (metered_one (row op) position.old.at stack.old.items) m position.new stack.new.items) }
     ensures room { stack.new.room ≡ stack.old.room }
 {
-    let Some(x) = stack.pop() else {
+    let Some(x) = stack.top() else {
         return Ok(Move::IsStuckHere);
     };
-    finish(on_one(alloc, op, read(&x)), position, stack)
+    let made = on_one(alloc, op, x);
+    stack.drop_top();
+    finish(made, position, stack)
 }
 
 fn operate_two<'a>(
@@ -348,7 +358,14 @@ fn finish_over(
     match made {
         Ok(Some(made)) => {
             let charge = made.charge;
-            stack.put_over_two(own(made.outcome));
+            match made.outcome {
+                Ok(Value::Bool(holds)) => {
+                    let truth = Ok(Operand::own(Value::Bool(holds)));
+                    stack.drop_top();
+                    stack.put_over_top(truth);
+                }
+                outcome => stack.put_over_two(own(outcome)),
+            }
             Ok(position.go_on(charge))
         }
         Ok(None) => Ok(Move::IsStuckHere),
@@ -387,8 +404,12 @@ pub fn finish<E: Drop>(
 {
     match made {
         Ok(Some(made)) => {
-            stack.push(own(made.outcome));
-            Ok(position.go_on(made.charge))
+            let charge = made.charge;
+            match made.outcome {
+                Ok(Value::Bool(holds)) => stack.push(Ok(Operand::own(Value::Bool(holds)))),
+                outcome => stack.push(own(outcome)),
+            }
+            Ok(position.go_on(charge))
         }
         Ok(None) => Ok(Move::IsStuckHere),
         Err(error) => Err(error),
@@ -420,7 +441,9 @@ fn join(stack: &mut Stack<'_>, all: bool, position: &mut Position) -> Move
     let Some(holds) = truths_joined(stack.as_slice(), all) else {
         return join_any(stack, all, position);
     };
-    stack.put_over_two(Ok(Operand::own(Value::Bool(holds))));
+    let truth = Ok(Operand::own(Value::Bool(holds)));
+    stack.drop_top();
+    stack.put_over_top(truth);
     position.go_on(0)
 }
 
@@ -480,10 +503,12 @@ fn branch(stack: &mut Stack<'_>, if_false: usize, if_error: usize, position: &mu
     ensures acts { LeadsTo (branch_of if_false if_error stack.old.items position.old.at) result position.new stack.new.items }
     ensures room { stack.new.room ≡ stack.old.room }
 {
-    let Some(x) = stack.pop() else {
+    let Some(x) = stack.top() else {
         return Move::IsStuckHere;
     };
-    match truth(read(&x)) {
+    let side = truth(x);
+    stack.drop_top();
+    match side {
         Some(Ok(true)) => position.go_on(1),
         Some(Ok(false)) => position.go_to(if_false, 1),
         Some(Err(e)) => {

@@ -95,7 +95,10 @@ fn select_in<'a>(
     let Some(part) = field_in(value, name) else {
         return Move::IsStuckHere;
     };
-    stack.put_over_top(lend(part));
+    match part {
+        Ok(value) => stack.put_over_top(lend(Ok(value))),
+        error => stack.put_over_top(lend(error)),
+    }
     position.go_on(1)
 }
 
@@ -106,10 +109,12 @@ fn has(name: &str, position: &mut Position, stack: &mut Stack<'_>) -> Result<Mov
         m position.new stack.new.items) }
     ensures room { stack.new.room ≡ stack.old.room }
 {
-    let Some(x) = stack.pop() else {
+    let Some(x) = stack.top() else {
         return Ok(Move::IsStuckHere);
     };
-    finish(Ok(has_field(read(&x), name)), position, stack)
+    let made = has_field(x, name);
+    stack.drop_top();
+    finish(Ok(made), position, stack)
 }
 
 fn search(

@@ -106,12 +106,12 @@ fn copied(alloc: Global, part: &Part<'_, '_>, name: &str) -> Result<Text, AllocE
     Text::from_str(alloc, text_in(part, name))
 }
 
-/// A copy of the text of a member of a member, empty if there is none.
-fn text_at(alloc: Global, part: &Part<'_, '_>, outer: &str, inner: &str) -> Result<Text, AllocError>
-    ensures { IfOk result (λ text. text ≡ text_at outer.now inner.now part.now) }
+/// A copy of the text of a member of what was found under another name, empty if there is none.
+fn text_at(alloc: Global, found: &Option<Part<'_, '_>>, inner: &str) -> Result<Text, AllocError>
+    ensures { IfOk result (λ text. (outer : _) (d : _) → found.now ≡ get outer d → text ≡ text_at outer inner.now d) }
 {
-    match part.get(outer) {
-        Some(found) => Ok(copied(alloc, &found, inner)?),
+    match found {
+        Some(part) => Ok(copied(alloc, part, inner)?),
         None => Ok(Text::from_str(alloc, "")?),
     }
 }
@@ -119,20 +119,22 @@ fn text_at(alloc: Global, part: &Part<'_, '_>, outer: &str, inner: &str) -> Resu
 fn kind_of(alloc: Global, part: &Part<'_, '_>) -> Result<Kind, AllocError>
     ensures { IfOk result (λ kind. kind ≡ kind_of part.now) }
 {
+    let found = part.get("kind");
     Ok(Kind {
-        group: text_at(alloc, part, "kind", "group")?,
-        version: text_at(alloc, part, "kind", "version")?,
-        kind: text_at(alloc, part, "kind", "kind")?,
+        group: text_at(alloc, &found, "group")?,
+        version: text_at(alloc, &found, "version")?,
+        kind: text_at(alloc, &found, "kind")?,
     })
 }
 
 fn resource_of(alloc: Global, part: &Part<'_, '_>) -> Result<Resource, AllocError>
     ensures { IfOk result (λ resource. resource ≡ resource_of part.now) }
 {
+    let found = part.get("resource");
     Ok(Resource {
-        group: text_at(alloc, part, "resource", "group")?,
-        version: text_at(alloc, part, "resource", "version")?,
-        resource: text_at(alloc, part, "resource", "resource")?,
+        group: text_at(alloc, &found, "group")?,
+        version: text_at(alloc, &found, "version")?,
+        resource: text_at(alloc, &found, "resource")?,
     })
 }
 
@@ -164,11 +166,10 @@ fn lists_under(
 }
 
 /// The texts under each name of `extra`.
-fn extra_of(alloc: Global, part: &Part<'_, '_>) -> Result<TextMap<Items<Text>>, AllocError>
-    ensures { IfOk result
-        (λ lists. lists ≡ lists_in (option_and_then (get (codes "extra")) (get (codes "userInfo") part.now))) }
+fn extra_of(alloc: Global, user: &Option<Part<'_, '_>>) -> Result<TextMap<Items<Text>>, AllocError>
+    ensures { IfOk result (λ lists. lists ≡ lists_in (option_and_then (get (codes "extra")) user.now)) }
 {
-    match part.get("userInfo") {
+    match user {
         Some(found) => lists_at(alloc, found.get("extra")),
         None => Ok(TextMap::new(alloc)),
     }
@@ -187,12 +188,11 @@ fn lists_at(alloc: Global, part: Option<Part<'_, '_>>) -> Result<TextMap<Items<T
 }
 
 /// The texts of `groups`.
-fn groups_of(alloc: Global, part: &Part<'_, '_>) -> Result<Items<Text>, AllocError>
-    ensures { IfOk result (λ texts. texts
-        ≡ each_item text_of (items_in (option_and_then (get (codes "groups")) (get (codes "userInfo") part.now)))) }
+fn groups_of(alloc: Global, user: &Option<Part<'_, '_>>) -> Result<Items<Text>, AllocError>
+    ensures { IfOk result (λ texts. texts ≡ each_item text_of (items_in (option_and_then (get (codes "groups")) user.now))) }
 {
-    match part.get("userInfo") {
-        Some(found) => texts_of(alloc, items_in(alloc, &found, "groups")?.as_slice()),
+    match user {
+        Some(found) => texts_of(alloc, items_in(alloc, found, "groups")?.as_slice()),
         None => Ok(Items::new(alloc)),
     }
 }
@@ -200,11 +200,12 @@ fn groups_of(alloc: Global, part: &Part<'_, '_>) -> Result<Items<Text>, AllocErr
 fn user_info_of(alloc: Global, part: &Part<'_, '_>) -> Result<UserInfo, AllocError>
     ensures { IfOk result (λ user. user ≡ user_info_of part.now) }
 {
+    let user = part.get("userInfo");
     Ok(UserInfo {
-        username: text_at(alloc, part, "userInfo", "username")?,
-        uid: text_at(alloc, part, "userInfo", "uid")?,
-        groups: groups_of(alloc, part)?,
-        extra: extra_of(alloc, part)?,
+        username: text_at(alloc, &user, "username")?,
+        uid: text_at(alloc, &user, "uid")?,
+        groups: groups_of(alloc, &user)?,
+        extra: extra_of(alloc, &user)?,
     })
 }
 

@@ -77,6 +77,13 @@ pub fn pass<'a>(
     ensures within { IfOk result (λ p. p.charged ≤ sum_by condition_estimate conditions.now) }
     ensures pattern { IsErrOf result (Fault Pattern) → Any ConditionMayMatch conditions.now }
 {
+    // Most policies have none: then no memory is made and let go.
+    let [_, ..] = conditions else {
+        return Ok(Passed {
+            gate: Gate::Open,
+            charged: 0,
+        });
+    };
     let mut memory = Memory::new(alloc);
     let mut first = None;
     let mut total: u64 = 0;
