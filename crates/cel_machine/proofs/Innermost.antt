@@ -42,6 +42,11 @@ innermost xs i f e h =
 innermost_set : {A : Type 0} (xs : List A) (i : ℕ) (g : A) → suc i ≡ length xs → reverse (slice_set xs i g) ≡ g ∷ reverse (take i xs)
 innermost_set xs i g e = ap reverse (last_set xs i g e) ∙ reverse-append (take i xs) (g ∷ [])
 
+-- another one in its place is on top of what was below
+pub set_over : (xs : List Outcome) (i : ℕ) (x y : Outcome) → suc i ≡ length xs → x ≡ slice_index_or xs i x
+    → reverse (slice_set xs i y) ≡ y ∷ below_top (reverse xs)
+set_over xs i x y e h = innermost_set xs i y e ∙ ap (λ s. y ∷ below_top s) (sym (innermost xs i x e h))
+
 -- the innermost loop in its place, at its next item
 pub advancing : (r : Bool) (xs : List Frame) (i : ℕ) (f g : Frame) → suc i ≡ length xs → f ≡ slice_index_or xs i f
     → MatchBool r (taking f f.left ≡ Some g) (f.left ≡ [])

@@ -1,5 +1,5 @@
-//! Comparisons of two integers and of two texts, for equality or for what one has of the other. Their truth value needs no room: what
-//! any operator makes is moved from call to call.
+//! Comparisons of two integers and of two texts, for equality or for what one has of the other, and what lists and maps have. Their truth
+//! value needs no room: what any operator makes is moved from call to call.
 
 ghost use Rattle.std.specs.Prelude.{◌≡◌, ◌≤◌, ◌-◌, ◌^◌, min, IfSome, IsTrue, Some, Ok, reverse, option_map};
 ghost use Rattle.cel_value.specs.Value.{same, text_weight_of};
@@ -9,7 +9,8 @@ ghost use Rattle.cel_operators_applied.specs.Counted.{counted};
 ghost use Rattle.cel_machine.specs.Follow.{made_of_two, opposed, truth_made};
 
 use crate::operand::{Operand, read};
-use cel_operators::Operator;
+use cel_operators::{Made, Operator};
+use cel_operators_applied::{in_list, in_map};
 use cel_value::{CelError, Value, code_points, tenths};
 
 /// Whether a comparison holds, and what it charges.
@@ -44,6 +45,19 @@ fn compared_values(op: Operator, v: &Value, w: &Value) -> Option<Comparison>
         Operator::Greater => is_less(w, v),
         Operator::AtLeast => opposite(is_less(v, w)),
         Operator::StartsWith | Operator::EndsWith | Operator::Contains => does_have(op, v, w),
+        Operator::InList => truth_in(in_list(Ok(v), Ok(w))),
+        Operator::InMap => truth_in(in_map(Ok(v), Ok(w))),
+        _ => None,
+    }
+}
+
+// The truth value that was made, with its charge.
+fn truth_in(made: Option<Made>) -> Option<Comparison>
+    ensures { IfSome result (λ c. made ≡ Some (truth_made c)) }
+{
+    let Made { outcome, charge } = made?;
+    match outcome {
+        Ok(Value::Bool(holds)) => Some(Comparison { holds, charge }),
         _ => None,
     }
 }

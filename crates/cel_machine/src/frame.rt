@@ -1,6 +1,7 @@
 //! Open loops.
 
-ghost use Rattle.std.specs.Prelude.{◌≡◌, ◌+◌, ◌<◌, ◌^◌, [], length, IfOk, IfSome, MatchBool, Some};
+ghost use Rattle.std.specs.Prelude.{◌≡◌, ◌+◌, ◌<◌, ◌^◌, [], length, IfOk, IfSome, MatchBool, Ok, Some};
+ghost use Rattle.cel_value.specs.declared.value.Value as V;
 ghost use Rattle.cel_operators.specs.Loops.{turn as turn_of, result_of as result_of_loop};
 ghost use Rattle.cel_machine.specs.Ranges.{range_items, opened_over, taking, with_gathered};
 ghost use Rattle.cel_machine.specs.Turns.{turn_by};
@@ -138,6 +139,17 @@ impl<'a> Frame<'a> {
             &mut self.gathered,
             x,
         )
+    }
+
+    /// What it makes of what it has gathered, if that is a truth value that it needs no tally for.
+    pub fn truth(&self) -> Option<bool>
+        ensures { IfSome result (λ holds. result_of_loop self.now.mode self.now.gathered ≡ Ok (V.Bool holds)) }
+    {
+        match (self.mode, &self.gathered.error) {
+            (Loop::All, None) => Some(true),
+            (Loop::Exists, None) => Some(false),
+            _ => None,
+        }
     }
 
     /// What it makes of what it has gathered.

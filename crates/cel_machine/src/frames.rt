@@ -99,6 +99,9 @@ impl<'a> Frames<'a> {
     pub fn get(&self, number: usize) -> Option<&Frame<'a>>
         ensures { option_copied result ≡ slice_get self.now number }
     {
+        if number == 0 {
+            return self.items.last();
+        }
         at_depth(&self.items, number)
     }
 }

@@ -30,7 +30,7 @@ pub fn list(
     let Some(items) = taken_off(alloc, count, stack)? else {
         return Ok(Move::IsStuckHere);
     };
-    let made = made_list(alloc, items)?;
+    let made = made_list(alloc, count, items)?;
     finish(Ok(Some(made)), position, stack)
 }
 
@@ -58,11 +58,11 @@ fn taken_off<'a>(
     Ok(Some(taken))
 }
 
-// The list of items, the first on top, with its charge.
-fn made_list(alloc: Global, items: Stack<'_>) -> Result<Made, AllocError>
+// The list of so many items, the first on top, with its charge.
+fn made_list(alloc: Global, count: usize, items: Stack<'_>) -> Result<Made, AllocError>
     ensures { IfOk result (λ made. counted (Some (list_made items.entry.items)) ≡ Some made) }
 {
-    Ok(match values(alloc, items)? {
+    Ok(match values(alloc, count, items)? {
         Ok(values) => {
             let charge = (values.len() as u64).saturating_add(1);
             Made {
@@ -77,16 +77,21 @@ fn made_list(alloc: Global, items: Stack<'_>) -> Result<Made, AllocError>
     })
 }
 
-// The values of items, the first on top, or the leftmost error; what is lent is copied.
-fn values(alloc: Global, mut items: Stack<'_>) -> Result<Result<Items<Value>, CelError>, AllocError>
+// The values of so many items, the first on top, or the leftmost error; what is lent is copied. No answer depends on the number: it is
+// the room that is made.
+fn values(
+    alloc: Global,
+    count: usize,
+    mut items: Stack<'_>,
+) -> Result<Result<Items<Value>, CelError>, AllocError>
     ensures { IfOk result (λ values. values ≡ values_in items.entry.items) }
 {
-    let mut values = Items::new(alloc);
+    let mut values = Vec::with_capacity(alloc, count)?;
     while let Some(item) = items.pop() {
         match item {
             Ok(operand) => values.push(operand.into_value(alloc)?)?,
             Err(error) => return Ok(Err(error)),
         }
     }
-    Ok(Ok(values))
+    Ok(Ok(Items::from_vec(values)))
 }

@@ -262,8 +262,26 @@ fn go_on<'a>(position: &mut Position, stack: &mut Stack<'a>, frames: &mut Frames
     finish_loop(position, stack, frames)
 }
 
-// Out of the loop with its result.
+// Out of the loop with its result. A truth value is told without taking the loop off.
 fn finish_loop<'a>(position: &mut Position, stack: &mut Stack<'a>, frames: &mut Frames<'a>) -> Move
+    requires room { HasRoom stack.old }
+    ensures acts { Follows (finished_in stack.old.items frames.old) result position.new stack.new.items frames.new }
+    ensures room { stack.new.room ≡ stack.old.room }
+{
+    let Some(frame) = frames.get(0) else {
+        return Move::IsStuckHere;
+    };
+    let Some(holds) = frame.truth() else {
+        return finish_any(position, stack, frames);
+    };
+    let exit = frame.exit();
+    frames.pop();
+    stack.push(Ok(Operand::own(Value::Bool(holds))));
+    position.go_to(exit, 0)
+}
+
+// The same, whatever the result is.
+fn finish_any<'a>(position: &mut Position, stack: &mut Stack<'a>, frames: &mut Frames<'a>) -> Move
     requires room { HasRoom stack.old }
     ensures acts { Follows (finished_in stack.old.items frames.old) result position.new stack.new.items frames.new }
     ensures room { stack.new.room ≡ stack.old.room }
@@ -271,12 +289,9 @@ fn finish_loop<'a>(position: &mut Position, stack: &mut Stack<'a>, frames: &mut 
     let Some(frame) = frames.pop() else {
         return Move::IsStuckHere;
     };
-    let exit = frame.exit();
-    match frame.into_outcome() {
-        Ok(Value::Bool(holds)) => stack.push(Ok(Operand::own(Value::Bool(holds)))),
-        outcome => stack.push(own(outcome)),
-    }
-    position.go_to(exit, 0)
+    let to = frame.exit();
+    stack.push(own(frame.into_outcome()));
+    position.go_to(to, 0)
 }
 
 // Out of the loop with this.

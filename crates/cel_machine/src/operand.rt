@@ -1,4 +1,5 @@
-ghost use Rattle.std.specs.Prelude.{◌≡◌, IfOk, IfSome};
+ghost use Rattle.std.specs.Prelude.{◌≡◌, false, Ok, IfOk, IfSome, IsTrue};
+ghost use Rattle.cel_value.specs.declared.value.Value as V;
 ghost use Rattle.cel_operators_applied.specs.Lent.{lent};
 ghost use Rattle.cel_machine.specs.Operand.{content_of};
 
@@ -82,6 +83,15 @@ impl<'a> Operand<'a> {
         self.held
     }
 
+    /// Lets go of the value, which needs nothing if it is a truth value or elsewhere.
+    #[inline(always)]
+    pub(crate) fn let_go(self) {
+        match self.held {
+            Held::Lent(_) | Held::Own(Value::Bool(_)) => {}
+            Held::Own(value) => drop(value),
+        }
+    }
+
     /// The value, which is copied if it was lent.
     pub fn into_value(self, alloc: Global) -> Result<Value, AllocError>
         ensures { IfOk result (λ value. value ≡ self.entry) }
@@ -100,6 +110,45 @@ pub fn own<'a>(outcome: Result<Value, CelError>) -> Result<Operand<'a>, CelError
     match outcome {
         Ok(value) => Ok(Operand::own(value)),
         Err(error) => Err(error),
+    }
+}
+
+/// Makes an operand this truth value where it is, if it needs no memory: it is a truth value of the run's own, or elsewhere.
+pub(crate) fn set_truth(operand: &mut Result<Operand<'_>, CelError>, holds: bool) -> bool
+    ensures set { IsTrue result → operand.new ≡ Ok (V.Bool holds) }
+    ensures kept { result ≡ false → operand.new ≡ operand.old }
+{
+    let Ok(operand) = operand else {
+        return false;
+    };
+    match &mut operand.held {
+        Held::Own(Value::Bool(truth)) => {
+            *truth = holds;
+            true
+        }
+        Held::Own(_) => false,
+        lent => {
+            *lent = Held::Own(Value::Bool(holds));
+            true
+        }
+    }
+}
+
+/// Makes an operand this value that is elsewhere, if it is one that is elsewhere.
+pub(crate) fn set_lent<'a>(operand: &mut Result<Operand<'a>, CelError>, value: &'a Value) -> bool
+    ensures set { IsTrue result → operand.new ≡ Ok value.now }
+    ensures kept { result ≡ false → operand.new ≡ operand.old }
+{
+    match operand {
+        Ok(
+            Operand {
+                held: Held::Lent(place),
+            },
+        ) => {
+            *place = value;
+            true
+        }
+        _ => false,
     }
 }
 

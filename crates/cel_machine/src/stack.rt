@@ -1,9 +1,10 @@
-ghost use Rattle.std.specs.Prelude.{◌≡◌, ◌∷◌, ◌<◌, [], Ok, IfOk, IfSome, MatchOption, OnOk, length, option_map, reverse};
+ghost use Rattle.std.specs.Prelude.{◌≡◌, ◌∷◌, ◌<◌, [], false, Ok, IfOk, IfSome, IsTrue, MatchOption, OnOk, length, option_map, reverse};
+ghost use Rattle.cel_value.specs.declared.value.Value as V;
 ghost use Rattle.cel_machine.specs.Follow.{below_top, below_two, top_of};
 ghost use Rattle.cel_operators_applied.specs.Lent.{lent};
 ghost use Rattle.cel_machine.specs.Room.{HasRoom};
 
-use crate::operand::{Operand, read};
+use crate::operand::{Operand, read, set_lent, set_truth};
 use cel_value::{CelError, Value};
 use std::alloc::{AllocError, Global};
 use std::marker::Model;
@@ -87,7 +88,10 @@ impl<'a> Stack<'a> {
         ensures items { self.new.items ≡ below_top self.old.items }
         ensures room { self.new.room ≡ self.old.room }
     {
-        self.pop();
+        // (most are truth values or elsewhere, which is seen without looking up how a kind is let go)
+        if let Some(Ok(operand)) = self.pop() {
+            operand.let_go();
+        }
     }
 
     /// The value on top, if it is lent.
@@ -109,6 +113,53 @@ impl<'a> Stack<'a> {
     {
         self.drop_top();
         self.items.push_reserved(item);
+    }
+
+    /// A truth value in place of the top, which is changed where it is if it needs no memory.
+    pub fn put_truth(&mut self, holds: bool)
+        requires room { HasRoom self.old }
+        ensures items { self.new.items ≡ Ok (V.Bool holds) ∷ below_top self.old.items }
+        ensures room { self.new.room ≡ self.old.room }
+    {
+        if !self.set_truth(holds) {
+            self.put_over_top(Ok(Operand::own(Value::Bool(holds))));
+        }
+    }
+
+    // Makes the top a truth value where it is, if it needs no memory.
+    fn set_truth(&mut self, holds: bool) -> bool
+        ensures set { IsTrue result → self.new.items ≡ Ok (V.Bool holds) ∷ below_top self.old.items }
+        ensures kept { result ≡ false → self.new.items ≡ self.old.items }
+        ensures room { self.new.room ≡ self.old.room }
+    {
+        let Some(top) = self.items.last_mut() else {
+            return false;
+        };
+        set_truth(top, holds)
+    }
+
+    /// A value that is elsewhere in place of the top. Where the top is one that is elsewhere, only its place is changed.
+    #[inline(always)]
+    pub fn put_lent(&mut self, value: &'a Value)
+        requires room { HasRoom self.old }
+        ensures items { self.new.items ≡ Ok value.now ∷ below_top self.old.items }
+        ensures room { self.new.room ≡ self.old.room }
+    {
+        if !self.set_lent(value) {
+            self.put_over_top(Ok(Operand::lent(value)));
+        }
+    }
+
+    // Makes the top this value that is elsewhere, if it is one that is elsewhere.
+    fn set_lent(&mut self, value: &'a Value) -> bool
+        ensures set { IsTrue result → self.new.items ≡ Ok value.now ∷ below_top self.old.items }
+        ensures kept { result ≡ false → self.new.items ≡ self.old.items }
+        ensures room { self.new.room ≡ self.old.room }
+    {
+        let Some(top) = self.items.last_mut() else {
+            return false;
+        };
+        set_lent(top, value)
     }
 
     /// An operand in place of the two on top: this takes no memory.

@@ -191,7 +191,9 @@ fn operate(
         | Operator::AtLeast
         | Operator::StartsWith
         | Operator::EndsWith
-        | Operator::Contains => compare(alloc, op, position, stack),
+        | Operator::Contains
+        | Operator::InList
+        | Operator::InMap => compare(alloc, op, position, stack),
         _ => apply(alloc, op, position, stack),
     }
 }
@@ -207,7 +209,7 @@ fn negate(alloc: Global, position: &mut Position, stack: &mut Stack<'_>) -> Resu
     let Some(holds) = truth_on_top(stack) else {
         return apply(alloc, Operator::Not, position, stack);
     };
-    stack.put_over_top(Ok(Operand::own(Value::Bool(!holds))));
+    stack.put_truth(!holds);
     Ok(position.go_on(1))
 }
 
@@ -235,9 +237,8 @@ fn compare(
     ensures room { stack.new.room ≡ stack.old.room }
 {
     if let Some(comparison) = compared(op, stack.as_slice()) {
-        let truth = Ok(Operand::own(Value::Bool(comparison.holds)));
         stack.drop_top();
-        stack.put_over_top(truth);
+        stack.put_truth(comparison.holds);
         return Ok(position.go_on(comparison.charge));
     }
     apply(alloc, op, position, stack)
@@ -360,9 +361,8 @@ fn finish_over(
             let charge = made.charge;
             match made.outcome {
                 Ok(Value::Bool(holds)) => {
-                    let truth = Ok(Operand::own(Value::Bool(holds)));
                     stack.drop_top();
-                    stack.put_over_top(truth);
+                    stack.put_truth(holds);
                 }
                 outcome => stack.put_over_two(own(outcome)),
             }
@@ -441,9 +441,8 @@ fn join(stack: &mut Stack<'_>, all: bool, position: &mut Position) -> Move
     let Some(holds) = truths_joined(stack.as_slice(), all) else {
         return join_any(stack, all, position);
     };
-    let truth = Ok(Operand::own(Value::Bool(holds)));
     stack.drop_top();
-    stack.put_over_top(truth);
+    stack.put_truth(holds);
     position.go_on(0)
 }
 

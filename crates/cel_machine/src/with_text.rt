@@ -68,6 +68,22 @@ fn select(
     if let Some(value) = stack.lent_top() {
         return Ok(select_in(value, name, position, stack));
     }
+    select_any(alloc, name, position, stack)
+}
+
+// The same of any operand. It stands apart, since a function writes zeros over the room of its locals whenever it is called.
+fn select_any(
+    alloc: Global,
+    name: &str,
+    position: &mut Position,
+    stack: &mut Stack<'_>,
+) -> Result<Move, AllocError>
+    requires at { position.old.at + 1 < 2 ^ 64 }
+    requires room { HasRoom stack.old }
+    ensures acts { IfOk result (λ m. Comes (metered_one (row_with TextOperator.Select name.now) position.old.at stack.old.items)
+        m position.new stack.new.items) }
+    ensures room { stack.new.room ≡ stack.old.room }
+{
     let Some(x) = stack.pop() else {
         return Ok(Move::IsStuckHere);
     };
@@ -96,7 +112,7 @@ fn select_in<'a>(
         return Move::IsStuckHere;
     };
     match part {
-        Ok(value) => stack.put_over_top(lend(Ok(value))),
+        Ok(value) => stack.put_lent(value),
         error => stack.put_over_top(lend(error)),
     }
     position.go_on(1)

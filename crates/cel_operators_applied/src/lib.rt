@@ -17,7 +17,7 @@ mod texts;
 mod times;
 
 pub use kinds::{alone, both, characters, entries, items, made, members, truth, whole};
-pub use lists::{item_at, item_of_list, value_of_map};
+pub use lists::{in_list, in_map, item_at, item_of_list, value_of_map};
 pub use maps::{in_front, map_of};
 pub use operate::{on_one, on_two};
 pub use texts::tenths_in;

@@ -299,8 +299,9 @@ fn fit_field(
     if is_absent(cel_type, required, member) {
         return Ok(None);
     }
-    let value = fit_at(alloc, cel_type, member, &Path::Field(path, name));
-    Ok(Some(under(alloc, name, value)?))
+    let value = fit_at(alloc, cel_type, member, &Path::Field(&*path, &*name))?;
+    let key = Text::from_str(alloc, name)?;
+    Ok(Some(Keyed { key, value }))
 }
 
 fn int_value(int: Result<i64, FitError>) -> Result<Value, FitError>

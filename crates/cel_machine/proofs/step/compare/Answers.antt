@@ -13,5 +13,5 @@ returns-in-Some-clause-acts c = λ frames.
     let makes : made_of_two (row c.args.op) before ≡ Some answer =
     ap (made_of_two (row c.args.op)) c.as_slice.ensures ∙ c.in-Some.ensures in
     let there : made (Some answer) at (below_two before) frames
-    ≡ next_of c.go_on.result c.go_on.new.self c.put_over_top.new.self.items frames = search rules in
+    ≡ next_of c.go_on.result c.go_on.new.self c.put_truth.new.self.items frames = search rules in
     by_made (row c.args.op) at before frames answer makes ∙ there

@@ -23,7 +23,7 @@ use Rattle.vap_schema.proofs.Turns.{path_text-Field, path_text-Item, all_push, i
 use Rattle.vap_schema.proofs.Lengths.{list_over, list_read, list_fits, map_over, map_read, map_fits}
 use Rattle.vap_schema.proofs.Ordered.{IsInOrder, names_in, entries_in_order, members_in_order, names_in_order, names_behind}
 use Rattle.vap_schema.proofs.Fitted.{all_with, has_field, made_fits, fits-List, fits-Map}
-use Rattle.vap_schema.proofs.Parts.{entry_read, field_stops}
+use Rattle.vap_schema.proofs.Parts.{entry_read, field_stops, stops}
 use Rattle.vap_schema.proofs.InStepMembers.{step_stops, step_goes, named_here, field_here}
 use Rattle.vap_schema.proofs.values.+fit_at.Goals as goal
 
@@ -217,16 +217,16 @@ fit_entry-returns-clause-exact t c =
 pub fit_object-returns-clause-exact : goal.fit_object-returns-clause-exact
 fit_object-returns-clause-exact t c = c.complete.ensures.exact _ c.fit_members.ensures.exact
 
-pub fit_field-returns-in_err-under-clause-exact : goal.fit_field-returns-in_err-under-clause-exact
-fit_field-returns-in_err-under-clause-exact t c =
+pub fit_field-returns-in_err-value-clause-exact : goal.fit_field-returns-in_err-value-clause-exact
+fit_field-returns-in_err-value-clause-exact t c =
     let reader = reader_of c.args.cel_type.now in
     let name = c.args.name.now in
     let document = c.args.member.now in
     let p = err_from_is_err_and c.from_residual.result c.from_residual.ensures.1 in
     rw (p.1, p.2)
     (field_stops c.args.required reader (path_text c.args.path.now) name document _ (sym c.is_absent.ensures ∙ c.if-is_absent.false)
-    (subst (λ q. Answers (seen_under reader.1 q name document) (Err c.in_err-under.field-0.0))
-    (path_text-Field c.args.path c.args.name) (c.in_err-under.ensures.exact _ c.fit_at-value.ensures.exact)))
+    (subst (λ q. Answers (seen_under reader.1 q name document) (Err c.in_err-value.field-0.0))
+    (path_text-Field c.args.path c.args.name) (stops _ _ _ _ refl c.in_err-value.ensures.exact)))
 
 pub fit_members-loop-member-init : goal.fit_members-loop-member-init
 fit_members-loop-member-init t c =
