@@ -1,5 +1,5 @@
-//! Comparisons of two integers and of two texts, for equality or for what one has of the other, and what lists and maps have. Their truth
-//! value needs no room: what any operator makes is moved from call to call.
+//! Operators whose truth value is found where the operands are: comparisons of two integers and of two texts, for equality or for what
+//! one has of the other, and what lists and maps have. It needs no room: what any operator makes is moved from call to call.
 
 ghost use Rattle.std.specs.Prelude.{◌≡◌, ◌≤◌, ◌-◌, ◌^◌, min, IfSome, IsTrue, Some, Ok, reverse, option_map};
 ghost use Rattle.cel_value.specs.Value.{same, text_weight_of};
@@ -13,14 +13,14 @@ use cel_operators::{Made, Operator};
 use cel_operators_applied::{in_list, in_map};
 use cel_value::{CelError, Value, code_points, tenths};
 
-/// Whether a comparison holds, and what it charges.
+/// Whether what an operator says of two values holds, and what it charges.
 #[derive(Clone, Copy)]
 pub struct Comparison {
     pub holds: bool,
     pub charge: u64,
 }
 
-/// The comparison of the two operands on top, if they are integers, or texts that may be equal.
+/// What an operator says of the two operands on top, if that is found where they are; nothing for other operators and operands.
 pub fn compared(op: Operator, operands: &[Result<Operand<'_>, CelError>]) -> Option<Comparison>
     ensures { IfSome result (λ c. made_of_two (row op) (reverse operands.now) ≡ Some (truth_made c)) }
 {
@@ -33,7 +33,7 @@ pub fn compared(op: Operator, operands: &[Result<Operand<'_>, CelError>]) -> Opt
     }
 }
 
-// The comparison of two integers, or of two texts that may be equal; nothing for another operator or other values.
+// What an operator says of two values, if that is found where they are.
 fn compared_values(op: Operator, v: &Value, w: &Value) -> Option<Comparison>
     ensures { IfSome result (λ c. counted (at_two (row op) (Some (Ok v.now)) (Some (Ok w.now))) ≡ Some (truth_made c)) }
 {
@@ -97,7 +97,7 @@ fn opposite(comparison: Option<Comparison>) -> Option<Comparison>
     })
 }
 
-// Whether two integers or two texts are the same.
+// Whether two integers or two texts are the same; nothing for other values.
 fn is_same(v: &Value, w: &Value) -> Option<Comparison>
     ensures same { IfSome result (λ c. c.holds ≡ same v.now w.now) }
     ensures charge { IfSome result (λ c. c.charge ≡ min (lesser_weight v.now w.now) (2 ^ 64 - 1)) }
@@ -130,7 +130,7 @@ fn are_same_texts(a: &str, b: &str) -> Comparison
     }
 }
 
-// Whether an integer is less than another.
+// Whether an integer is less than another; nothing for other values.
 fn is_less(v: &Value, w: &Value) -> Option<Comparison>
     ensures less { IfSome result (λ c. less v.now w.now ≡ Some c.holds) }
     ensures charge { IfSome result (λ c. c.charge ≡ min (lesser_weight v.now w.now) (2 ^ 64 - 1)) }

@@ -222,9 +222,9 @@ fn truth_on_top(stack: &Stack<'_>) -> Option<bool>
     }
 }
 
-// A comparison: of two integers or of two texts, its truth value takes their place. It is put there by what is compiled into this
-// function: if it were handed to another one in memory, it would be read in other pieces than it is written in, and a processor has to
-// wait for that.
+// An operator whose truth value may be found where its operands are: then it takes their place. It is put there by what is compiled
+// into this function: if it were handed to another one in memory, it would be read in other pieces than it is written in, and a
+// processor has to wait for that.
 fn compare(
     alloc: Global,
     op: Operator,
