@@ -2,6 +2,7 @@ pub mod Filled
 pub mod Gathering
 pub mod Innermost
 pub mod Meters
+pub mod Ranges
 pub mod Running
 pub mod ShortTexts
 pub mod Values

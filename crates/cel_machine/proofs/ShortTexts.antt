@@ -4,7 +4,7 @@ use Rattle.std.proofs.lemmas.Bool.{cases_Bool, lt-ltb, or_left}
 use Rattle.cel_value.specs.Value.{begins, code_points, text_weight_of}
 
 -- a text has no more code points than bytes
-code_points_most : (bytes : List ℕ) → code_points bytes ≤ length bytes
+pub code_points_most : (bytes : List ℕ) → code_points bytes ≤ length bytes
 code_points_most [] = omega arith
 code_points_most (b ∷ bytes) = elim (cases_Bool (begins b)) [
   | inl h ↦ rw h (omega (arith, code_points_most bytes))

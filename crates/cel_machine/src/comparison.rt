@@ -1,8 +1,10 @@
 //! Operators whose truth value is found where the operands are: comparisons of two integers and of two texts, for equality or for what
-//! one has of the other, and what lists and maps have. It needs no room: what any operator makes is moved from call to call.
+//! one has of the other, of a value with null, and what lists and maps have. It needs no room: what any operator makes is moved from
+//! call to call.
 
 ghost use Rattle.std.specs.Prelude.{◌≡◌, ◌≤◌, ◌-◌, ◌^◌, min, IfSome, IsTrue, Some, Ok, reverse, option_map};
 ghost use Rattle.cel_value.specs.Value.{same, text_weight_of};
+ghost use Rattle.cel_value.specs.declared.value.Value as value;
 ghost use Rattle.cel_operators.specs.Operators.{row, at_two, less, lesser_weight};
 ghost use Rattle.std.specs.Str.{bytes_eq};
 ghost use Rattle.cel_operators_applied.specs.Counted.{counted};
@@ -45,16 +47,21 @@ fn compared_values(op: Operator, v: &Value, w: &Value) -> Option<Comparison>
         Operator::Greater => is_less(w, v),
         Operator::AtLeast => opposite(is_less(v, w)),
         Operator::StartsWith | Operator::EndsWith | Operator::Contains => does_have(op, v, w),
-        Operator::InList => truth_in(in_list(Ok(v), Ok(w))),
-        Operator::InMap => truth_in(in_map(Ok(v), Ok(w))),
+        Operator::InList | Operator::InMap => is_in(op, v, w),
         _ => None,
     }
 }
 
-// The truth value that was made, with its charge.
-fn truth_in(made: Option<Made>) -> Option<Comparison>
-    ensures { IfSome result (λ c. made ≡ Some (truth_made c)) }
+// Whether a list or a map has a value. It stands apart, since a function writes zeros over the room of its locals whenever it is called.
+#[inline(never)]
+fn is_in(op: Operator, v: &Value, w: &Value) -> Option<Comparison>
+    ensures { IfSome result (λ c. counted (at_two (row op) (Some (Ok v.now)) (Some (Ok w.now))) ≡ Some (truth_made c)) }
 {
+    let made = match op {
+        Operator::InList => in_list(Ok(v), Ok(w)),
+        Operator::InMap => in_map(Ok(v), Ok(w)),
+        _ => None,
+    };
     let Made { outcome, charge } = made?;
     match outcome {
         Ok(Value::Bool(holds)) => Some(Comparison { holds, charge }),
@@ -62,7 +69,8 @@ fn truth_in(made: Option<Made>) -> Option<Comparison>
     }
 }
 
-// Whether a text has another: in front, at its end or anywhere.
+// Whether a text has another: in front, at its end or anywhere. It stands apart for the same reason.
+#[inline(never)]
 fn does_have(op: Operator, v: &Value, w: &Value) -> Option<Comparison>
     ensures { IfSome result (λ c. counted (at_two (row op) (Some (Ok v.now)) (Some (Ok w.now))) ≡ Some (truth_made c)) }
 {
@@ -97,7 +105,7 @@ fn opposite(comparison: Option<Comparison>) -> Option<Comparison>
     })
 }
 
-// Whether two integers or two texts are the same; nothing for other values.
+// Whether two integers or two texts are the same, or a value is null; nothing for other values.
 fn is_same(v: &Value, w: &Value) -> Option<Comparison>
     ensures same { IfSome result (λ c. c.holds ≡ same v.now w.now) }
     ensures charge { IfSome result (λ c. c.charge ≡ min (lesser_weight v.now w.now) (2 ^ 64 - 1)) }
@@ -108,7 +116,19 @@ fn is_same(v: &Value, w: &Value) -> Option<Comparison>
             charge: 1,
         }),
         (Value::Text(a), Value::Text(b)) => Some(are_same_texts(a.as_str(), b.as_str())),
+        (_, Value::Null) => Some(is_null(v)),
         _ => None,
+    }
+}
+
+// Whether a value is null, for what null weighs: no value weighs less.
+fn is_null(v: &Value) -> Comparison
+    ensures same { result.holds ≡ same v.now value.Null }
+    ensures charge { result.charge ≡ min (lesser_weight v.now value.Null) (2 ^ 64 - 1) }
+{
+    Comparison {
+        holds: matches!(v, Value::Null),
+        charge: 1,
     }
 }
 

@@ -11,6 +11,7 @@
 //! [`evaluation::run`] runs a compiled expression, and answers what the definitions of the language say of its text.
 #![tactic(auto)]
 
+mod arithmetic;
 mod comparison;
 mod ended;
 pub mod evaluation;

@@ -83,11 +83,11 @@ impl<'a> Operand<'a> {
         self.held
     }
 
-    /// Lets go of the value, which needs nothing if it is a truth value or elsewhere.
+    /// Lets go of the value, which needs nothing if it is a truth value, an integer or elsewhere.
     #[inline(always)]
     pub(crate) fn let_go(self) {
         match self.held {
-            Held::Lent(_) | Held::Own(Value::Bool(_)) => {}
+            Held::Lent(_) | Held::Own(Value::Bool(_) | Value::Int(_)) => {}
             Held::Own(value) => drop(value),
         }
     }

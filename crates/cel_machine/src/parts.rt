@@ -1,14 +1,12 @@
 //! Fields of objects, and what maps hold under keys.
 
-ghost use Rattle.std.specs.Prelude.{◌≡◌, Some, Ok, IfOk, option_copied, option_map};
-ghost use Rattle.base_containers.specs.Keys.{value_under};
+ghost use Rattle.std.specs.Prelude.{◌≡◌, Some, Ok, IfOk, option_map};
 ghost use Rattle.cel_operators.specs.Operators.{at_one, outcome_made};
 ghost use Rattle.cel_operators.specs.TextOperators.{row_with};
 ghost use Rattle.cel_operators_applied.specs.Counted.{counted};
 ghost use Rattle.cel_operators_applied.specs.Lent.{lent};
 
 use crate::operand::{Held, Operand};
-use base_containers::TextMap;
 use cel_operators::{Made, TextOperator};
 use cel_operators_applied::{alone, made, members};
 use cel_value::{CelError, Value};
@@ -42,23 +40,10 @@ pub fn field_in<'v>(value: &'v Value, name: &str) -> Option<Result<&'v Value, Ce
     ensures { option_map lent result ≡ outcome_made (at_one (row_with TextOperator.Select name.now) (Some (Ok value.now))) }
 {
     match members(Ok(value)) {
-        Some(Ok(entries)) => Some(value_under(entries, name).ok_or(CelError::NoSuchKey)),
+        Some(Ok(entries)) => Some(entries.get(name).ok_or(CelError::NoSuchKey)),
         Some(Err(error)) => Some(Err(error)),
         None => None,
     }
-}
-
-// What is under a key. Most keys are of another length, which is seen without a call.
-fn value_under<'v>(entries: &'v TextMap<Value>, name: &str) -> Option<&'v Value>
-    ensures { option_copied result ≡ value_under name.now entries.now }
-{
-    for entry in entries.as_slice() {
-        let key = entry.key.as_str();
-        if key.len() == name.len() && key == name {
-            return Some(&entry.value);
-        }
-    }
-    None
 }
 
 /// Whether an operand has the field, or holds something under the key.
@@ -66,7 +51,7 @@ pub fn has_field(x: Result<&Value, CelError>, name: &str) -> Option<Made>
     ensures { result ≡ counted (at_one (row_with TextOperator.Has name.now) (Some (lent x.entry))) }
 {
     match alone(members(x)) {
-        Ok(entries) => made(Ok(Value::Bool(value_under(entries, name).is_some())), 1),
+        Ok(entries) => made(Ok(Value::Bool(entries.get(name).is_some())), 1),
         Err(made) => made,
     }
 }

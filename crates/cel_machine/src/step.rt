@@ -3,18 +3,20 @@ ghost use Rattle.std.specs.Prelude.{slice_get, option_map, reverse};
 ghost use Rattle.base_containers.specs.declared.failed.Failed.TheVariants.{Fault};
 ghost use Rattle.cel_machine.specs.declared.fault.RunFault.TheVariants.{Pattern};
 ghost use Rattle.cel_value.specs.declared.value.Value as value;
-ghost use Rattle.cel_operators.specs.Operators.{row, operator_of};
+ghost use Rattle.cel_operators.specs.Operators.{row, operator_of, at_one};
 ghost use Rattle.cel_operators.specs.Wants.{side_of};
 ghost use Rattle.cel_code.specs.Machine.{Frame, act, inputs_of, push, constant as constant_of, slot as slot_of, operate_by};
 ghost use Rattle.cel_code.specs.Machine.{made as made_next, join as sides_joined, joined as joined_next};
 ghost use Rattle.cel_machine.specs.Found.{made_by};
 ghost use Rattle.cel_code.specs.Matches.{is_matches};
+ghost use Rattle.cel_operators_applied.specs.Counted.{counted};
 ghost use Rattle.cel_operators_applied.specs.Lent.{lent};
 ghost use Rattle.cel_machine.specs.Room.{HasRoom};
 ghost use Rattle.cel_machine.specs.declared.position.Position.{Position};
 ghost use Rattle.cel_machine.specs.Follow.{Follows, LeadsTo, Comes, Finishes, metered_one, metered_two, made_of_two};
-ghost use Rattle.cel_machine.specs.Follow.{top_of, below_two, test_of, join_of, sides_of, branch_of, end_of};
+ghost use Rattle.cel_machine.specs.Follow.{top_of, below_two, test_of, join_of, sides_of, branch_of, end_of, size_made};
 
+use crate::arithmetic::calculated;
 use crate::comparison::compared;
 use crate::fault::RunError;
 use crate::frames::Frames;
@@ -31,7 +33,7 @@ use crate::with_text::{operate_with, text_at};
 use cel_code::{Image, Instr};
 use cel_operators::{Made, Matchers, Operands, Operator};
 use cel_operators_applied::{on_one, on_two, truth};
-use cel_value::{CelError, Value};
+use cel_value::{CelError, Value, code_points, tenths};
 use std::alloc::{AllocError, Global};
 
 /// Whether a run goes on after an instruction.
@@ -183,6 +185,7 @@ fn operate(
 {
     match op {
         Operator::Not => negate(alloc, position, stack),
+        Operator::SizeText => measure(alloc, position, stack),
         Operator::Equal
         | Operator::NotEqual
         | Operator::Less
@@ -194,6 +197,9 @@ fn operate(
         | Operator::Contains
         | Operator::InList
         | Operator::InMap => compare(alloc, op, position, stack),
+        Operator::Add | Operator::Subtract | Operator::Multiply => calculate(
+            alloc, op, position, stack,
+        ),
         _ => apply(alloc, op, position, stack),
     }
 }
@@ -240,6 +246,56 @@ fn compare(
         stack.drop_top();
         stack.put_truth(comparison.holds);
         return Ok(position.go_on(comparison.charge));
+    }
+    apply(alloc, op, position, stack)
+}
+
+// The size of a text takes its place.
+#[inline(never)]
+fn measure(
+    alloc: Global,
+    position: &mut Position,
+    stack: &mut Stack<'_>,
+) -> Result<Move, AllocError>
+    requires at { position.old.at + 1 < 2 ^ 64 }
+    requires room { HasRoom stack.old }
+    ensures acts { IfOk result (λ m. LeadsTo (operate_by (Some Operator.SizeText) position.old.at stack.old.items)
+        m position.new stack.new.items) }
+    ensures room { stack.new.room ≡ stack.old.room }
+{
+    let Some(size) = size_on_top(stack) else {
+        return apply(alloc, Operator::SizeText, position, stack);
+    };
+    stack.put_over_top(Ok(Operand::own(Value::Int(size as i64))));
+    Ok(position.go_on(1 + tenths(size as u64)))
+}
+
+fn size_on_top(stack: &Stack<'_>) -> Option<usize>
+    ensures size { IfSome result (λ n. counted (at_one (row Operator.SizeText) (top_of stack.now.items)) ≡ Some (size_made n)) }
+    ensures small { IfSome result (λ n. n < 2 ^ 63) }
+{
+    match stack.top() {
+        Some(Ok(Value::Text(text))) => Some(code_points(text.as_str())),
+        _ => None,
+    }
+}
+
+// A sum, a difference or a product: of two integers it takes their place. It stands apart, since few steps are any.
+#[inline(never)]
+fn calculate(
+    alloc: Global,
+    op: Operator,
+    position: &mut Position,
+    stack: &mut Stack<'_>,
+) -> Result<Move, AllocError>
+    requires at { position.old.at + 1 < 2 ^ 64 }
+    requires room { HasRoom stack.old }
+    ensures acts { IfOk result (λ m. LeadsTo (operate_by (Some op) position.old.at stack.old.items) m position.new stack.new.items) }
+    ensures room { stack.new.room ≡ stack.old.room }
+{
+    if let Some(number) = calculated(op, stack.as_slice()) {
+        stack.put_over_two(Ok(Operand::own(Value::Int(number))));
+        return Ok(position.go_on(1));
     }
     apply(alloc, op, position, stack)
 }

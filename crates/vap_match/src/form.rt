@@ -1,21 +1,22 @@
-//! Which documents are reviews.
+//! Which documents are requests of reviews.
 
 ghost use Rattle.std.specs.Prelude.{◌≡◌, IfOk, codes};
 ghost use Rattle.serde_json.specs.Find.{get};
 ghost use Rattle.base_containers.specs.Gathered.{members_of};
 ghost use Rattle.vap_match.specs.Forms.{there_and, absent_or, all_members, is_text, is_list_of, is_map_of};
 ghost use Rattle.vap_match.specs.Reviews.{is_bool, is_nullable_object, is_versioned, is_user_info, has_place, has_needed};
-ghost use Rattle.vap_match.specs.Reviews.{is_request, is_review};
+ghost use Rattle.vap_match.specs.Reviews.{is_request};
 
-use crate::texts::{has_text, is_text_list, may_have_text, may_have_texts};
+use crate::request_members::RequestMembers;
+use crate::texts::{is_text_list, is_there_as_text, may_be_text, may_have_text, may_have_texts};
 use base_containers::Part;
 use std::alloc::{AllocError, Global};
 
-fn may_be_bool(part: &Part<'_, '_>, name: &str) -> bool
-    ensures { result ≡ absent_or is_bool (get name.now part.now) }
+fn may_be_bool(found: &Option<Part<'_, '_>>) -> bool
+    ensures { result ≡ absent_or is_bool found.now }
 {
-    match part.get(name) {
-        Some(found) => found.as_bool().is_some(),
+    match found {
+        Some(part) => part.as_bool().is_some(),
         None => true,
     }
 }
@@ -26,11 +27,11 @@ fn is_nullable_object(part: &Part<'_, '_>) -> bool
     part.is_null() || part.is_object()
 }
 
-fn may_be_nullable_object(part: &Part<'_, '_>, name: &str) -> bool
-    ensures { result ≡ absent_or is_nullable_object (get name.now part.now) }
+fn may_be_nullable_object(found: &Option<Part<'_, '_>>) -> bool
+    ensures { result ≡ absent_or is_nullable_object found.now }
 {
-    match part.get(name) {
-        Some(found) => is_nullable_object(&found),
+    match found {
+        Some(part) => is_nullable_object(part),
         None => true,
     }
 }
@@ -44,12 +45,12 @@ fn is_versioned(part: &Part<'_, '_>, last: &str) -> bool
         && may_have_text(part, last)
 }
 
-/// Whether a member is an object of a group, a version and a last part of the member's own name.
-fn has_versioned(part: &Part<'_, '_>, name: &str) -> bool
-    ensures { result ≡ there_and (is_versioned name.now) (get name.now part.now) }
+/// Whether a member is an object of a group, a version and a last part of this name.
+fn is_there_as_versioned(found: &Option<Part<'_, '_>>, last: &str) -> bool
+    ensures { result ≡ there_and (is_versioned last.now) found.now }
 {
-    match part.get(name) {
-        Some(found) => is_versioned(&found, name),
+    match found {
+        Some(part) => is_versioned(part, last),
         None => false,
     }
 }
@@ -97,52 +98,43 @@ fn is_user_info(alloc: Global, part: &Part<'_, '_>) -> Result<bool, AllocError>
     )
 }
 
-fn may_have_user_info(alloc: Global, part: &Part<'_, '_>) -> Result<bool, AllocError>
-    ensures { IfOk result (λ may. may ≡ absent_or is_user_info (get (codes "userInfo") part.now)) }
+fn may_be_user_info(alloc: Global, found: &Option<Part<'_, '_>>) -> Result<bool, AllocError>
+    ensures { IfOk result (λ may. may ≡ absent_or is_user_info found.now) }
 {
-    match part.get("userInfo") {
-        Some(found) => is_user_info(alloc, &found),
+    match found {
+        Some(part) => is_user_info(alloc, part),
         None => Ok(true),
     }
 }
 
-fn has_place(part: &Part<'_, '_>) -> bool
-    ensures { result ≡ has_place part.now }
+fn has_place(members: &RequestMembers<'_, '_>) -> bool
+    ensures { result ≡ has_place members.now.request }
 {
-    may_have_text(part, "name")
-        && may_have_text(part, "namespace")
-        && may_have_text(part, "subResource")
+    may_be_text(&members.name)
+        && may_be_text(&members.namespace)
+        && may_be_text(&members.sub_resource)
 }
 
-fn has_needed(part: &Part<'_, '_>) -> bool
-    ensures { result ≡ has_needed part.now }
+fn has_needed(members: &RequestMembers<'_, '_>) -> bool
+    ensures { result ≡ has_needed members.now.request }
 {
-    has_text(part, "uid")
-        && has_versioned(part, "kind")
-        && has_versioned(part, "resource")
-        && has_text(part, "operation")
+    is_there_as_text(&members.uid)
+        && is_there_as_versioned(&members.kind, "kind")
+        && is_there_as_versioned(&members.resource, "resource")
+        && is_there_as_text(&members.operation)
 }
 
-fn is_request(alloc: Global, part: &Part<'_, '_>) -> Result<bool, AllocError>
-    ensures { IfOk result (λ is. is ≡ is_request part.now) }
+/// Whether what has these members is a request.
+pub fn is_request(alloc: Global, members: &RequestMembers<'_, '_>) -> Result<bool, AllocError>
+    ensures { IfOk result (λ is. is ≡ is_request members.now.request) }
 {
-    let user_info = may_have_user_info(alloc, part)?;
+    let user_info = may_be_user_info(alloc, &members.user_info)?;
     Ok(
-        has_needed(part)
-            && has_place(part)
-            && may_be_bool(part, "dryRun")
+        has_needed(members)
+            && has_place(members)
+            && may_be_bool(&members.dry_run)
             && user_info
-            && may_be_nullable_object(part, "object")
-            && may_be_nullable_object(part, "oldObject"),
+            && may_be_nullable_object(&members.object)
+            && may_be_nullable_object(&members.old_object),
     )
-}
-
-/// Whether a document is a review: it has a request of its form.
-pub fn is_review(alloc: Global, part: &Part<'_, '_>) -> Result<bool, AllocError>
-    ensures { IfOk result (λ is. is ≡ is_review part.now) }
-{
-    match part.get("request") {
-        Some(found) => is_request(alloc, &found),
-        None => Ok(false),
-    }
 }

@@ -25,6 +25,7 @@ mod match_fault;
 mod open_request;
 mod parts;
 mod request;
+mod request_members;
 mod review;
 mod review_fault;
 mod review_limits;
@@ -46,7 +47,7 @@ pub use forms::{
 pub use label_selection::{contains, selects};
 pub use labels::{Labels, labels_of};
 pub use match_fault::{MatchError, MatchFault};
-pub use open_request::OpenRequest;
+pub use open_request::{OpenRequest, Subject};
 pub use parts::{items_in, items_of, optional_text, text_in, text_of, texts_in, texts_of};
 pub use request::{Admission, Kind, Request, Resource, UserInfo};
 pub use review_fault::{ReviewError, ReviewFault};

@@ -1,20 +1,23 @@
 //! From a review to its request.
 
 ghost use Rattle.std.specs.Prelude.{◌≡◌, IfOk, IfErr, IfSome, Some, None, codes, option_and_then};
+ghost use Rattle.serde_json.specs.Data.{Data};
 ghost use Rattle.serde_json.specs.Find.{get};
 ghost use Rattle.serde_json.specs.Read.{read};
 ghost use Rattle.base_containers.specs.Failures.{Answers, IfFault};
 ghost use Rattle.base_containers.specs.Gathered.{members_of, items_of as gathered, AreInOrder};
+ghost use Rattle.base_containers.specs.Texts.{HasData, data_in};
 ghost use Rattle.vap_match.specs.Parts.{text_of, text_in, items_of, items_in, each_item};
-ghost use Rattle.vap_match.specs.RequestReading.{asked, text_at, kind_of, resource_of, lists_under, lists_in};
+ghost use Rattle.vap_match.specs.RequestReading.{text_at, kind_of, resource_of, lists_under, lists_in};
 ghost use Rattle.vap_match.specs.RequestReading.{user_info_of, dry_run_of, names_of, target_of, admission_from, request_of, read_review};
 ghost use Rattle.vap_match.specs.Faults.{least_fault, IsLeast};
 
-use crate::form::is_review;
+use crate::form::is_request;
 use crate::request::{Admission, Kind, Request, Resource, UserInfo};
+use crate::request_members::RequestMembers;
 use crate::review_fault::{ReviewError, ReviewFault};
-use crate::review_limits::is_short_review;
-use crate::texts::{items_in, items_of, text_in, texts_of};
+use crate::review_limits::is_short_request;
+use crate::texts::{found_text, items_in, items_of, texts_of};
 use base_containers::{Document, Items, Keyed, Part, Shared, Text, TextMap};
 use std::alloc::{AllocError, Global};
 
@@ -29,62 +32,64 @@ impl Request {
         ensures exact { Answers (read_review review.now) result }
         ensures least { IfErr result (IfFault (IsLeast review.now)) }
     {
-        match fault_of(alloc, review)? {
+        let Some(request) = review.get("request") else {
+            return Err(ReviewError::Fault(ReviewFault::BadReview));
+        };
+        let members = RequestMembers::new(request);
+        match fault_of(alloc, &members)? {
             Some(fault) => Err(ReviewError::Fault(fault)),
-            None => Ok(request_of(alloc, text, review)?),
+            None => Ok(request_of(alloc, text, &members)?),
         }
     }
 }
 
-fn fault_of(alloc: Global, review: &Part<'_, '_>) -> Result<Option<ReviewFault>, AllocError>
-    ensures exact { IfOk result (λ fault. fault ≡ least_fault review.now) }
-    ensures least { IfOk result (λ fault. IfSome fault (IsLeast review.now)) }
+/// The least fault of a review whose request has these members.
+fn fault_of(
+    alloc: Global,
+    members: &RequestMembers<'_, '_>,
+) -> Result<Option<ReviewFault>, AllocError>
+    ensures exact { IfOk result (λ fault. (review : Data) → get (codes "request") review ≡ Some members.now.request
+        → fault ≡ least_fault review) }
+    ensures least { IfOk result (λ fault. (review : Data) → get (codes "request") review ≡ Some members.now.request
+        → IfSome fault (IsLeast review)) }
 {
-    if !is_review(alloc, review)? {
+    if !is_request(alloc, members)? {
         Ok(Some(ReviewFault::BadReview))
-    } else if !is_short_review(alloc, review)? {
+    } else if !is_short_request(alloc, members)? {
         Ok(Some(ReviewFault::OverLimit))
     } else {
         Ok(None)
     }
 }
 
-fn request_of(alloc: Global, text: &str, review: &Part<'_, '_>) -> Result<Request, AllocError>
-    requires read { read text.now ≡ Some review.now }
-    requires whole { least_fault review.now ≡ None }
-    ensures { IfOk result (λ request. request ≡ request_of review.now) }
+/// The request with these members, of a review with this text.
+fn request_of(
+    alloc: Global,
+    text: &str,
+    members: &RequestMembers<'_, '_>,
+) -> Result<Request, AllocError>
+    requires read { HasData text.now }
+    requires asked { get (codes "request") (data_in text.now) ≡ Some members.now.request }
+    requires whole { least_fault (data_in text.now) ≡ None }
+    ensures { IfOk result (λ request. request ≡ request_of (data_in text.now)) }
 {
     let document = Document::new(alloc, text)?;
-    let admission = admission_in(alloc, document, review)?;
+    let admission = admission_of(alloc, document, members)?;
     Ok(Request {
         admission: Shared::new(alloc, admission)?,
     })
 }
 
-/// What the request of a review asks, or the review itself if it has none.
-fn admission_in(
-    alloc: Global,
-    document: Document,
-    review: &Part<'_, '_>,
-) -> Result<Admission, AllocError>
-    ensures { IfOk result (λ admission. admission ≡ admission_from document (asked review.now)) }
-{
-    match review.get("request") {
-        Some(request) => admission_of(alloc, document, &request),
-        None => admission_of(alloc, document, review),
-    }
-}
-
 fn admission_of(
     alloc: Global,
     document: Document,
-    part: &Part<'_, '_>,
+    members: &RequestMembers<'_, '_>,
 ) -> Result<Admission, AllocError>
-    ensures { IfOk result (λ admission. admission ≡ admission_from document part.now) }
+    ensures { IfOk result (λ admission. admission ≡ admission_from document members.now.request) }
 {
-    let names = names_of(alloc, part)?;
-    let target = target_of(alloc, part)?;
-    let dry_run = dry_run_of(part);
+    let names = names_of(alloc, members)?;
+    let target = target_of(alloc, members)?;
+    let dry_run = dry_run_of(members);
     Ok(Admission {
         uid: names.uid,
         kind: target.kind,
@@ -99,11 +104,11 @@ fn admission_of(
     })
 }
 
-/// A copy of the text of a member, empty if there is none.
-fn copied(alloc: Global, part: &Part<'_, '_>, name: &str) -> Result<Text, AllocError>
-    ensures { IfOk result (λ text. text ≡ text_in (get name.now part.now)) }
+/// A copy of the text of a member that was looked up, empty if there is none.
+fn copied(alloc: Global, found: &Option<Part<'_, '_>>) -> Result<Text, AllocError>
+    ensures { IfOk result (λ text. text ≡ text_in found.now) }
 {
-    Text::from_str(alloc, text_in(part, name))
+    Text::from_str(alloc, found_text(found))
 }
 
 /// A copy of the text of a member of what was found under another name, empty if there is none.
@@ -111,30 +116,28 @@ fn text_at(alloc: Global, found: &Option<Part<'_, '_>>, inner: &str) -> Result<T
     ensures { IfOk result (λ text. (outer : _) (d : _) → found.now ≡ get outer d → text ≡ text_at outer inner.now d) }
 {
     match found {
-        Some(part) => Ok(copied(alloc, part, inner)?),
+        Some(part) => Ok(copied(alloc, &part.get(inner))?),
         None => Ok(Text::from_str(alloc, "")?),
     }
 }
 
-fn kind_of(alloc: Global, part: &Part<'_, '_>) -> Result<Kind, AllocError>
-    ensures { IfOk result (λ kind. kind ≡ kind_of part.now) }
+fn kind_of(alloc: Global, members: &RequestMembers<'_, '_>) -> Result<Kind, AllocError>
+    ensures { IfOk result (λ kind. kind ≡ kind_of members.now.request) }
 {
-    let found = part.get("kind");
     Ok(Kind {
-        group: text_at(alloc, &found, "group")?,
-        version: text_at(alloc, &found, "version")?,
-        kind: text_at(alloc, &found, "kind")?,
+        group: text_at(alloc, &members.kind, "group")?,
+        version: text_at(alloc, &members.kind, "version")?,
+        kind: text_at(alloc, &members.kind, "kind")?,
     })
 }
 
-fn resource_of(alloc: Global, part: &Part<'_, '_>) -> Result<Resource, AllocError>
-    ensures { IfOk result (λ resource. resource ≡ resource_of part.now) }
+fn resource_of(alloc: Global, members: &RequestMembers<'_, '_>) -> Result<Resource, AllocError>
+    ensures { IfOk result (λ resource. resource ≡ resource_of members.now.request) }
 {
-    let found = part.get("resource");
     Ok(Resource {
-        group: text_at(alloc, &found, "group")?,
-        version: text_at(alloc, &found, "version")?,
-        resource: text_at(alloc, &found, "resource")?,
+        group: text_at(alloc, &members.resource, "group")?,
+        version: text_at(alloc, &members.resource, "version")?,
+        resource: text_at(alloc, &members.resource, "resource")?,
     })
 }
 
@@ -197,22 +200,22 @@ fn groups_of(alloc: Global, user: &Option<Part<'_, '_>>) -> Result<Items<Text>, 
     }
 }
 
-fn user_info_of(alloc: Global, part: &Part<'_, '_>) -> Result<UserInfo, AllocError>
-    ensures { IfOk result (λ user. user ≡ user_info_of part.now) }
+fn user_info_of(alloc: Global, members: &RequestMembers<'_, '_>) -> Result<UserInfo, AllocError>
+    ensures { IfOk result (λ user. user ≡ user_info_of members.now.request) }
 {
-    let user = part.get("userInfo");
+    let user = &members.user_info;
     Ok(UserInfo {
-        username: text_at(alloc, &user, "username")?,
-        uid: text_at(alloc, &user, "uid")?,
-        groups: groups_of(alloc, &user)?,
-        extra: extra_of(alloc, &user)?,
+        username: text_at(alloc, user, "username")?,
+        uid: text_at(alloc, user, "uid")?,
+        groups: groups_of(alloc, user)?,
+        extra: extra_of(alloc, user)?,
     })
 }
 
-fn dry_run_of(part: &Part<'_, '_>) -> bool
-    ensures { result ≡ dry_run_of part.now }
+fn dry_run_of(members: &RequestMembers<'_, '_>) -> bool
+    ensures { result ≡ dry_run_of members.now.request }
 {
-    match part.get("dryRun") {
+    match &members.dry_run {
         Some(found) => found.as_bool().unwrap_or(false),
         None => false,
     }
@@ -228,15 +231,15 @@ struct Names {
     operation: Text,
 }
 
-fn names_of(alloc: Global, part: &Part<'_, '_>) -> Result<Names, AllocError>
-    ensures { IfOk result (λ names. names ≡ names_of part.now) }
+fn names_of(alloc: Global, members: &RequestMembers<'_, '_>) -> Result<Names, AllocError>
+    ensures { IfOk result (λ names. names ≡ names_of members.now.request) }
 {
     Ok(Names {
-        uid: copied(alloc, part, "uid")?,
-        sub_resource: copied(alloc, part, "subResource")?,
-        name: copied(alloc, part, "name")?,
-        namespace: copied(alloc, part, "namespace")?,
-        operation: copied(alloc, part, "operation")?,
+        uid: copied(alloc, &members.uid)?,
+        sub_resource: copied(alloc, &members.sub_resource)?,
+        name: copied(alloc, &members.name)?,
+        namespace: copied(alloc, &members.namespace)?,
+        operation: copied(alloc, &members.operation)?,
     })
 }
 
@@ -248,12 +251,12 @@ struct Target {
     user_info: UserInfo,
 }
 
-fn target_of(alloc: Global, part: &Part<'_, '_>) -> Result<Target, AllocError>
-    ensures { IfOk result (λ target. target ≡ target_of part.now) }
+fn target_of(alloc: Global, members: &RequestMembers<'_, '_>) -> Result<Target, AllocError>
+    ensures { IfOk result (λ target. target ≡ target_of members.now.request) }
 {
     Ok(Target {
-        kind: kind_of(alloc, part)?,
-        resource: resource_of(alloc, part)?,
-        user_info: user_info_of(alloc, part)?,
+        kind: kind_of(alloc, members)?,
+        resource: resource_of(alloc, members)?,
+        user_info: user_info_of(alloc, members)?,
     })
 }

@@ -1,4 +1,4 @@
-//! Which reviews are within the limits of texts and lists.
+//! Which requests are within the limits of texts and lists.
 
 ghost use Rattle.std.specs.Prelude.{◌≡◌, ◌&&◌, IfOk, codes};
 ghost use Rattle.serde_json.specs.Find.{get};
@@ -7,10 +7,11 @@ ghost use Rattle.vap_match.specs.Forms.{absent_or, all_items};
 ghost use Rattle.vap_match.specs.TextLimits.{is_short};
 ghost use Rattle.vap_match.specs.Parts.{text_of, items_of};
 ghost use Rattle.vap_match.specs.ReviewLimits.{is_short_versioned, are_short, all_short, are_short_entries, is_short_map};
-ghost use Rattle.vap_match.specs.ReviewLimits.{is_short_user_info, is_short_request, is_short_review};
+ghost use Rattle.vap_match.specs.ReviewLimits.{is_short_user_info, is_short_request};
 
+use crate::request_members::RequestMembers;
 use crate::text_limits::is_short;
-use crate::texts::{items_in, items_of, short_at, text_of};
+use crate::texts::{is_short_text, items_in, items_of, short_at, text_of};
 use base_containers::Part;
 use std::alloc::{AllocError, Global};
 
@@ -20,11 +21,11 @@ fn is_short_versioned(part: &Part<'_, '_>, last: &str) -> bool
     short_at(part, "group", 253) && short_at(part, "version", 253) && short_at(part, last, 253)
 }
 
-fn may_be_short_versioned(part: &Part<'_, '_>, name: &str) -> bool
-    ensures { result ≡ absent_or (is_short_versioned name.now) (get name.now part.now) }
+fn may_be_short_versioned(found: &Option<Part<'_, '_>>, last: &str) -> bool
+    ensures { result ≡ absent_or (is_short_versioned last.now) found.now }
 {
-    match part.get(name) {
-        Some(found) => is_short_versioned(&found, name),
+    match found {
+        Some(part) => is_short_versioned(part, last),
         None => true,
     }
 }
@@ -102,37 +103,28 @@ fn is_short_user_info(alloc: Global, part: &Part<'_, '_>) -> Result<bool, AllocE
     )
 }
 
-fn may_have_short_user_info(alloc: Global, part: &Part<'_, '_>) -> Result<bool, AllocError>
-    ensures { IfOk result (λ may. may ≡ absent_or is_short_user_info (get (codes "userInfo") part.now)) }
+fn may_be_short_user_info(alloc: Global, found: &Option<Part<'_, '_>>) -> Result<bool, AllocError>
+    ensures { IfOk result (λ may. may ≡ absent_or is_short_user_info found.now) }
 {
-    match part.get("userInfo") {
-        Some(found) => is_short_user_info(alloc, &found),
+    match found {
+        Some(part) => is_short_user_info(alloc, part),
         None => Ok(true),
     }
 }
 
-fn is_short_request(alloc: Global, part: &Part<'_, '_>) -> Result<bool, AllocError>
-    ensures { IfOk result (λ is. is ≡ is_short_request part.now) }
+/// Whether a request with these members is within the limits.
+pub fn is_short_request(alloc: Global, members: &RequestMembers<'_, '_>) -> Result<bool, AllocError>
+    ensures { IfOk result (λ is. is ≡ is_short_request members.now.request) }
 {
-    let user_info = may_have_short_user_info(alloc, part)?;
+    let user_info = may_be_short_user_info(alloc, &members.user_info)?;
     Ok(
-        short_at(part, "uid", 253)
-            && may_be_short_versioned(part, "kind")
-            && may_be_short_versioned(part, "resource")
-            && short_at(part, "operation", 7)
-            && short_at(part, "name", 253)
-            && short_at(part, "namespace", 253)
-            && short_at(part, "subResource", 253)
+        is_short_text(&members.uid, 253)
+            && may_be_short_versioned(&members.kind, "kind")
+            && may_be_short_versioned(&members.resource, "resource")
+            && is_short_text(&members.operation, 7)
+            && is_short_text(&members.name, 253)
+            && is_short_text(&members.namespace, 253)
+            && is_short_text(&members.sub_resource, 253)
             && user_info,
     )
-}
-
-/// Whether the request of a review is within the limits, if it has one.
-pub fn is_short_review(alloc: Global, part: &Part<'_, '_>) -> Result<bool, AllocError>
-    ensures { IfOk result (λ is. is ≡ is_short_review part.now) }
-{
-    match part.get("request") {
-        Some(found) => is_short_request(alloc, &found),
-        None => Ok(true),
-    }
 }

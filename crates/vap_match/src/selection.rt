@@ -7,11 +7,10 @@ ghost use Rattle.vap_match.specs.Choose.{passes, selects_namespace, selects_docu
 
 use crate::coverage::{covers, is_cluster, is_namespace};
 use crate::label_selection::selects;
-use crate::labels::{Labels, labels_of};
-use crate::open_request::OpenRequest;
+use crate::labels::Labels;
+use crate::open_request::{OpenRequest, Subject};
 use crate::rules::Rules;
 use crate::selector::Selector;
-use base_containers::Part;
 
 /// Whether rules match a request: they cover it, and they select its namespace, for which these labels are held, and an
 /// object of it.
@@ -33,7 +32,7 @@ pub fn selects_namespace(
 {
     let admission = request.request.admission();
     if is_namespace(admission) {
-        passes(&rules.namespace_selector, &own_labels(request))
+        passes(&rules.namespace_selector, own_labels(request))
     } else {
         is_cluster(admission) || passes(&rules.namespace_selector, held)
     }
@@ -61,29 +60,25 @@ pub fn selects_object(rules: &Rules, request: &OpenRequest<'_, '_, '_>) -> bool
 fn selects_either(selector: &Selector, request: &OpenRequest<'_, '_, '_>) -> bool
     ensures { result ≡ selects_either selector.now request.now.request.now.admission }
 {
-    selects_document(selector, request.object()) || selects_document(selector, request.old_object())
+    selects_document(selector, &request.object) || selects_document(selector, &request.old_object)
 }
 
-fn selects_document(selector: &Selector, document: Option<Part<'_, '_>>) -> bool
-    ensures { result ≡ selects_document selector.now document.entry }
+fn selects_document(selector: &Selector, subject: &Subject<'_, '_>) -> bool
+    ensures { result ≡ selects_document selector.now subject.now.document }
 {
-    match document {
-        Some(document) => selects(selector, &labels_of(&document)),
+    match &subject.document {
+        Some(_) => selects(selector, &subject.labels),
         None => false,
     }
 }
 
 /// The labels of the Namespace that a request is on.
-fn own_labels<'t, 'a>(request: &OpenRequest<'_, 't, 'a>) -> Labels<'t, 'a>
-    ensures { lent_labels result ≡ own_labels request.now.request.now.admission }
+fn own_labels<'r, 't, 'a>(request: &'r OpenRequest<'_, 't, 'a>) -> &'r Labels<'t, 'a>
+    ensures { lent_labels result.now ≡ own_labels request.now.request.now.admission }
 {
-    let document = if request.request.admission().operation.as_str() == "DELETE" {
-        request.old_object()
+    if request.request.admission().operation.as_str() == "DELETE" {
+        &request.old_object.labels
     } else {
-        request.object()
-    };
-    match document {
-        Some(document) => labels_of(&document),
-        None => Labels { found: None },
+        &request.object.labels
     }
 }

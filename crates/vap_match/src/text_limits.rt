@@ -11,7 +11,7 @@ use serde_json::Value as Json;
 pub fn is_short(text: &str, limit: usize) -> bool
     ensures { result ≡ is_short limit text.now }
 {
-    text.chars().count() <= limit
+    text.len() <= limit || text.chars().count() <= limit
 }
 
 /// Whether the text of a member has at most so many characters; a member that is no text passes.

@@ -17,22 +17,30 @@ fn is_text(part: &Part<'_, '_>) -> bool
     part.as_str().is_some()
 }
 
-pub fn has_text(part: &Part<'_, '_>, name: &str) -> bool
-    ensures { result ≡ there_and is_text (get name.now part.now) }
+/// Whether a member that was looked up is a text.
+pub fn is_there_as_text(found: &Option<Part<'_, '_>>) -> bool
+    ensures { result ≡ there_and is_text found.now }
 {
-    match part.get(name) {
-        Some(found) => is_text(&found),
+    match found {
+        Some(part) => is_text(part),
         None => false,
+    }
+}
+
+/// Whether a member that was looked up is a text, if it is there.
+pub fn may_be_text(found: &Option<Part<'_, '_>>) -> bool
+    ensures { result ≡ absent_or is_text found.now }
+{
+    match found {
+        Some(part) => is_text(part),
+        None => true,
     }
 }
 
 pub fn may_have_text(part: &Part<'_, '_>, name: &str) -> bool
     ensures { result ≡ absent_or is_text (get name.now part.now) }
 {
-    match part.get(name) {
-        Some(found) => is_text(&found),
-        None => true,
-    }
+    may_be_text(&part.get(name))
 }
 
 fn are_texts(items: &[Part<'_, '_>]) -> bool
@@ -75,20 +83,27 @@ pub fn text_of<'a>(part: &Part<'_, 'a>) -> &'a str
     }
 }
 
-/// The text of a member, empty if there is none.
-pub fn text_in<'a>(part: &Part<'_, 'a>, name: &str) -> &'a str
-    ensures { result.now ≡ text_in (get name.now part.now) }
+/// The text of a member that was looked up, empty if there is none.
+pub fn found_text<'a>(found: &Option<Part<'_, 'a>>) -> &'a str
+    ensures { result.now ≡ text_in found.now }
 {
-    match part.get(name) {
-        Some(found) => text_of(&found),
+    match found {
+        Some(part) => text_of(part),
         None => "",
     }
+}
+
+/// Whether the text of a member that was looked up is within a limit.
+pub fn is_short_text(found: &Option<Part<'_, '_>>, limit: usize) -> bool
+    ensures { result ≡ is_short limit (text_in found.now) }
+{
+    is_short(found_text(found), limit)
 }
 
 pub fn short_at(part: &Part<'_, '_>, name: &str, limit: usize) -> bool
     ensures { result ≡ short_at limit name.now part.now }
 {
-    is_short(text_in(part, name), limit)
+    is_short_text(&part.get(name), limit)
 }
 
 /// The items of a document, none if it is no list.

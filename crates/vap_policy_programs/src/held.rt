@@ -44,14 +44,14 @@ fn value_at(
     alloc: Global,
     root: &str,
     cel_type: &CelType,
-    document: Option<Part<'_, '_>>,
+    document: Option<&Part<'_, '_>>,
 ) -> Result<Result<Value, FitFault>, AllocError>
-    ensures exact { IfOk result (λ seen. seen ≡ value_at root.now cel_type.now document.entry) }
+    ensures exact { IfOk result (λ seen. seen ≡ value_at root.now cel_type.now (option_copied document.entry)) }
     ensures fits { IfOk result (λ seen. IfOk seen (λ v. fits v (type.Nullable cel_type.now) ≡ true)) }
 {
     match document {
         None => Ok(Ok(Value::Null)),
-        Some(document) => match fit(alloc, &document, cel_type, root) {
+        Some(document) => match fit(alloc, document, cel_type, root) {
             Ok(value) => Ok(Ok(value)),
             Err(FitError::Fault(fault)) => Ok(Err(fault)),
             Err(FitError::OutOfMemory) => Err(AllocError),
@@ -79,12 +79,9 @@ fn held_namespace(alloc: Global, types: &FixedTypes, object: &Object) -> Result<
     ensures exact { IfOk result (λ v. v ≡ held_namespace (Some object.now)) }
     ensures fits { IfOk result (λ v. fits v (type.Nullable namespace_type) ≡ true) }
 {
-    match value_at(
-        alloc,
-        "namespaceObject",
-        types.namespace().get(),
-        Some(Part::of_tree(object.document.json())),
-    )? {
+    let document = Part::of_tree(object.document.json());
+    let cel_type = types.namespace().get();
+    match value_at(alloc, "namespaceObject", cel_type, Some(&document))? {
         Ok(value) => Ok(value),
         Err(_) => Ok(Value::Null),
     }

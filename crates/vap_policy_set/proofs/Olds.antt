@@ -7,8 +7,10 @@ use Rattle.base_containers.specs.declared.text.Keyed.{Keyed}
 use Rattle.vap_read.specs.declared.binding.Binding.{Binding}
 use Rattle.vap_read.specs.declared.policy.Policy.{Policy}
 use Rattle.vap_read_objects.specs.declared.kind.Kind.{Kind}
-use Rattle.vap_policy_set.specs.Sets.{bound_of}
-use Rattle.vap_policy_set.specs.Still.{AreBound, AreOldOf, IsBound, IsOldOf}
+use Rattle.vap_read_objects.specs.Listed.{bindings_of}
+use Rattle.vap_policy_set.specs.Parts.{part_of}
+use Rattle.vap_policy_set.specs.Sets.{bound_of, other_of, pairs_of}
+use Rattle.vap_policy_set.specs.Still.{AreAt, AreBound, AreOldOf, IsBound, IsOldOf}
 use Rattle.vap_policy_set.specs.declared.bound.BoundPolicy.{BoundPolicy}
 use Rattle.vap_policy_set.specs.declared.choice.Choice.{Choice}
 use Rattle.vap_policy_set.proofs.StillBound.{bound_again}
@@ -66,6 +68,38 @@ old_stands all ps os i p o choice kinds bindings olds lt is there are =
     if_some all p o choice kinds bindings are
     (subst (λ (x : Option BoundPolicy). IfSome x (IsOldOf all p)) (sym there)
     (subst (λ (q : Keyed Policy). IfSome (get_or os i o) (IsOldOf all q)) (sym is) (old_at all ps os i p o olds lt)))
+
+-- a policy with these bindings of its own, as it is by a choice with these kinds
+abbrev with_own : Choice → List Kind → Keyed Policy → List (Keyed Binding) → BoundPolicy
+with_own choice kinds p own = record {
+  name = p.key;
+  policy = p.value;
+  own = p.value;
+  bindings = own;
+  pairs = pairs_of (part_of choice p.value.spec) kinds p.value.spec;
+  other = other_of (part_of choice p.value.spec) kinds p.value.spec;
+}
+
+-- what is bound to some bindings is bound to others of which it has the same
+pub same_bindings : (choice : Choice) (kinds : List Kind) (some others : List (Keyed Binding)) (p : Keyed Policy) (b : BoundPolicy)
+    → b ≡ bound_of choice kinds some p → b.bindings ≡ bindings_of p.key others → b ≡ bound_of choice kinds others p
+same_bindings choice kinds some others p b is same =
+    is ∙ ap (with_own choice kinds p) (sym (ap (λ (x : BoundPolicy). x.bindings) is) ∙ same)
+
+same_if_some : (o : Option BoundPolicy) (choice : Choice) (kinds : List Kind) (some others : List (Keyed Binding)) (p : Keyed Policy)
+    → IfSome o (λ b. b ≡ bound_of choice kinds some p)
+    → IfSome o (λ b. b.bindings ≡ bindings_of p.key others → b ≡ bound_of choice kinds others p)
+same_if_some None choice kinds some others p old = tt
+same_if_some (Some b) choice kinds some others p old = λ same. same_bindings choice kinds some others p b old same
+
+-- what was bound of a policy at its place, if all are bound as they would be but for their bindings
+pub old_stands_at : (all : List BoundPolicy) (ps : List (Keyed Policy)) (os : List (Option BoundPolicy)) (i : ℕ) (p : Keyed Policy)
+    (o : Option BoundPolicy) (choice : Choice) (kinds : List Kind) (bindings : List (Keyed Binding)) → AreOldOf all ps os → i < length ps
+    → p ≡ get_or ps i p → o ≡ get_or os i o → AreAt choice kinds all
+    → IfSome o (λ b. b.bindings ≡ bindings_of p.key bindings → b ≡ bound_of choice kinds bindings p)
+old_stands_at all ps os i p o choice kinds bindings olds lt is there at =
+    same_if_some o choice kinds at.bindings bindings p
+    (old_stands all ps os i p o choice kinds at.bindings olds lt is there at.bound)
 
 -- ---- one policy more
 

@@ -14,7 +14,7 @@ use Rattle.vap_read.specs.declared.policy.Policy.{Policy}
 use Rattle.vap_read.specs.declared.event.Event.{Event}
 use Rattle.vap_policy_set.specs.Reuse.{IsBefore}
 use Rattle.vap_policy_set.specs.Sets.{Holdings, bound_of, holdings_of, policies_by}
-use Rattle.vap_policy_set.specs.Still.{AreBound, IsBound, named_of}
+use Rattle.vap_policy_set.specs.Still.{AreAt, AreBound, IsBound, named_of}
 use Rattle.vap_policy_set.specs.declared.bound.BoundPolicy.{BoundPolicy}
 use Rattle.vap_policy_set.specs.declared.choice.Choice.{Choice}
 use Rattle.vap_policy_set.proofs.Standing.{bound_same}
@@ -76,3 +76,20 @@ policies_still h es c before no_binding no_definition =
     ∙ held_policies before.objects h.choice
     ∙ bound_same refl kinds bindings refl
     )
+
+-- if events touch no definition, the policies of a set are at each kind what they were
+pub policies_at : (h : Holdings) (es : List Event) (c : Cluster) → IsBefore h es c → all_miss is_definition es ≡ true
+    → AreAt h.choice (kinds_in c.objects) h.policies
+policies_at h es c before no_definition =
+    let kinds : kinds_in before.objects.objects ≡ kinds_in c.objects =
+    sym (defined_kinds_stay es before.objects no_definition) ∙ ap (λ (x : Cluster). kinds_in x.objects) (sym before.after) in
+    record {
+      bindings = bindings_in before.objects.objects;
+      bound =
+          all_bound h.choice (kinds_in c.objects) (bindings_in before.objects.objects) (policies_in before.objects.objects) h.policies
+          (
+          ap (λ (x : Holdings). x.policies) before.is
+          ∙ held_policies before.objects h.choice
+          ∙ bound_same refl kinds refl refl
+          );
+    }

@@ -21,6 +21,11 @@ IsBound choice kinds bindings b = b ≡ bound_of choice kinds bindings (named_of
 abbrev pub AreBound : Choice → List Kind → List (Keyed Binding) → List BoundPolicy → Type 0
 AreBound choice kinds bindings bs = All (IsBound choice kinds bindings) bs
 
+-- policies are bound as they are by a choice with these kinds, to whichever bindings
+pub record AreAt (choice : Choice) (kinds : List Kind) (bs : List BoundPolicy) : Type 0 where
+  pub bindings : List (Keyed Binding)
+  pub bound : AreBound choice kinds bindings bs
+
 -- what was bound of a policy before, among all that were: it says the same, and is bound to the same as long as they all are
 pub record IsOldOf (all : List BoundPolicy) (p : Keyed Policy) (b : BoundPolicy) : Type 0 where
   pub says : b.own ≡ p.value

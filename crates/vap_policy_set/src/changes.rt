@@ -42,6 +42,8 @@ pub struct Kept<'a> {
     pub policies: &'a [Shared<BoundPolicy>],
     /// Whether the policies are bound as they would be now, if the choice is the same.
     pub is_still: bool,
+    /// Whether they would be but for their bindings.
+    pub is_still_at_kinds: bool,
     pub choice: &'a Choice,
     pub patterns: &'a Shared<Patterns>,
     pub fixed_types: &'a Shared<FixedTypes>,
@@ -208,6 +210,13 @@ impl<'a> Kept<'a> {
         ensures { IsTrue result → IsTrue self.now.is_still × (self.now.choice.now ≡ choice.now) }
     {
         self.is_still && self.choice.same(choice)
+    }
+
+    /// Whether the policies are bound as they would be now but for their bindings, by this choice.
+    pub fn is_still_at_kinds_by(&self, choice: &Choice) -> bool
+        ensures { IsTrue result → IsTrue self.now.is_still_at_kinds × (self.now.choice.now ≡ choice.now) }
+    {
+        self.is_still_at_kinds && self.choice.same(choice)
     }
 
     /// What was bound of a policy before, unless an event put or removed one of its name. Those before `rest` have lesser names.

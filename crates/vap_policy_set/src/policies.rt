@@ -5,7 +5,7 @@ ghost use Rattle.std.specs.Option.{option_copied};
 ghost use Rattle.vap_read_objects.specs.Listed.{bindings_of};
 ghost use Rattle.vap_policy_set.specs.Parts.{part_of};
 ghost use Rattle.vap_policy_set.specs.Sets.{bound_of};
-ghost use Rattle.vap_policy_set.specs.Still.{AreBound, AreOldOf};
+ghost use Rattle.vap_policy_set.specs.Still.{AreAt, AreBound, AreOldOf};
 ghost use Rattle.vap_policy_set.specs.Unverified.{AreUnverified, error_of, HasUnverified};
 ghost use Rattle.vap_policy_set.specs.declared.build_error.BuildFault.TheVariants as build_fault;
 ghost use Rattle.base_containers.specs.declared.failed.Failed.TheVariants.{Fault};
@@ -19,7 +19,7 @@ use crate::compiling::Compiling;
 use crate::made::MadePair;
 use crate::parts::part_of;
 use crate::texts::{PolicyTexts, read_texts};
-use base_containers::{Items, Keyed, Shared};
+use base_containers::{Items, Keyed, Same, Shared};
 use std::alloc::{AllocError, Global};
 use vap_policy_programs::{CompileError, CompileFault};
 use vap_read::{Binding, Policy};
@@ -125,11 +125,13 @@ fn with_bindings(
     })
 }
 
-/// What was bound of a policy before, if anything is kept, and whether it stands: whether the same would be bound now.
+/// What was bound of a policy before, if anything is kept, and whether it stands: whether the same would be bound now, or would be if
+/// its bindings are what they were.
 #[derive(Clone, Copy)]
 struct Before<'a> {
     bound: Option<&'a Shared<BoundPolicy>>,
     stands: bool,
+    stands_at_kinds: bool,
 }
 
 impl<'a> Before<'a> {
@@ -168,6 +170,19 @@ impl Workshop<'_> {
         Ok(with_bindings(self.alloc, policy, bindings, pairs, other)?)
     }
 
+    /// Whether a policy is bound to the bindings that there are of a name.
+    fn has_bindings_of(
+        &self,
+        bound: &BoundPolicy,
+        name: &str,
+        bindings: &[Keyed<Binding>],
+    ) -> Result<bool, AllocError>
+        ensures { IfOk result (λ has. IsTrue has → bound.now.bindings ≡ bindings_of name.now bindings.now) }
+    {
+        let now = bindings_of(self.alloc, name, bindings)?;
+        Ok(bound.bindings.same(&now))
+    }
+
     /// The same, or what was bound of the policy before, if that stands.
     fn shared_of(
         &self,
@@ -178,17 +193,24 @@ impl Workshop<'_> {
     ) -> Result<Shared<BoundPolicy>, CompileError>
         requires stands { IsTrue before.stands
             → IfSome (option_copied before.bound) (λ p. p ≡ bound_of choice.now self.now.kinds.now bindings.now policy.now) }
+        requires at_kinds { IsTrue before.stands_at_kinds
+            → IfSome (option_copied before.bound) (λ p. p.bindings ≡ bindings_of policy.now.key bindings.now
+            → p ≡ bound_of choice.now self.now.kinds.now bindings.now policy.now) }
         ensures bound { IfOk result (λ p. p ≡ bound_of choice.now self.now.kinds.now bindings.now policy.now) }
         ensures unverified { (at : ℕ) → IsErrOf result (Fault (Unverified at))
             → HasUnverified (part_of choice.now policy.now.value.spec) self.now.kinds.now policy.now.value.spec }
     {
-        match before.bound {
-            Some(bound) if before.stands => Ok(bound.share()?),
-            _ => {
-                let bound = self.bound_of(choice, bindings, before.policy(), policy)?;
-                Ok(Shared::new(self.alloc, bound)?)
+        if let Some(bound) = before.bound {
+            if before.stands {
+                return Ok(bound.share()?);
+            }
+            let name = policy.key.as_str();
+            if before.stands_at_kinds && self.has_bindings_of(bound.get(), name, bindings)? {
+                return Ok(bound.share()?);
             }
         }
+        let bound = self.bound_of(choice, bindings, before.policy(), policy)?;
+        Ok(Shared::new(self.alloc, bound)?)
     }
 
     /// Policies with their bindings, and what each is at each kind.
@@ -201,17 +223,21 @@ impl Workshop<'_> {
         requires old { AreOldOf self.now.kept.now.policies.now read.now.own (map option_copied read.now.old.items) }
         requires still { IsTrue self.now.kept.now.is_still
             → AreBound self.now.kept.now.choice.now self.now.kinds.now bindings.now self.now.kept.now.policies.now }
+        requires at_kinds { IsTrue self.now.kept.now.is_still_at_kinds
+            → AreAt self.now.kept.now.choice.now self.now.kinds.now self.now.kept.now.policies.now }
         ensures bound { IfOk result (λ bound. bound ≡ map (bound_of choice.now self.now.kinds.now bindings.now) read.now.own) }
         ensures unverified { (name : List ℕ) → IsErrOf result (Fault (build_fault.Unverified name))
             → AreUnverified choice.now self.now.kinds.now name read.now.own }
     {
         let mut bound = Vec::new(self.alloc);
         let stands = self.kept.is_still_by(choice);
+        let stands_at_kinds = self.kept.is_still_at_kinds_by(choice);
         let policies = read.own.as_slice();
         for at in 0..policies.len() {
             let before = Before {
                 bound: read.old[at],
                 stands,
+                stands_at_kinds,
             };
             match self.shared_of(choice, bindings, before, &policies[at]) {
                 Ok(one) => bound.push(one)?,

@@ -16,7 +16,7 @@ ghost use Rattle.vap_read_objects.specs.Reuse.{AreRefitted};
 ghost use Rattle.vap_policy_set.specs.Reuse.{IsBefore};
 ghost use Rattle.vap_policy_set.specs.Sets.{choice_in, holdings_of, kinds_of, namespace_in, no_choice, params_in, policies_of};
 ghost use Rattle.vap_policy_set.specs.Sets.{IsOfObjects, IsReport};
-ghost use Rattle.vap_policy_set.specs.Still.{AreBound};
+ghost use Rattle.vap_policy_set.specs.Still.{AreAt, AreBound};
 ghost use Rattle.vap_policy_set.specs.Unverified.{IsUnverifiedIn};
 ghost use Rattle.vap_policy_set.specs.Whole.{AreWhole};
 ghost use Rattle.vap_policy_set.specs.declared.build_error.BuildFault.TheVariants.{Unverified};
@@ -37,7 +37,8 @@ use std::marker::Model;
 use vap_policy_programs::{FixedTypes, pairs_are_ready};
 use vap_read::{Event, Object, ObjectMap, ParamKind};
 use vap_read_objects::{
-    Kind, KindParams, Objects, all_miss_rules, all_params, find_params, namespace, params_after,
+    Kind, KindParams, Objects, all_miss_definitions, all_miss_rules, all_params, find_params,
+    namespace, params_after,
 };
 
 /// The policies among objects, compiled, with what judging needs of the other objects. Contracts see it as what it holds.
@@ -153,6 +154,7 @@ impl PolicySet {
         let kept = Kept {
             policies: &[],
             is_still: false,
+            is_still_at_kinds: false,
             choice: &choice,
             patterns: &patterns,
             fixed_types: &fixed_types,
@@ -223,6 +225,7 @@ impl PolicySet {
         let kept = Kept {
             policies: self.policies(),
             is_still: self.is_still(events),
+            is_still_at_kinds: self.is_still_at_kinds(events),
             choice: rules.choice.get(),
             patterns: &rules.patterns,
             fixed_types: &rules.fixed_types,
@@ -239,6 +242,14 @@ impl PolicySet {
             → AreBound (choice_in self.now) (kinds_in c.objects) (bindings_in c.objects) (policies_of self.now) }
     {
         leaves_bound(events)
+    }
+
+    /// Whether events leave the kinds as they were, and so what policies are at them.
+    fn is_still_at_kinds(&self, events: &[Event]) -> bool
+        ensures { IsTrue result → (c : Cluster) → IsBefore self.now events.now c
+            → AreAt (choice_in self.now) (kinds_in c.objects) (policies_of self.now) }
+    {
+        all_miss_definitions(events)
     }
 
     /// What there is already of the set after events: its definitions, its Namespaces, and the params of the kinds that policies
@@ -274,6 +285,8 @@ impl PolicySet {
         requires namespaces { parts.now.namespaces ≡ namespaces_in objects.now.objects }
         requires still { IsTrue kept.now.is_still → AreBound kept.now.choice.now (kinds_in objects.now.objects)
             (bindings_in objects.now.objects) kept.now.policies.now }
+        requires at_kinds { IsTrue kept.now.is_still_at_kinds
+            → AreAt kept.now.choice.now (kinds_in objects.now.objects) kept.now.policies.now }
         ensures is { IfOk result (λ set. set ≡ holdings_of objects.now set.choice) }
         ensures choice { IfOk result (λ set. IsChoiceFor (of_policies (policies_in objects.now.objects)) set.choice.refused) }
         ensures unverified { (name : List ℕ) → IsErrOf result (Fault (Unverified name)) → IsUnverifiedIn objects.now name }

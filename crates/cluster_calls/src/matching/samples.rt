@@ -135,11 +135,11 @@ fn push_object(
     out: &mut String,
     alloc: Global,
     written: &Json,
-    object: Option<Part<'_, '_>>,
+    object: Option<&Part<'_, '_>>,
 ) -> Result<(), AllocError> {
     match object {
         Some(object) => {
-            let value = part_at(alloc, written, &object)?;
+            let value = part_at(alloc, written, object)?;
             write!(out, "; {}", shown_value(alloc, &value)?.as_str())
         }
         None => out.push_str("; none"),

@@ -1,5 +1,0 @@
-use Rattle.std.proofs.Common.{rules}
-use Rattle.vap_match.proofs.selection.own_labels.Goals as goal
-
-pub returns-in-None : goal.returns-in-None
-returns-in-None c = search rules
