@@ -40,6 +40,9 @@ use vap_watch::Writer;
 /// The most reviews that are judged together.
 pub const LARGEST_GROUP: usize = 1_024;
 
+/// How many are enough for one thread: what it has read is then still in the processor's caches when it is judged.
+const ENOUGH_FOR_ONE: usize = 64;
+
 /// From how many bytes on the lines of the audit are written, in one write.
 const FULL_TEXT: usize = 65_536;
 
@@ -188,8 +191,13 @@ impl Session {
         }
     }
 
-    /// Puts a review into the group, and answers the group if it is as large as it may be, or if the history has no room for
-    /// more.
+    /// Whether the group is large enough to be judged by these threads.
+    fn is_enough(&self, threads: usize) -> bool {
+        threads == 1 && self.group.len() >= ENOUGH_FOR_ONE
+    }
+
+    /// Puts a review into the group, and answers the group if it is as large as it may be, or large enough, or if the history has
+    /// no room for more.
     #[tactic(auto, using(crate::proofs::Told::stops_here, crate::proofs::Unjudged::group_first))]
     fn take_review<L: Plan + Send + Sync, H: Threads + Wait + Sync, W: Write>(
         &mut self,
@@ -223,7 +231,10 @@ impl Session {
             return self.refuse(crew, LineFault::AuditFull, out);
         }
         self.wait(request)?;
-        if self.group.len() == LARGEST_GROUP || self.waiting() == MOST_ENTRIES {
+        if self.group.len() == LARGEST_GROUP
+            || self.waiting() == MOST_ENTRIES
+            || self.is_enough(crew.threads())
+        {
             self.answer_group(crew, out)?;
         }
         Ok(())

@@ -1,5 +1,5 @@
 -- What policies may cover, and which places they name.
-use Rattle.std.proofs.Common.{◌≡◌, ℕ, Bool, true, false, cond, ◌&&◌, ◌||◌, List, [], ◌∷◌, refl, sym, ap, ◌∙◌}
+use Rattle.std.proofs.Common.{◌≡◌, ℕ, Bool, true, false, ◌&&◌, ◌||◌, List, [], ◌∷◌, refl, sym, ap, ◌∙◌}
 use Rattle.std.specs.Prelude.{codes}
 use Rattle.std.specs.List.{flat_map, list_any}
 use Rattle.std.specs.Str.{bytes_eq}
@@ -162,9 +162,8 @@ narrow_named g s p narrow = all_named g s (rules_in p) narrow
 -- a policy that does not name a place, but may cover it, is wide
 pub unnamed_wide : (g s : List ℕ) (p : BoundPolicy) → list_any (is_place g s) (places_of p) ≡ false → may_cover g s p ≡ true
     → is_wide p ≡ true
-unfolding places_of
-unnamed_wide g s p none may = at (is_wide p) refl none
+unnamed_wide g s p none may = at (is_wide p) refl
   where
-    at : (b : Bool) → is_wide p ≡ b → list_any (is_place g s) (cond b [] (flat_map rule_places (rules_in p))) ≡ false → b ≡ true
-    at true is none = refl
-    at false is none = sym none ∙ narrow_named g s p is ∙ may
+    at : (b : Bool) → is_wide p ≡ b → b ≡ true
+    at true is = refl
+    at false is = sym none ∙ narrow_named g s p is ∙ may

@@ -1,8 +1,8 @@
 -- The entries of an index, and what one policy more makes of them.
-use Rattle.std.proofs.Common.{◌≡◌, ◌<◌, ◌+◌, ℕ, zero, suc, Bool, true, false, cond, ◌||◌, List, [], ◌∷◌, ◌++◌, length, map, filter}
+use Rattle.std.proofs.Common.{◌≡◌, ◌<◌, ◌≤◌, ◌+◌, ℕ, zero, suc, Bool, true, false, cond, ◌||◌, List, [], ◌∷◌, ◌++◌, length, map, filter}
 use Rattle.std.proofs.Common.{set, get_or, refl, sym, ap, ◌∙◌, subst, arith, append-nil, inl, inr, Result, Ok, Err, OnOk}
-use Rattle.std.proofs.Common.{take, drop, drop-cons, add-one}
-use Rattle.std.specs.Prelude.{Some, None}
+use Rattle.std.proofs.Common.{take, drop, drop-cons, add-one, append_assoc}
+use Rattle.std.specs.Prelude.{Some, None, if◌then◌else◌}
 use Rattle.std.specs.List.{All, AllByRecursion, HoldsAt, flat_map, list_any}
 use Rattle.std.specs.List.Sorted.{IsNonDecreasingBy, IsPartitionPoint, IsStrictlySortedBy}
 use Rattle.std.specs.Ordering.{is_lt, ordering_index, ordering_reverse}
@@ -18,7 +18,7 @@ use Rattle.std.proofs.lemmas.List.Sorted.{searchable_from_sorted}
 use Rattle.std.proofs.lemmas.Map.Keys.{Less-from_sorted, sorted_head, sorted_tail}
 use Rattle.vap_policy_set.specs.Covering.{is_wide, may_cover, rules_in}
 use Rattle.vap_policy_set.specs.Index.{AreApart, AreForPlaces, IsEntryOf, IsFoundAt, empty_entry, entry_places, is_entry, with_behind}
-use Rattle.vap_policy_set.specs.Index.{with_named, with_policy}
+use Rattle.vap_policy_set.specs.Index.{if_wide, with_named, with_policy}
 use Rattle.vap_policy_set.specs.PlaceOrder.{place_cmp}
 use Rattle.vap_policy_set.specs.Places.{is_place, rule_places}
 use Rattle.vap_policy_set.specs.declared.bound.BoundPolicy.{BoundPolicy}
@@ -361,3 +361,31 @@ written n new old same len =
 pub cut_before : (ps : List BoundPolicy) (i : ℕ) (p : BoundPolicy) → i < length ps → p ≡ get_or ps i p
     → take (i + 1) ps ≡ take i ps ++ p ∷ []
 cut_before ps i p lt is = take_more ps i p lt ∙ ap (λ (q : BoundPolicy). take i ps ++ q ∷ []) (sym is)
+
+-- ---- the wide ones
+
+wide_first : (p : BoundPolicy) (ps : List BoundPolicy) → filter is_wide (p ∷ ps) ≡ if_wide p ++ filter is_wide ps
+unfolding if_wide
+wide_first p ps = at (is_wide p)
+  where
+    at : (b : Bool) → cond b (p ∷ filter is_wide ps) (filter is_wide ps) ≡ (if b then p ∷ [] else []) ++ filter is_wide ps
+    at true = refl
+    at false = refl
+
+-- the wide ones of the policies so far with those that are left are all
+pub wide_next : (ps : List BoundPolicy) (i : ℕ) (p : BoundPolicy) (done new : List BoundPolicy) → i < length ps → p ≡ get_or ps i p
+    → new ≡ done ++ if_wide p → done ++ filter is_wide (drop i ps) ≡ filter is_wide ps
+    → new ++ filter is_wide (drop (i + 1) ps) ≡ filter is_wide ps
+wide_next ps i p done new lt is put whole =
+    let cut : drop i ps ≡ p ∷ drop (i + 1) ps =
+    drop-cons ps i p lt ∙ ap (λ x. x ∷ drop (suc i) ps) (sym is) ∙ ap (λ n. p ∷ drop n ps) (sym (add-one i)) in
+    ap (λ xs. xs ++ filter is_wide (drop (i + 1) ps)) put
+    ∙ append_assoc done (if_wide p) (filter is_wide (drop (i + 1) ps))
+    ∙ ap (λ xs. done ++ xs) (sym (wide_first p (drop (i + 1) ps)))
+    ∙ ap (λ xs. done ++ filter is_wide xs) (sym cut)
+    ∙ whole
+
+pub all_wide : (ps : List BoundPolicy) (i : ℕ) (done : List BoundPolicy) → length ps ≤ i
+    → done ++ filter is_wide (drop i ps) ≡ filter is_wide ps → done ≡ filter is_wide ps
+all_wide ps i done over whole =
+    sym (append-nil done) ∙ ap (λ xs. done ++ filter is_wide xs) (sym (drop_all i ps over)) ∙ whole

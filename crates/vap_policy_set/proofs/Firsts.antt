@@ -1,9 +1,7 @@
 -- Each kind of a cluster is the one of its group, version and name.
-use Rattle.std.proofs.Common.{◌≡◌, ℕ, Bool, true, false, cond, ◌||◌, List, [], ◌∷◌, ◌++◌, Option, Some, None, refl, sym, ap, ◌∙◌}
+use Rattle.std.proofs.Common.{◌≡◌, Bool, true, false, cond, ◌||◌, List, [], ◌∷◌, ◌++◌, Option, Some, None, refl, sym, ◌∙◌}
 use Rattle.std.specs.Prelude.{if◌then◌else◌}
 use Rattle.std.specs.List.{AllByRecursion, find, list_any}
-use Rattle.std.specs.Str.{bytes_eq}
-use Rattle.std.proofs.lemmas.Slice.Eq.{bytes_eq-Decides}
 use Rattle.base_containers.specs.declared.text.Keyed.{Keyed}
 use Rattle.serde_json.specs.Data as json
 use Rattle.serde_json.specs.Data.{Data, Items}
@@ -12,7 +10,7 @@ use Rattle.vap_match.specs.Parts.{items_in}
 use Rattle.std.specs.Prelude.{codes}
 use Rattle.vap_read_objects.specs.Definitions.{is_formed, named_schema}
 use Rattle.vap_read_objects.specs.FixedKinds.{fixed_kinds}
-use Rattle.vap_read_objects.specs.Kinds.{is_named, kind_named, kind_of, with_kind, with_schema, with_versions, with_spec, with_definitions}
+use Rattle.vap_read_objects.specs.Kinds.{is_named, kind_of, with_kind, with_schema, with_versions, with_spec, with_definitions}
 use Rattle.vap_read_objects.specs.Kinds.{kinds_of}
 use Rattle.vap_read_objects.specs.declared.kind.Kind.{Kind}
 use Rattle.vap_read.specs.declared.object.Object.{Object}

@@ -8,6 +8,7 @@ pub mod Olds
 pub mod MadeSets
 pub mod Reused
 pub mod StillBound
+pub mod Changed
 pub mod Asked
 pub mod PlaceOrder
 pub mod SamePlaces

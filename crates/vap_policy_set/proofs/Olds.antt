@@ -10,16 +10,9 @@ use Rattle.vap_read_objects.specs.declared.kind.Kind.{Kind}
 use Rattle.vap_read_objects.specs.Listed.{bindings_of}
 use Rattle.vap_policy_set.specs.Parts.{part_of}
 use Rattle.vap_policy_set.specs.Sets.{bound_of, other_of, pairs_of}
-use Rattle.vap_policy_set.specs.Still.{AreAt, AreBound, AreOldOf, IsBound, IsOldOf}
+use Rattle.vap_policy_set.specs.Still.{AreAt, AreBound, AreOldOf, IsOldOf}
 use Rattle.vap_policy_set.specs.declared.bound.BoundPolicy.{BoundPolicy}
 use Rattle.vap_policy_set.specs.declared.choice.Choice.{Choice}
-use Rattle.vap_policy_set.proofs.StillBound.{bound_again}
-
--- one that is bound as it would be now is what a policy of its name is bound to that says the same
-pub old_bound : (choice : Choice) (kinds : List Kind) (bindings : List (Keyed Binding)) (b : BoundPolicy) (p : Keyed Policy)
-    → b.name ≡ p.key → b.own ≡ p.value → IsBound choice kinds bindings b → b ≡ bound_of choice kinds bindings p
-old_bound choice kinds bindings b p name says is =
-    bound_again choice kinds bindings b p is (name, sym (ap (λ (x : BoundPolicy). x.own) is) ∙ says)
 
 -- what was bound among the last of all was bound among all
 pub old_among : (rest all : List BoundPolicy) (p : Keyed Policy) (b : BoundPolicy)

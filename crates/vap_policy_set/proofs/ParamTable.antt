@@ -1,5 +1,5 @@
 -- The params that a set holds of a kind that a policy names.
-use Rattle.std.proofs.Common.{◌≡◌, true, List, [], ◌∷◌, Option, Some, None, refl, ap, ◌∙◌, cond}
+use Rattle.std.proofs.Common.{List, [], ◌∷◌, Option, Some, None, refl, ap, ◌∙◌, cond}
 use Rattle.std.specs.List.{AllByRecursion, flat_map}
 use Rattle.base_containers.specs.declared.text.Keyed.{Keyed}
 use Rattle.vap_read_objects.specs.Cluster.{Cluster}

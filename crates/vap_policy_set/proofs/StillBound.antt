@@ -1,6 +1,7 @@
 -- Policies of a set that are still bound as they were.
-use Rattle.std.proofs.Common.{◌≡◌, ℕ, zero, suc, true, List, [], ◌∷◌, drop, map, take, refl, sym, ap, ◌∙◌, subst}
-use Rattle.std.specs.List.{All, AllByRecursion}
+use Rattle.std.proofs.Common.{◌≡◌, ◌<◌, ℕ, zero, suc, true, List, [], ◌∷◌, drop, get_or, length, map, refl, sym, ap, ◌∙◌, subst}
+use Rattle.std.proofs.Common.{arith}
+use Rattle.std.specs.List.{AllByRecursion}
 use Rattle.std.proofs.lemmas.List.Elements.{All-from_recursion, recursion_from_All}
 use Rattle.base_containers.specs.declared.text.Keyed.{Keyed}
 use Rattle.vap_read.specs.declared.binding.Binding.{Binding}
@@ -14,7 +15,7 @@ use Rattle.vap_read.specs.declared.policy.Policy.{Policy}
 use Rattle.vap_read.specs.declared.event.Event.{Event}
 use Rattle.vap_policy_set.specs.Reuse.{IsBefore}
 use Rattle.vap_policy_set.specs.Sets.{Holdings, bound_of, holdings_of, policies_by}
-use Rattle.vap_policy_set.specs.Still.{AreAt, AreBound, IsBound, named_of}
+use Rattle.vap_policy_set.specs.Still.{AreAt, AreBound, IsBound}
 use Rattle.vap_policy_set.specs.declared.bound.BoundPolicy.{BoundPolicy}
 use Rattle.vap_policy_set.specs.declared.choice.Choice.{Choice}
 use Rattle.vap_policy_set.proofs.Standing.{bound_same}
@@ -31,34 +32,32 @@ all_bound choice kinds bindings ps bs is =
     subst (λ (xs : List BoundPolicy). AreBound choice kinds bindings xs) (sym is)
     (All-from_recursion (IsBound choice kinds bindings) (map (bound_of choice kinds bindings) ps) (each_bound choice kinds bindings ps))
 
--- one that is bound so is what a policy of its name that says the same is bound to
-pub bound_again : (choice : Choice) (kinds : List Kind) (bindings : List (Keyed Binding)) (b : BoundPolicy) (p : Keyed Policy)
-    → IsBound choice kinds bindings b → (b.name ≡ p.key) × (b.policy ≡ p.value) → b ≡ bound_of choice kinds bindings p
-bound_again choice kinds bindings b p is same =
-    is
-    ∙ ap (λ (n : List ℕ). bound_of choice kinds bindings (record { key = n; value = b.policy })) same.0
-    ∙ ap (λ (v : Policy). bound_of choice kinds bindings (record { key = p.key; value = v })) same.1
-
--- so are some of them that follow one another
-pub bound_part : (choice : Choice) (kinds : List Kind) (bindings : List (Keyed Binding)) (bs : List BoundPolicy) (n m : ℕ)
-    → AreBound choice kinds bindings bs → AreBound choice kinds bindings (take m (drop n bs))
-bound_part choice kinds bindings bs n m all =
-    All-from_recursion (IsBound choice kinds bindings) (take m (drop n bs))
-    (first m (drop n bs) (rest n bs (recursion_from_All (IsBound choice kinds bindings) bs all)))
+-- so are those behind some of them
+pub bound_behind : (choice : Choice) (kinds : List Kind) (bindings : List (Keyed Binding)) (bs : List BoundPolicy) (n : ℕ)
+    → AreBound choice kinds bindings bs → AreBound choice kinds bindings (drop n bs)
+bound_behind choice kinds bindings bs n all =
+    All-from_recursion (IsBound choice kinds bindings) (drop n bs)
+    (behind n bs (recursion_from_All (IsBound choice kinds bindings) bs all))
   where
-    first : (i : ℕ) (cs : List BoundPolicy) → AllByRecursion (IsBound choice kinds bindings) cs
-        → AllByRecursion (IsBound choice kinds bindings) (take i cs)
-    first zero cs each = tt
-    first (suc i) [] each = tt
-    first (suc i) (c ∷ cs) each = (each.0, first i cs each.1)
-
-    rest : (i : ℕ) (cs : List BoundPolicy) → AllByRecursion (IsBound choice kinds bindings) cs
+    behind : (i : ℕ) (cs : List BoundPolicy) → AllByRecursion (IsBound choice kinds bindings) cs
         → AllByRecursion (IsBound choice kinds bindings) (drop i cs)
-    rest zero cs each = each
-    rest (suc i) [] each = tt
-    rest (suc i) (c ∷ cs) each = rest i cs each.1
+    behind zero cs each = each
+    behind (suc i) [] each = tt
+    behind (suc i) (c ∷ cs) each = behind i cs each.1
 
-held_policies : (c : Cluster) (choice : Choice) → (holdings_of c choice).policies ≡ policies_by choice c
+-- so is one of them
+pub bound_at : (choice : Choice) (kinds : List Kind) (bindings : List (Keyed Binding)) (bs : List BoundPolicy) (i : ℕ) (b : BoundPolicy)
+    → i < length bs → b ≡ get_or bs i b → AreBound choice kinds bindings bs → IsBound choice kinds bindings b
+bound_at choice kinds bindings bs i b lt is all =
+    subst (IsBound choice kinds bindings) (sym is) (here i bs lt (recursion_from_All (IsBound choice kinds bindings) bs all))
+  where
+    here : (n : ℕ) (cs : List BoundPolicy) → n < length cs → AllByRecursion (IsBound choice kinds bindings) cs
+        → IsBound choice kinds bindings (get_or cs n b)
+    here n [] h each = absurd (omega (arith, h))
+    here zero (c ∷ cs) h each = each.0
+    here (suc n) (c ∷ cs) h each = here n cs (omega (arith, h)) each.1
+
+pub held_policies : (c : Cluster) (choice : Choice) → (holdings_of c choice).policies ≡ policies_by choice c
 unfolding holdings_of
 held_policies c choice = refl
 

@@ -3,7 +3,7 @@ use Rattle.std.specs.Prelude.{◌≡◌, ◌<◌, ℕ, Bool, true, false, if◌t
 use Rattle.std.specs.Prelude.{Option, Some, None}
 use Rattle.std.specs.List.{All, HoldsAt, list_any}
 use Rattle.std.specs.List.Sorted.{IsStrictlySortedBy}
-use Rattle.vap_policy_set.specs.Covering.{may_cover}
+use Rattle.vap_policy_set.specs.Covering.{is_wide, may_cover}
 use Rattle.vap_policy_set.specs.PlaceOrder.{place_cmp}
 use Rattle.vap_policy_set.specs.Places.{is_place, places_in}
 use Rattle.vap_policy_set.specs.declared.bound.BoundPolicy.{BoundPolicy}
@@ -51,6 +51,10 @@ IsFoundAt group resource es None = list_any (is_entry group resource) es ≡ fal
 IsFoundAt group resource es (Some at) = (at < length es) × HoldsAt (λ e. is_entry group resource e ≡ true) es at
 
 -- ---- one policy more
+
+-- a policy, if it may cover more than the places that it names
+unfoldable pub if_wide : BoundPolicy → List BoundPolicy
+if_wide p = if is_wide p then p ∷ [] else []
 
 -- an entry for a place, without policies so far
 abbrev pub empty_entry : Place → Entry

@@ -3,6 +3,7 @@ pub mod Made
 pub mod Parts
 pub mod Sets
 pub mod Still
+pub mod Changed
 pub mod Reuse
 pub mod Ready
 pub mod Whole

@@ -1,10 +1,10 @@
 -- Resources of groups, and which of them policies name.
-use Rattle.std.specs.Prelude.{◌≡◌, ℕ, Bool, ◌&&◌, if◌then◌else◌, List, [], map}
+use Rattle.std.specs.Prelude.{◌≡◌, ℕ, Bool, ◌&&◌, List, map}
 use Rattle.std.specs.List.{flat_map, list_any}
 use Rattle.std.specs.Str.{bytes_eq}
 use Rattle.vap_match.specs.Cover.{before_slash}
 use Rattle.vap_match.specs.declared.rules.Rule.{Rule}
-use Rattle.vap_policy_set.specs.Covering.{is_wide, rules_in}
+use Rattle.vap_policy_set.specs.Covering.{rules_in}
 use Rattle.vap_policy_set.specs.declared.bound.BoundPolicy.{BoundPolicy}
 use Rattle.vap_policy_set.specs.declared.places.Place.{Place}
 
@@ -24,9 +24,9 @@ group_places patterns group = map (place_of group) patterns
 abbrev pub rule_places : Rule → List Place
 rule_places rule = flat_map (group_places rule.resources) rule.api_groups
 
--- the places that a policy names, unless it may cover more
-unfoldable pub places_of : BoundPolicy → List Place
-places_of p = if is_wide p then [] else flat_map rule_places (rules_in p)
+-- the places that a policy names
+abbrev pub places_of : BoundPolicy → List Place
+places_of p = flat_map rule_places (rules_in p)
 
 -- those that policies name
 abbrev pub places_in : List BoundPolicy → List Place

@@ -11,7 +11,7 @@ use Rattle.vap_policy_set.specs.declared.choice.Choice.{Choice}
 
 -- a policy under its name
 abbrev pub named_of : BoundPolicy → Keyed Policy
-named_of b = record { key = b.name; value = b.policy }
+named_of b = record { key = b.name; value = b.own }
 
 -- a policy is bound as it is by a choice, with these kinds and bindings
 abbrev pub IsBound : Choice → List Kind → List (Keyed Binding) → BoundPolicy → Type 0

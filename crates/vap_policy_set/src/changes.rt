@@ -1,14 +1,11 @@
-//! Which policies and kinds events change.
+//! Which kinds events change, and what is kept of a set before them.
 
-ghost use Rattle.std.specs.Prelude.{◌≡◌, List, IfSome, IsTrue};
+ghost use Rattle.std.specs.Prelude.{◌≡◌, IsTrue};
 ghost use Rattle.std.specs.Option.{option_copied};
-ghost use Rattle.base_containers.specs.declared.text.Keyed.{Keyed as Bound};
-ghost use Rattle.vap_read.specs.declared.binding.Binding.{Binding as BindingOf};
-ghost use Rattle.vap_read_objects.specs.declared.kind.Kind.{Kind as KindOf};
-ghost use Rattle.vap_policy_set.specs.Still.{AreBound, IsOldOf};
-ghost use Rattle.vap_policy_set.specs.declared.choice.Choice.{Choice as ChoiceOf};
+ghost use Rattle.vap_policy_set.specs.Changed.{IsNext};
 
 use crate::bound::BoundPolicy;
+use crate::changed_policies::ChangedPolicies;
 use crate::choice::Choice;
 use crate::made::MadePair;
 use base_containers::{Same, Shared, Text};
@@ -17,8 +14,8 @@ use serde_json::Value as Json;
 use std::alloc::{AllocError, Global};
 use vap_match::text_in;
 use vap_policy_programs::FixedTypes;
-use vap_read::{Event, Key, Object, ObjectMap, ParamKind, Policy};
-use vap_read_objects::{Kind, is_definition, is_policy};
+use vap_read::{Event, Key, Object, ObjectMap, ParamKind};
+use vap_read_objects::{Kind, is_definition};
 
 /// A kind, in whichever version.
 #[derive(Drop)]
@@ -27,12 +24,11 @@ struct KindName {
     kind: Text,
 }
 
-/// The policies and kinds that events put or take away. No answer depends on it. It only decides how often something is compiled.
+/// The kinds whose definitions events put or take away. No answer depends on it. It only decides how often something is compiled.
 #[derive(Drop)]
 pub struct Changes {
     /// A List came, which may change all.
     all: bool,
-    policies: Vec<Text>,
     kinds: Vec<KindName>,
 }
 
@@ -47,6 +43,8 @@ pub struct Kept<'a> {
     pub choice: &'a Choice,
     pub patterns: &'a Shared<Patterns>,
     pub fixed_types: &'a Shared<FixedTypes>,
+    /// The policies that events changed since.
+    pub changed: &'a ChangedPolicies,
     pub changes: &'a Changes,
     /// The number of this making.
     pub round: u64,
@@ -65,7 +63,6 @@ impl Changes {
     pub fn none(alloc: Global) -> Changes {
         Changes {
             all: false,
-            policies: Vec::new(alloc),
             kinds: Vec::new(alloc),
         }
     }
@@ -113,16 +110,13 @@ impl Changes {
         Ok(())
     }
 
-    /// Adds the policy of a key, or the kind of the definition that is under it.
+    /// Adds the kind of the definition that is under a key.
     fn add_key(
         &mut self,
         alloc: Global,
         definitions: &ObjectMap,
         key: &Key,
     ) -> Result<(), AllocError> {
-        if is_policy(key) {
-            self.policies.push(key.name.copy()?)?;
-        }
         if is_definition(key) {
             if let Some(object) = definitions.get(key) {
                 self.add_definition(alloc, object.get().document.json())?;
@@ -144,16 +138,6 @@ impl Changes {
         Ok(())
     }
 
-    /// Whether a policy of this name was put or taken away.
-    fn has_policy(&self, name: &str) -> bool {
-        for policy in &self.policies {
-            if policy.as_str() == name {
-                return true;
-            }
-        }
-        self.all
-    }
-
     /// Whether a definition of this kind was put or taken away.
     fn has_kind(&self, group: &str, kind: &str) -> bool {
         for changed in &self.kinds {
@@ -172,36 +156,11 @@ impl Changes {
     }
 }
 
-/// The policies from the first one on whose name is not below this one.
-pub fn not_below<'a>(policies: &'a [Shared<BoundPolicy>], name: &str) -> &'a [Shared<BoundPolicy>]
-    ensures { (choice : ChoiceOf) (kinds : List KindOf) (bindings : List (Bound BindingOf)) → AreBound choice kinds bindings policies.now
-        → AreBound choice kinds bindings result.now }
-{
-    for place in 0..policies.len() {
-        if policies[place].get().name.as_str() >= name {
-            return &policies[place..];
-        }
-    }
-    &[]
-}
-
-/// The first policy that says the same, of those at the beginning that have this name.
-fn same_policy<'a>(
-    policies: &'a [Shared<BoundPolicy>],
-    name: &str,
-    policy: &Policy,
-) -> Option<&'a Shared<BoundPolicy>>
-    ensures { IfSome (option_copied result) (IsOldOf policies.now (record { key = name.now; value = policy.now })) }
-{
-    for old in policies {
-        if old.get().name.as_str() != name {
-            return None;
-        }
-        if old.get().own.get().is_of(policy) {
-            return Some(old);
-        }
-    }
-    None
+/// What was bound before of the policy that comes next, if it is kept, and what was bound behind it.
+#[derive(Clone, Copy)]
+pub struct NextOld<'a> {
+    pub bound: Option<&'a Shared<BoundPolicy>>,
+    pub behind: &'a [Shared<BoundPolicy>],
 }
 
 impl<'a> Kept<'a> {
@@ -219,19 +178,30 @@ impl<'a> Kept<'a> {
         self.is_still_at_kinds && self.choice.same(choice)
     }
 
-    /// What was bound of a policy before, unless an event put or removed one of its name. Those before `rest` have lesser names.
-    pub fn old(
-        &self,
-        rest: &'a [Shared<BoundPolicy>],
-        name: &str,
-        policy: &Policy,
-    ) -> Option<&'a Shared<BoundPolicy>>
-        ensures { IfSome (option_copied result) (IsOldOf rest.now (record { key = name.now; value = policy.now })) }
+    /// What was bound before of the policy of this name, which comes next, unless an event put or removed one of its name. `rest` is
+    /// what was bound of it and of those behind it, and of others that events changed.
+    pub fn next_old(&self, rest: &'a [Shared<BoundPolicy>], name: &str) -> NextOld<'a>
+        ensures { IsNext self.now.changed.now name.now rest.now (option_copied result.bound) result.behind.now }
     {
-        if self.changes.has_policy(name) {
-            return None;
+        if self.changed.has(name) {
+            return NextOld {
+                bound: None,
+                behind: rest,
+            };
         }
-        same_policy(rest, name, policy)
+        for at in 0..rest.len() {
+            let old = &rest[at];
+            if !self.changed.has(old.get().name.as_str()) {
+                return NextOld {
+                    bound: Some(old),
+                    behind: &rest[at + 1..],
+                };
+            }
+        }
+        NextOld {
+            bound: None,
+            behind: &[],
+        }
     }
 
     /// What a policy was at a kind before, unless a definition of the kind changed, or one of the kind of its params.

@@ -1,11 +1,11 @@
 //! Policies by the resources that they name.
 
-ghost use Rattle.std.specs.Prelude.{◌≡◌, false, [], ◌∷◌, filter, map, IfOk, OnOk};
+ghost use Rattle.std.specs.Prelude.{◌≡◌, ◌++◌, false, [], ◌∷◌, filter, map, IfOk, OnOk};
 ghost use Rattle.std.specs.List.{All};
 ghost use Rattle.std.specs.List.Sorted.{IsStrictlySortedBy};
 ghost use Rattle.vap_policy_set.specs.Covering.{is_wide};
 ghost use Rattle.vap_policy_set.specs.Index.{AreApart, AreEnough, AreEntriesOf, AreForPlaces, IsEntryOf, IsFoundAt, empty_entry};
-ghost use Rattle.vap_policy_set.specs.Index.{with_behind, with_named, with_policy};
+ghost use Rattle.vap_policy_set.specs.Index.{if_wide, with_behind, with_named, with_policy};
 ghost use Rattle.vap_policy_set.specs.PlaceOrder.{place_cmp};
 
 use crate::bound::BoundPolicy;
@@ -57,21 +57,6 @@ impl Model for Index {
     ghost view = { λ i. i.all };
 
     ghost invariant = { λ i. (i.wide ≡ filter is_wide i.all) × AreEntriesOf i.all i.entries };
-}
-
-fn wide_in(
-    alloc: Global,
-    policies: &[Shared<BoundPolicy>],
-) -> Result<Items<Shared<BoundPolicy>>, AllocError>
-    ensures { IfOk result (λ wide. wide ≡ filter is_wide policies.now) }
-{
-    let mut wide = Vec::new(alloc);
-    for policy in policies {
-        if is_wide(policy.get()) {
-            wide.push(policy.share()?)?;
-        }
-    }
-    Ok(Items::from_vec(wide))
 }
 
 /// How the place of an entry compares to a resource of a group.
@@ -173,16 +158,21 @@ fn put_narrow<'a>(
     put_at_each(policy, places.as_slice(), entries)
 }
 
-/// Puts a policy to each entry that it may cover. A narrow policy finds its entries by the places that it names.
+/// Puts a policy to each entry that it may cover, and to the wide ones if it is wide. A narrow policy finds its entries by the places
+/// that it names.
+#[tactic(auto, unfolding(crate::specs::Index::if_wide))]
 fn put_policy<'a>(
     policy: &'a Shared<BoundPolicy>,
     places: &mut Vec<NamedPlace<'a>>,
     entries: &mut [Entry],
+    wide: &mut Vec<Shared<BoundPolicy>>,
 ) -> Result<(), AllocError>
     requires apart { AreApart entries.old }
-    ensures { OnOk result (entries.new ≡ map (with_policy policy.now) entries.old) }
+    ensures entries { OnOk result (entries.new ≡ map (with_policy policy.now) entries.old) }
+    ensures wide { OnOk result (wide.new.items ≡ wide.old.items ++ if_wide policy.now) }
 {
     if is_wide(policy.get()) {
+        wide.push(policy.share()?)?;
         put_wide(policy, entries)
     } else {
         put_narrow(policy, places, entries)
@@ -202,32 +192,45 @@ fn empty_entries(alloc: Global, places: &[NamedPlace<'_>]) -> Result<Vec<Entry>,
     Ok(entries)
 }
 
-/// The entries for places, of policies that are put to them one after the other.
-fn entries_of(
+/// Policies as they are found: entries for places, and those that may cover more than the places that they name.
+#[derive(Drop)]
+struct Found {
+    entries: Items<Entry>,
+    wide: Items<Shared<BoundPolicy>>,
+}
+
+/// Policies that are put to entries for places one after the other.
+fn found_at(
     alloc: Global,
     policies: &[Shared<BoundPolicy>],
     places: &[NamedPlace<'_>],
-) -> Result<Items<Entry>, AllocError>
+) -> Result<Found, AllocError>
     requires { IsStrictlySortedBy place_cmp places.now }
-    ensures right { IfOk result (λ es. All (IsEntryOf policies.now) es) }
-    ensures named { IfOk result (λ es. AreForPlaces places.now es) }
-    ensures apart { IfOk result (λ es. AreApart es) }
+    ensures right { IfOk result (λ found. All (IsEntryOf policies.now) found.entries) }
+    ensures named { IfOk result (λ found. AreForPlaces places.now found.entries) }
+    ensures apart { IfOk result (λ found. AreApart found.entries) }
+    ensures wide { IfOk result (λ found. found.wide ≡ filter is_wide policies.now) }
 {
     let mut entries = empty_entries(alloc, places)?;
+    let mut wide = Vec::new(alloc);
     let mut room = Vec::new(alloc);
     for policy in policies {
-        put_policy(policy, &mut room, entries.as_mut_slice())?;
+        put_policy(policy, &mut room, entries.as_mut_slice(), &mut wide)?;
     }
-    Ok(Items::from_vec(entries))
+    Ok(Found {
+        entries: Items::from_vec(entries),
+        wide: Items::from_vec(wide),
+    })
 }
 
-/// The entries for the places that policies name.
-fn entries_in(alloc: Global, policies: &[Shared<BoundPolicy>]) -> Result<Items<Entry>, AllocError>
-    ensures { IfOk result (λ es. AreEntriesOf policies.now es) }
+/// Policies with entries for the places that they name.
+fn found_in(alloc: Global, policies: &[Shared<BoundPolicy>]) -> Result<Found, AllocError>
+    ensures entries { IfOk result (λ found. AreEntriesOf policies.now found.entries) }
+    ensures wide { IfOk result (λ found. found.wide ≡ filter is_wide policies.now) }
 {
     let mut places = places_in(alloc, policies)?;
     put_in_order(&mut places);
-    entries_of(alloc, policies, places.as_slice())
+    found_at(alloc, policies, places.as_slice())
 }
 
 impl Index {
@@ -235,8 +238,8 @@ impl Index {
     pub fn new(alloc: Global, all: Items<Shared<BoundPolicy>>) -> Result<Index, AllocError>
         ensures { IfOk result (λ index. index ≡ all) }
     {
-        let entries = entries_in(alloc, all.as_slice())?;
-        let wide = wide_in(alloc, all.as_slice())?;
+        let found = found_in(alloc, all.as_slice())?;
+        let Found { entries, wide } = found;
         Ok(Index { all, entries, wide })
     }
 

@@ -11,6 +11,7 @@
 
 mod bound;
 mod build_error;
+mod changed_policies;
 mod changes;
 mod choice;
 mod compiling;

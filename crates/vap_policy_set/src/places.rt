@@ -8,10 +8,10 @@ ghost use Rattle.std.specs.List.{flat_map, list_any};
 ghost use Rattle.std.specs.List.Sorted.{IsStrictlySortedBy};
 ghost use Rattle.std.specs.Ordering.{as_partial_cmp, eq_by_cmp};
 ghost use Rattle.vap_policy_set.specs.PlaceOrder.{place_cmp};
-ghost use Rattle.vap_policy_set.specs.Places.{NameSame, group_places, is_place, places_in, places_of, rule_places};
+ghost use Rattle.vap_policy_set.specs.Places.{NameSame, group_places, is_place, places_in, rule_places};
 
 use crate::bound::BoundPolicy;
-use crate::covering::{is_wide, rules_in};
+use crate::covering::rules_in;
 use crate::params::resource_in;
 use base_containers::{Shared, Text};
 use std::alloc::{AllocError, Global};
@@ -181,20 +181,6 @@ pub fn put_rules<'a>(rules: &'a [Rule], places: &mut Vec<NamedPlace<'a>>) -> Res
     Ok(())
 }
 
-#[tactic(auto, unfolding(crate::specs::Places::places_of))]
-fn put_policy<'a>(
-    policy: &'a BoundPolicy,
-    places: &mut Vec<NamedPlace<'a>>,
-) -> Result<(), AllocError>
-    ensures { OnOk result (NameSame places.new.items (places.old.items ++ places_of policy.now)) }
-{
-    if is_wide(policy) {
-        Ok(())
-    } else {
-        put_rules(rules_in(policy), places)
-    }
-}
-
 /// The places that policies name.
 pub fn places_in<'a>(
     alloc: Global,
@@ -204,7 +190,7 @@ pub fn places_in<'a>(
 {
     let mut places = Vec::new(alloc);
     for policy in policies {
-        put_policy(policy.get(), &mut places)?;
+        put_rules(rules_in(policy.get()), &mut places)?;
     }
     Ok(places)
 }

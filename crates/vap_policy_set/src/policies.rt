@@ -3,6 +3,7 @@
 ghost use Rattle.std.specs.Prelude.{◌≡◌, ℕ, List, IfOk, IfSome, IsErrOf, IsTrue, map};
 ghost use Rattle.std.specs.Option.{option_copied};
 ghost use Rattle.vap_read_objects.specs.Listed.{bindings_of};
+ghost use Rattle.vap_policy_set.specs.Changed.{KeepOthers};
 ghost use Rattle.vap_policy_set.specs.Parts.{part_of};
 ghost use Rattle.vap_policy_set.specs.Sets.{bound_of};
 ghost use Rattle.vap_policy_set.specs.Still.{AreAt, AreBound, AreOldOf};
@@ -13,7 +14,7 @@ ghost use Rattle.cel_expression.specs.declared.refusal.CompileFault.TheVariants.
 
 use crate::bound::{BoundPolicy, KindPair};
 use crate::build_error::{BuildError, BuildFault};
-use crate::changes::{Kept, not_below};
+use crate::changes::Kept;
 use crate::choice::Choice;
 use crate::compiling::Compiling;
 use crate::made::MadePair;
@@ -61,6 +62,7 @@ pub fn read_policies<'a>(
     kept: &Kept<'a>,
     policies: &[Keyed<Policy>],
 ) -> Result<ReadPolicies<'a>, AllocError>
+    requires others { KeepOthers kept.now.changed.now policies.now kept.now.policies.now }
     ensures own { IfOk result (λ read. read.own ≡ policies.now) }
     ensures old { IfOk result (λ read. AreOldOf kept.now.policies.now policies.now (map option_copied read.old.items)) }
 {
@@ -68,13 +70,13 @@ pub fn read_policies<'a>(
     let mut old = Vec::new(alloc);
     let mut rest = kept.policies;
     for policy in policies {
-        rest = not_below(rest, policy.key.as_str());
-        let bound = kept.old(rest, policy.key.as_str(), &policy.value);
+        let next = kept.next_old(rest, policy.key.as_str());
+        rest = next.behind;
         all.push(Keyed {
             key: policy.key.copy()?,
-            value: own_texts(alloc, &policy.value, bound)?,
+            value: own_texts(alloc, &policy.value, next.bound)?,
         })?;
-        old.push(bound)?;
+        old.push(next.bound)?;
     }
     Ok(ReadPolicies {
         own: Items::from_vec(all),

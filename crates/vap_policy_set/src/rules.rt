@@ -3,6 +3,7 @@
 ghost use Rattle.std.specs.Prelude.{◌≡◌, ℕ, List, [], IfOk, IsErrOf, IsTrue};
 ghost use Rattle.base_containers.specs.declared.failed.Failed.TheVariants.{Fault};
 ghost use Rattle.vap_read_objects.specs.Listed.{bindings_in, kinds_in, policies_in};
+ghost use Rattle.vap_policy_set.specs.Changed.{KeepOthers};
 ghost use Rattle.vap_policy_set.specs.Patterns.{IsChoiceFor, of_policies};
 ghost use Rattle.vap_policy_set.specs.Sets.{no_choice, policies_by};
 ghost use Rattle.vap_policy_set.specs.Still.{AreAt, AreBound};
@@ -82,6 +83,7 @@ pub fn rules_of(
         → AreBound kept.now.choice.now (kinds_in objects.now.objects) (bindings_in objects.now.objects) kept.now.policies.now }
     requires at_kinds { IsTrue kept.now.is_still_at_kinds
         → AreAt kept.now.choice.now (kinds_in objects.now.objects) kept.now.policies.now }
+    requires others { KeepOthers kept.now.changed.now (policies_in objects.now.objects) kept.now.policies.now }
     ensures kinds { IfOk result (λ r. r.definitions.kinds ≡ kinds_in objects.now.objects) }
     ensures policies { IfOk result (λ r. r.policies ≡ policies_by r.choice objects.now) }
     ensures choice { IfOk result (λ r. IsChoiceFor (of_policies (policies_in objects.now.objects)) r.choice.refused) }

@@ -9,6 +9,7 @@ ghost use Rattle.vap_read_objects.specs.Classes.{all_miss, is_rule};
 ghost use Rattle.vap_read_objects.specs.Cluster.{Cluster};
 ghost use Rattle.vap_read_objects.specs.Listed.{bindings_in, kinds_in, policies_in};
 ghost use Rattle.vap_read_objects.specs.OfKind.{namespaces_in};
+ghost use Rattle.vap_policy_set.specs.Changed.{KeepOthers};
 ghost use Rattle.vap_policy_set.specs.Index.{AreEnough};
 ghost use Rattle.vap_policy_set.specs.Patterns.{IsChoiceFor, of_policies};
 ghost use Rattle.vap_policy_set.specs.Ready.{AreReady, AreReadyIn};
@@ -23,6 +24,7 @@ ghost use Rattle.vap_policy_set.specs.declared.build_error.BuildFault.TheVariant
 
 use crate::bound::BoundPolicy;
 use crate::build_error::BuildError;
+use crate::changed_policies::ChangedPolicies;
 use crate::changes::{Changes, Kept};
 use crate::choice::Choice;
 use crate::counting::compiled_at;
@@ -150,6 +152,7 @@ impl PolicySet {
         let patterns = Shared::new(alloc, Patterns::new(alloc))?;
         let choice = Choice::none(alloc)?;
         let fixed_types = Shared::new(alloc, FixedTypes::new(alloc)?)?;
+        let changed = ChangedPolicies::all(alloc);
         let changes = Changes::none(alloc);
         let kept = Kept {
             policies: &[],
@@ -158,6 +161,7 @@ impl PolicySet {
             choice: &choice,
             patterns: &patterns,
             fixed_types: &fixed_types,
+            changed: &changed,
             changes: &changes,
             round: 0,
         };
@@ -221,6 +225,7 @@ impl PolicySet {
         ensures unverified { (name : List ℕ) → IsErrOf result (Fault (Unverified name)) → IsUnverifiedIn objects.now name }
     {
         let rules = self.rules.get();
+        let changed = self.changed_policies(alloc, events)?;
         let changes = Changes::of(alloc, &rules.definitions.get().entries, events)?;
         let kept = Kept {
             policies: self.policies(),
@@ -229,6 +234,7 @@ impl PolicySet {
             choice: rules.choice.get(),
             patterns: &rules.patterns,
             fixed_types: &rules.fixed_types,
+            changed: &changed,
             changes: &changes,
             round: self.round.wrapping_add(1),
         };
@@ -250,6 +256,18 @@ impl PolicySet {
             → AreAt (choice_in self.now) (kinds_in c.objects) (policies_of self.now) }
     {
         all_miss_definitions(events)
+    }
+
+    /// The policies that events change: those of other names are what they were.
+    fn changed_policies(
+        &self,
+        alloc: Global,
+        events: &[Event],
+    ) -> Result<ChangedPolicies, AllocError>
+        ensures { IfOk result (λ changed. (c : Cluster) → IsBefore self.now events.now c
+            → KeepOthers changed (policies_in c.objects) (policies_of self.now)) }
+    {
+        ChangedPolicies::of(alloc, events)
     }
 
     /// What there is already of the set after events: its definitions, its Namespaces, and the params of the kinds that policies
@@ -287,6 +305,7 @@ impl PolicySet {
             (bindings_in objects.now.objects) kept.now.policies.now }
         requires at_kinds { IsTrue kept.now.is_still_at_kinds
             → AreAt kept.now.choice.now (kinds_in objects.now.objects) kept.now.policies.now }
+        requires others { KeepOthers kept.now.changed.now (policies_in objects.now.objects) kept.now.policies.now }
         ensures is { IfOk result (λ set. set ≡ holdings_of objects.now set.choice) }
         ensures choice { IfOk result (λ set. IsChoiceFor (of_policies (policies_in objects.now.objects)) set.choice.refused) }
         ensures unverified { (name : List ℕ) → IsErrOf result (Fault (Unverified name)) → IsUnverifiedIn objects.now name }

@@ -1,10 +1,10 @@
 //! Policies with their own texts: the literal texts that `matches` is given in their expressions.
 
-ghost use Rattle.std.specs.Prelude.{◌≡◌, ◌++◌, ◌↔◌, IfOk, IsTrue, OnOk};
+ghost use Rattle.std.specs.Prelude.{◌≡◌, ◌++◌, IfOk, OnOk};
 ghost use Rattle.std.specs.List.{flat_map};
 ghost use Rattle.vap_policy_set.specs.Patterns.{of_annotation, of_message, of_named, of_policy, of_validation};
 
-use base_containers::{Items, Same, Shared, Text};
+use base_containers::{Items, Shared, Text};
 use cel_expression::gather_texts;
 use std::alloc::{AllocError, Global};
 use std::marker::Model;
@@ -137,13 +137,6 @@ impl PolicyTexts {
         ensures { result.now ≡ of_policy self.now.spec }
     {
         self.texts.as_slice()
-    }
-
-    /// Whether it is this policy.
-    pub fn is_of(&self, policy: &Policy) -> bool
-        ensures { IsTrue result ↔ (self.now ≡ policy.now) }
-    {
-        self.policy.same(policy)
     }
 }
 

@@ -24,9 +24,9 @@ module _ {X : Type 0} (class : Key → Bool) (all each : Key × Object → List 
 
 -- ---- policies
 
-policy_if : (e : Key × Object) (b : Bool) → is_policy e.0 ≡ b → policy_in e ≡ (if b then policy_read e else [])
+pub policy_if : (e : Key × Object) (b : Bool) → is_policy e.0 ≡ b → policy_in e ≡ (if b then policy_read e else [])
 unfolding policy_under
-policy_if e b is = ap (λ b. if b then policy_by e.1.key.name e.1.content else []) is
+policy_if e b is = ap (λ b. if b then policy_by e.0.name e.1.content else []) is
 
 pub no_policy : (e : Key × Object) → is_policy e.0 ≡ false → policy_in e ≡ []
 no_policy e none = policy_if e false none
@@ -38,7 +38,7 @@ policies_alone = made_of is_policy policy_in policy_read no_policy (λ e is. pol
 
 binding_if : (e : Key × Object) (b : Bool) → is_binding e.0 ≡ b → binding_in e ≡ (if b then binding_read e else [])
 unfolding binding_under
-binding_if e b is = ap (λ b. if b then binding_by e.1.key.name e.1.content else []) is
+binding_if e b is = ap (λ b. if b then binding_by e.0.name e.1.content else []) is
 
 pub no_binding : (e : Key × Object) → is_binding e.0 ≡ false → binding_in e ≡ []
 no_binding e none = binding_if e false none
@@ -50,7 +50,7 @@ bindings_alone = made_of is_binding binding_in binding_read no_binding (λ e is.
 
 definition_if : (e : Key × Object) (b : Bool) → is_definition e.0 ≡ b → definition_in e ≡ (if b then object_named e else [])
 unfolding definition_under
-definition_if e b is = ap (λ b. if b then record { key = e.1.key.name; value = e.1 } ∷ [] else []) is
+definition_if e b is = ap (λ b. if b then record { key = e.0.name; value = e.1 } ∷ [] else []) is
 
 pub no_definition : (e : Key × Object) → is_definition e.0 ≡ false → definition_in e ≡ []
 no_definition e none = definition_if e false none

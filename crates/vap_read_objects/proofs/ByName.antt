@@ -4,6 +4,7 @@ use Rattle.std.proofs.Common.{Ordering, refl, sym, ap, ◌∙◌, subst, true≢
 use Rattle.std.specs.Prelude.{IfOk}
 use Rattle.std.specs.Cmp.Lexicographic.{slice_cmp}
 use Rattle.std.specs.Cmp.{IsStrictWeakOrder}
+use Rattle.std.specs.List.{AllByRecursion}
 use Rattle.std.specs.List.Sorted.{IsSortedByKey}
 use Rattle.std.specs.Ordering.{nat_cmp, is_eq, is_lt}
 use Rattle.std.specs.declared.cmp.Ordering.TheVariants.{Less, Equal, Greater}
@@ -162,6 +163,54 @@ pub each_by_name : {V E : Type 0} (r : Result (List (Keyed V)) E) (es : List (Ke
     → IfOk r (AreByName es)
 each_by_name (Ok list) es is = subst (λ l. AreByName es l) (sym is) (by_name_is es)
 each_by_name (Err e) es is = tt
+
+-- ---- some of the entries
+
+-- none of these is below an entry
+abbrev NoneBelow : {V : Type 0} → List (Keyed V) → Keyed V → Type 0
+NoneBelow es e = AllByRecursion (λ d. below d e ≡ false) es
+
+none_below : {V : Type 0} (e f : Keyed V) (fs : List (Keyed V)) → Sorted (f ∷ fs) → below f e ≡ false → NoneBelow (f ∷ fs) e
+none_below e f [] whole h = (h, tt)
+none_below e f (g ∷ gs) whole h =
+    (h, none_below e g gs (sorted_rest f (g ∷ gs) whole) (weak.chain g f e (first_of_rest f (g ∷ gs) whole g (omega arith)) h))
+
+module _ {V : Type 0} (q : Keyed V → Bool) where
+  put_first : (e : Keyed V) (fs : List (Keyed V)) → NoneBelow fs e → before_greater e (filter q fs) ≡ e ∷ filter q fs
+  put_first e [] none = refl
+  put_first e (f ∷ fs) none = at (q f) (put_first e fs none.1)
+    where
+      at : (b : Bool) → before_greater e (filter q fs) ≡ e ∷ filter q fs
+          → before_greater e (cond b (f ∷ filter q fs) (filter q fs)) ≡ e ∷ cond b (f ∷ filter q fs) (filter q fs)
+      at true rest = rw none.0 refl
+      at false rest = rest
+
+  filter_put : (e : Keyed V) (fs : List (Keyed V)) → Sorted fs
+      → filter q (before_greater e fs) ≡ cond (q e) (before_greater e (filter q fs)) (filter q fs)
+  filter_put e [] whole = refl
+  filter_put e (f ∷ fs) whole =
+      at (below f e) refl (q f) refl (q e) refl (filter_put e fs (sorted_rest f fs whole))
+    where
+      at : (b : Bool) → below f e ≡ b → (p : Bool) → q f ≡ p → (r : Bool) → q e ≡ r
+          → filter q (before_greater e fs) ≡ cond (q e) (before_greater e (filter q fs)) (filter q fs)
+          → filter q (cond b (f ∷ before_greater e fs) (e ∷ f ∷ fs))
+          ≡ cond (q e) (before_greater e (filter q (f ∷ fs))) (filter q (f ∷ fs))
+      at true h true p true r rest = rw p (rw r (rw h (ap (λ xs. f ∷ xs) (rest ∙ rw r refl))))
+      at true h true p false r rest = rw p (rw r (ap (λ xs. f ∷ xs) (rest ∙ rw r refl)))
+      at true h false p true r rest = rw p (rw r (rest ∙ rw r refl))
+      at true h false p false r rest = rw p (rw r (rest ∙ rw r refl))
+      at false h p k true r rest = rw r (sym (put_first e (f ∷ fs) (none_below e f fs whole h)))
+      at false h p k false r rest = rw r refl
+
+  -- some of the entries of a list by name are the list by name of some of its entries
+  pub filter_by_name : (es : List (Keyed V)) → filter q (by_name es) ≡ by_name (filter q es)
+  filter_by_name [] = refl
+  filter_by_name (e ∷ es) = filter_put e (by_name es) (by_name_sorted es) ∙ at (q e) (filter_by_name es)
+    where
+      at : (b : Bool) → filter q (by_name es) ≡ by_name (filter q es)
+          → cond b (before_greater e (filter q (by_name es))) (filter q (by_name es)) ≡ by_name (cond b (e ∷ filter q es) (filter q es))
+      at true rest = ap (before_greater e) rest
+      at false rest = rest
 
 -- ---- after all
 

@@ -10,6 +10,7 @@ pub mod Gathering
 pub mod Listing
 pub mod Logs
 pub mod Staying
+pub mod OtherPolicies
 pub mod Taken
 pub mod WorkedRows
 pub mod Order

@@ -23,8 +23,8 @@ policy_little : (k : Key) (o : Object) → length (policy_under k o) ≤ policy_
 unfolding policy_under
 policy_little k o = at (is_policy k)
   where
-    at : (b : Bool) → length (if b then policy_by o.key.name o.content else []) ≤ policy_count o.content
-    at true = omega (arith, one_policy o.key.name o.content)
+    at : (b : Bool) → length (if b then policy_by k.name o.content else []) ≤ policy_count o.content
+    at true = omega (arith, one_policy k.name o.content)
     at false = omega arith
 
 no_more_policies : (os : List (Key × Object)) → length (policies_among os) ≤ total (weight Policies) os
@@ -45,8 +45,8 @@ binding_little : (k : Key) (o : Object) → length (binding_under k o) ≤ bindi
 unfolding binding_under
 binding_little k o = at (is_binding k)
   where
-    at : (b : Bool) → length (if b then binding_by o.key.name o.content else []) ≤ binding_count o.content
-    at true = omega (arith, one_binding o.key.name o.content)
+    at : (b : Bool) → length (if b then binding_by k.name o.content else []) ≤ binding_count o.content
+    at true = omega (arith, one_binding k.name o.content)
     at false = omega arith
 
 no_more_bindings : (os : List (Key × Object)) → length (bindings_among os) ≤ total (weight Bindings) os

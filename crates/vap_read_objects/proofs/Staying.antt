@@ -27,7 +27,7 @@ module _ {X : Type 0} (class : Key → Bool) (f : Key × Object → List X)
   alone : (os : List (Key × Object)) → flat_map f os ≡ flat_map f (of_class class os)
   alone = made_of class f f none (λ e is. refl)
 
-  list_stays : (es : List Event) (c : Cluster) → all_miss class es ≡ true
+  pub list_stays : (es : List Event) (c : Cluster) → all_miss class es ≡ true
       → flat_map f (after_all es c).objects ≡ flat_map f c.objects
   list_stays es c h =
       alone (after_all es c).objects ∙ ap (flat_map f) (class_stays class es c h) ∙ sym (alone c.objects)

@@ -1,7 +1,9 @@
 -- Objects by the classes of their keys, and events that touch none of these.
-use Rattle.std.specs.Prelude.{Bool, true, false, not, ◌||◌, codes, List, filter}
+use Rattle.std.specs.Prelude.{ℕ, Bool, true, false, not, ◌&&◌, ◌||◌, codes, List, filter}
 use Rattle.std.specs.BTreeMap.{is_at}
-use Rattle.std.specs.List.{list_all}
+use Rattle.std.specs.List.{list_all, list_any}
+use Rattle.std.specs.Str.{bytes_eq}
+use Rattle.base_containers.specs.declared.text.Keyed.{Keyed}
 use Rattle.vap_read_objects.specs.Definitions.{is_definition}
 use Rattle.vap_read.specs.Keys.{is_of, key_cmp}
 use Rattle.vap_read.specs.declared.event.Event.{Event}
@@ -26,6 +28,18 @@ is_rule k = is_policy k || is_binding k || is_definition k
 -- whether a key is that of a Namespace
 abbrev pub is_namespace : Key → Bool
 is_namespace k = is_of (codes "v1") (codes "Namespace") k
+
+-- whether a name is one of these
+abbrev pub is_one_of : List (List ℕ) → List ℕ → Bool
+is_one_of names name = list_any (λ n. bytes_eq n name) names
+
+-- whether a key is that of a policy whose name is none of these
+abbrev pub is_other_policy : List (List ℕ) → Key → Bool
+is_other_policy names k = is_policy k && not (is_one_of names k.name)
+
+-- whether an entry's name is none of these
+abbrev pub has_other_name : {V : Type 0} → List (List ℕ) → Keyed V → Bool
+has_other_name names e = not (is_one_of names e.key)
 
 -- whether a key is this one
 abbrev pub is_key : Key → Key → Bool

@@ -1,5 +1,5 @@
--- Policies, bindings and definitions by their names; of those of one name the one of the lesser namespace comes first. An object is
--- read as a policy or a binding exactly if its key is that of one.
+-- Policies, bindings and definitions by the names in their keys; of those of one name the one of the lesser namespace comes first. An
+-- object is read as a policy or a binding exactly if its key is that of one.
 use Rattle.std.specs.Prelude.{ℕ, if◌then◌else◌, List, [], ◌∷◌}
 use Rattle.std.specs.List.{flat_map}
 use Rattle.std.specs.Str.{bytes_eq}
@@ -26,11 +26,11 @@ policy_by name content.Other = []
 
 -- the policy as which an object was read
 abbrev pub policy_read : Key × Object → List (Keyed Policy)
-policy_read e = policy_by e.1.key.name e.1.content
+policy_read e = policy_by e.0.name e.1.content
 
 -- what is under a key, if that is a policy's
 unfoldable pub policy_under : Key → Object → List (Keyed Policy)
-policy_under k o = if is_policy k then policy_by o.key.name o.content else []
+policy_under k o = if is_policy k then policy_by k.name o.content else []
 
 abbrev pub policy_in : Key × Object → List (Keyed Policy)
 policy_in e = policy_under e.0 e.1
@@ -53,11 +53,11 @@ binding_by name content.Other = []
 
 -- the binding as which an object was read
 abbrev pub binding_read : Key × Object → List (Keyed Binding)
-binding_read e = binding_by e.1.key.name e.1.content
+binding_read e = binding_by e.0.name e.1.content
 
 -- what is under a key, if that is a binding's
 unfoldable pub binding_under : Key → Object → List (Keyed Binding)
-binding_under k o = if is_binding k then binding_by o.key.name o.content else []
+binding_under k o = if is_binding k then binding_by k.name o.content else []
 
 abbrev pub binding_in : Key × Object → List (Keyed Binding)
 binding_in e = binding_under e.0 e.1
@@ -82,11 +82,11 @@ bindings_of policy bs = flat_map (if_bound policy) bs
 
 -- an object by its name
 abbrev pub object_named : Key × Object → List (Keyed Object)
-object_named e = record { key = e.1.key.name; value = e.1 } ∷ []
+object_named e = record { key = e.0.name; value = e.1 } ∷ []
 
 -- what is under a key by its name, if that is a definition's
 unfoldable pub definition_under : Key → Object → List (Keyed Object)
-definition_under k o = if is_definition k then record { key = o.key.name; value = o } ∷ [] else []
+definition_under k o = if is_definition k then record { key = k.name; value = o } ∷ [] else []
 
 abbrev pub definition_in : Key × Object → List (Keyed Object)
 definition_in e = definition_under e.0 e.1

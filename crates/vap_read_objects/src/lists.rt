@@ -8,16 +8,20 @@ ghost use Rattle.vap_read_objects.specs.Listed.{if_bound, bindings_of, definitio
 use crate::by_name::put_named;
 use base_containers::{Items, Keyed, Shared};
 use std::alloc::{AllocError, Global};
-use vap_read::{Binding, Content, Object, ObjectMap, Policy};
+use vap_read::{Binding, Content, Key, Object, ObjectMap, Policy};
 
 /// The version of policies and of bindings.
 const POLICY_VERSION: &str = "admissionregistration.k8s.io/v1";
 
-fn add_policy(object: &Object, policies: &mut Vec<Keyed<Policy>>) -> Result<(), AllocError>
-    ensures { OnOk result (Adds (policy_by object.now.key.name object.now.content) policies.old.items policies.new.items) }
+fn add_policy(
+    key: &Key,
+    object: &Object,
+    policies: &mut Vec<Keyed<Policy>>,
+) -> Result<(), AllocError>
+    ensures { OnOk result (Adds (policy_by key.now.name object.now.content) policies.old.items policies.new.items) }
 {
     match &object.content {
-        Content::Policy(policy) => put_named(policies, object.key.name.copy()?, policy.copy()?),
+        Content::Policy(policy) => put_named(policies, key.name.copy()?, policy.copy()?),
         Content::Binding(_) => Ok(()),
         Content::Other => Ok(()),
     }
@@ -28,18 +32,22 @@ pub fn policies_in(alloc: Global, objects: &ObjectMap) -> Result<Items<Keyed<Pol
     ensures { IfOk result (λ policies. policies ≡ policies_in objects.now) }
 {
     let mut policies = Vec::new(alloc);
-    for (_, object) in objects.of_kind(alloc, POLICY_VERSION, "ValidatingAdmissionPolicy")? {
-        add_policy(object.get(), &mut policies)?;
+    for (key, object) in objects.of_kind(alloc, POLICY_VERSION, "ValidatingAdmissionPolicy")? {
+        add_policy(key, object.get(), &mut policies)?;
     }
     Ok(Items::from_vec(policies))
 }
 
-fn add_binding(object: &Object, bindings: &mut Vec<Keyed<Binding>>) -> Result<(), AllocError>
-    ensures { OnOk result (Adds (binding_by object.now.key.name object.now.content) bindings.old.items bindings.new.items) }
+fn add_binding(
+    key: &Key,
+    object: &Object,
+    bindings: &mut Vec<Keyed<Binding>>,
+) -> Result<(), AllocError>
+    ensures { OnOk result (Adds (binding_by key.now.name object.now.content) bindings.old.items bindings.new.items) }
 {
     match &object.content {
         Content::Policy(_) => Ok(()),
-        Content::Binding(binding) => put_named(bindings, object.key.name.copy()?, binding.copy()?),
+        Content::Binding(binding) => put_named(bindings, key.name.copy()?, binding.copy()?),
         Content::Other => Ok(()),
     }
 }
@@ -49,8 +57,12 @@ pub fn bindings_in(alloc: Global, objects: &ObjectMap) -> Result<Items<Keyed<Bin
     ensures { IfOk result (λ bindings. bindings ≡ bindings_in objects.now) }
 {
     let mut bindings = Vec::new(alloc);
-    for (_, object) in objects.of_kind(alloc, POLICY_VERSION, "ValidatingAdmissionPolicyBinding")? {
-        add_binding(object.get(), &mut bindings)?;
+    for (key, object) in objects.of_kind(
+        alloc,
+        POLICY_VERSION,
+        "ValidatingAdmissionPolicyBinding",
+    )? {
+        add_binding(key, object.get(), &mut bindings)?;
     }
     Ok(Items::from_vec(bindings))
 }
@@ -95,16 +107,12 @@ pub fn definitions_in(
     ensures { IfOk result (λ definitions. definitions ≡ definitions_in objects.now) }
 {
     let mut definitions = Vec::new(alloc);
-    for (_, object) in objects.of_kind(
+    for (key, object) in objects.of_kind(
         alloc,
         "apiextensions.k8s.io/v1",
         "CustomResourceDefinition",
     )? {
-        put_named(
-            &mut definitions,
-            object.get().key.name.copy()?,
-            object.share()?,
-        )?;
+        put_named(&mut definitions, key.name.copy()?, object.share()?)?;
     }
     Ok(Items::from_vec(definitions))
 }

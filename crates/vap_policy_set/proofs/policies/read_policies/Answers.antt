@@ -1,38 +1,43 @@
-use Rattle.std.proofs.Common.{List, map, ap, ap₂, subst, ◌∙◌}
-use Rattle.std.specs.Prelude.{IfSome}
+use Rattle.std.proofs.Common.{List, drop, map, ap, ap₂, sym, ◌+◌, ◌∙◌}
 use Rattle.std.specs.Option.{option_copied}
 use Rattle.std.proofs.lemmas.List.{map_push}
-use Rattle.base_containers.specs.declared.text.Keyed.{Keyed}
-use Rattle.vap_read.specs.declared.binding.Binding.{Binding}
-use Rattle.vap_read_objects.specs.declared.kind.Kind.{Kind}
-use Rattle.vap_policy_set.specs.Still.{AreBound, IsOldOf}
-use Rattle.vap_policy_set.specs.declared.choice.Choice.{Choice}
+use Rattle.vap_policy_set.proofs.Changed.{keep_next, says_same}
 use Rattle.vap_policy_set.proofs.Olds.{old_next, old_some, whole_next}
 use Rattle.vap_policy_set.proofs.policies.read_policies.Goals as goal
+
+pub own_texts-requires : goal.own_texts-requires
+own_texts-requires c =
+    let ps = c.args.policies.now in
+    let i = c.loop-policy.policy-index in
+    let item = c.policy-item.result in
+    let keep =
+    keep_next c.args.kept.now.changed.now ps c.loop-policy.rest.now i item c.loop-policy-test.true c.policy-item.is
+    c.loop-policy.invariant.others in
+    says_same c.loop-policy.rest.now item (option_copied c.next_old-next.result.bound)
+    (c.next_old-next.ensures.old item (drop (i + 1) ps) (sym c.as_str.ensures) keep)
 
 pub loop-policy-preserved : goal.loop-policy-preserved
 loop-policy-preserved c =
     let all = c.args.kept.now.policies.now in
-    let rest = c.not_below-rest.result.now in
+    let ps = c.args.policies.now in
+    let i = c.loop-policy.policy-index in
     let item = c.policy-item.result in
-    let bound = option_copied c.old-bound.result in
+    let next = c.next_old-next in
+    let bound = option_copied next.result.bound in
     let at = c.loop-policy.invariant in
-    let part = λ (choice : Choice) (kinds : List Kind) (bindings : List (Keyed Binding)) (are : AreBound choice kinds bindings all).
-    c.not_below-rest.ensures choice kinds bindings (at.part choice kinds bindings are) in
+    let keep = keep_next c.args.kept.now.changed.now ps c.loop-policy.rest.now i item c.loop-policy-test.true c.policy-item.is at.others in
+    let old = next.ensures.old item (drop (i + 1) ps) (sym c.as_str.ensures) keep in
     record {
       whole =
-          whole_next c.args.policies.now c.loop-policy.all.items c.push-in-loop-policy.new.self.items c.loop-policy.policy-index item
+          whole_next ps c.loop-policy.all.items c.push-in-loop-policy.new.self.items i item
           (record { key = c.in_ok-copy.field-0; value = c.in_ok-own_texts.field-0 }) c.in_ok-push.ensures.items
           (ap₂ (λ k v. record { key = k; value = v }) c.in_ok-copy.ensures c.in_ok-own_texts.ensures) c.loop-policy-test.true
           c.policy-item.is at.whole;
-      part = part;
+      part = λ choice kinds bindings are. next.ensures.part choice kinds bindings (at.part choice kinds bindings are);
+      others = next.ensures.kept item (drop (i + 1) ps) (sym c.as_str.ensures) keep;
       old =
-          old_next all c.args.policies.now c.loop-policy.policy-index item (map option_copied c.loop-policy.old.items)
-          (map option_copied c.push-in-loop-policy-2.new.self.items) bound c.loop-policy-test.true c.policy-item.is
-          (ap (map option_copied) c.in_ok-push-2.ensures.items ∙ map_push option_copied c.loop-policy.old.items c.old-bound.result) at.old
-          (
-          old_some rest all item bound part
-          (subst (λ n. IfSome bound (IsOldOf rest (record { key = n; value = item.value }))) c.as_str-in-loop-policy.ensures
-          c.old-bound.ensures)
-          );
+          old_next all ps i item (map option_copied c.loop-policy.old.items) (map option_copied c.push-in-loop-policy-2.new.self.items)
+          bound c.loop-policy-test.true c.policy-item.is
+          (ap (map option_copied) c.in_ok-push-2.ensures.items ∙ map_push option_copied c.loop-policy.old.items next.result.bound) at.old
+          (old_some c.loop-policy.rest.now all item bound at.part old);
     }

@@ -4,9 +4,9 @@ use Rattle.vap_read_objects.specs.Listed.{binding_read}
 use Rattle.vap_read_objects.proofs.Gathering.{IsGathered}
 use Rattle.vap_read_objects.proofs.lists.bindings_in.Given as goal
 
-abbrev pub invariant-loop-object : goal.invariant-loop-object
-invariant-loop-object l = record {
-  can_next : goal.iterator-loop-object.can_next l.object-iterator;
-  is_finite : goal.iterator-loop-object.is_finite l.object-iterator;
-  gathered : IsGathered (flat_map binding_read (of_class is_binding l.objects)) (flat_map binding_read l.object-iterator) l.bindings.items;
+abbrev pub invariant-loop-key : goal.invariant-loop-key
+invariant-loop-key l = record {
+  can_next : goal.iterator-loop-key.can_next l.key-iterator;
+  is_finite : goal.iterator-loop-key.is_finite l.key-iterator;
+  gathered : IsGathered (flat_map binding_read (of_class is_binding l.objects)) (flat_map binding_read l.key-iterator) l.bindings.items;
 }

@@ -1,12 +1,12 @@
-use Rattle.std.proofs.Common.{◌≡◌, ◌+◌, [], List, ap, map, take, sym, subst, ◌∙◌}
+use Rattle.std.proofs.Common.{rules, ◌≡◌, ◌+◌, [], List, ap, map, take, sym, subst, ◌∙◌}
 use Rattle.std.specs.List.{All}
 use Rattle.std.proofs.lemmas.List.{length-map}
 use Rattle.std.proofs.Common.{length}
 use Rattle.vap_policy_set.specs.Index.{IsEntryOf, entry_places, with_policy}
 use Rattle.vap_policy_set.specs.declared.bound.BoundPolicy.{BoundPolicy}
 use Rattle.vap_policy_set.specs.declared.index.Entry.{Entry}
-use Rattle.vap_policy_set.proofs.Entries.{cut_before, empty_places, empty_right, for_places, next_right, places_kept, written}
-use Rattle.vap_policy_set.proofs.index.entries_of.Goals as goal
+use Rattle.vap_policy_set.proofs.Entries.{cut_before, empty_places, empty_right, for_places, next_right, places_kept, wide_next, written}
+use Rattle.vap_policy_set.proofs.index.found_at.Goals as goal
 
 -- no policy so far
 pub loop-policy-init : goal.loop-policy-init
@@ -15,6 +15,7 @@ loop-policy-init c =
     record {
       right = subst (All (IsEntryOf [])) (sym made) (empty_right c.args.places.now);
       places = ap (λ (es : List Entry). entry_places es) made ∙ empty_places c.args.places.now;
+      wide = search rules;
     }
 
 -- one policy more
@@ -25,7 +26,7 @@ loop-policy-preserved c =
     let ps = c.args.policies.now in
     let es = l.entries.items in
     let new : c.put_policy.new.entries ≡ map (with_policy p) es =
-    c.in_ok-put_policy.ensures ∙ ap (λ (xs : List Entry). map (with_policy p) xs) c.as_mut_slice.ensures.value in
+    c.in_ok-put_policy.ensures.entries ∙ ap (λ (xs : List Entry). map (with_policy p) xs) c.as_mut_slice.ensures.value in
     let whole =
     written l.entries.len c.put_policy.new.entries es (ap (λ (xs : List Entry). length xs) new ∙ length-map es (with_policy p))
     l.entries.ok.0
@@ -38,6 +39,9 @@ loop-policy-preserved c =
           (next_right (take l.policy-index ps) p es l.invariant.right)
           );
       places = ap (λ (xs : List Entry). entry_places xs) whole ∙ places_kept p es ∙ l.invariant.places;
+      wide =
+          wide_next ps l.policy-index p l.wide.items c.put_policy.new.wide.items c.loop-policy-test.true c.policy-item.is
+          c.in_ok-put_policy.ensures.wide l.invariant.wide;
     }
 
 pub returns-clause-named : goal.returns-clause-named
