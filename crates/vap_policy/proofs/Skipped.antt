@@ -11,7 +11,7 @@ use Rattle.vap_match.specs.declared.rules.Rules.{Rules}
 use Rattle.vap_match.specs.Select.{Labels}
 use Rattle.vap_read.specs.declared.object.Object.{Object}
 use Rattle.vap_read_objects.specs.OfKind.{labels_in}
-use Rattle.vap_policy_set.specs.Covering.{may_cover}
+use Rattle.vap_policy_set.specs.PolicyCovering.{may_cover}
 use Rattle.vap_policy_set.specs.Index.{AreEnough}
 use Rattle.vap_policy_set.specs.Sets.{Holdings, namespace_in}
 use Rattle.vap_policy_set.specs.declared.bound.BoundPolicy.{BoundPolicy}

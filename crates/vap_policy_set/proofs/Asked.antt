@@ -1,7 +1,7 @@
 -- Texts that are asked for, one after the other, and the choice that is for them.
 use Rattle.std.proofs.Common.{◌≡◌, ℕ, zero, suc, ◌+◌, ◌<◌, ◌≤◌, Bool, true, false, cond, ◌||◌, List, [], ◌∷◌, ◌++◌}
 use Rattle.std.proofs.Common.{length, drop, get_or, Option, Some, None, IsSome, Contains, refl, sym, ap, subst, ◌∙◌}
-use Rattle.std.proofs.Common.{arith, drop-cons, add-one}
+use Rattle.std.proofs.Common.{arith}
 use Rattle.std.specs.Prelude.{is_some}
 use Rattle.std.specs.List.{AllByRecursion, flat_map}
 use Rattle.std.specs.Str.{bytes_eq}
@@ -18,6 +18,7 @@ use Rattle.cel_operators.proofs.Only.{asks_both, asks_none}
 use Rattle.cel_operators.specs.PatternAnswers.{Asked, answer_in, choice_in, AsksOnly, Grows, IsHonest}
 use Rattle.cel_operators.specs.PatternChoice.{refuses, says_no}
 use Rattle.cel_operators.specs.PatternMeaning.{tree_of}
+use Rattle.vap_policy_programs.proofs.Each.{next_is}
 use Rattle.vap_policy_set.specs.Parts.{refused_among}
 use Rattle.vap_policy_set.specs.Patterns.{AreAsked, IsChoiceFor, of_policies, of_policy}
 
@@ -51,8 +52,7 @@ leaves_less f xs i x all old now next lt is asked so_far = record {
   where
     split : flat_map f (drop i xs) ≡ f x ++ flat_map f (drop (i + 1) xs)
     split =
-        ap (flat_map f)
-        (drop-cons xs i x lt ∙ ap (λ y. y ∷ drop (suc i) xs) (sym is) ∙ ap (λ k. x ∷ drop k xs) (sym (add-one i)))
+        ap (flat_map f) (next_is xs i x lt is)
 
 none_left : {X : Type 0} (xs : List X) (i : ℕ) → length xs ≤ i → drop i xs ≡ []
 none_left [] zero h = refl
@@ -69,17 +69,13 @@ leaves_none f xs i all old now ends so_far =
 pub is_answered : (answer : Option Bool) (built : Bool) → answer ≡ Some built → IsSome answer
 is_answered answer built is = ap (λ o. is_some o) is
 
-next_text : (texts : List (List ℕ)) (i : ℕ) (t : List ℕ) → i < length texts → t ≡ get_or texts i t → drop i texts ≡ t ∷ drop (i + 1) texts
-next_text texts i t lt is =
-    drop-cons texts i t lt ∙ ap (λ y. y ∷ drop (suc i) texts) (sym is) ∙ ap (λ k. t ∷ drop k texts) (sym (add-one i))
-
 pub leaves_text : (texts : List (List ℕ)) (i : ℕ) (t given : List ℕ) (all : List (List ℕ)) (old now next : Asked) → i < length texts
     → t ≡ get_or texts i t → given ≡ t → IsSome (answer_in next given) → AsksOnly now next (given ∷ []) → Grows now next
     → Leaves all (drop i texts) old now → Leaves all (drop (i + 1) texts) old next
 leaves_text texts i t given all old now next lt is same answered only grows so_far = record {
   then = λ later h.
       so_far.then later
-      (subst (λ xs. AreAsked xs now later) (sym (next_text texts i t lt is))
+      (subst (λ xs. AreAsked xs now later) (sym (next_is texts i t lt is))
       (both_asked (t ∷ []) (drop (i + 1) texts) now next later one h));
 }
   where
@@ -99,14 +95,13 @@ answered_end asked texts i ends = subst (AreAnswered asked) (sym (none_left text
 pub answered_more : (asked : Asked) (texts : List (List ℕ)) (i : ℕ) (t given : List ℕ) → i < length texts → t ≡ get_or texts i t
     → given ≡ t → IsSome (answer_in asked given) → AreAnswered asked (drop (i + 1) texts) → AreAnswered asked (drop i texts)
 answered_more asked texts i t given lt is same answered rest =
-    subst (AreAnswered asked) (sym (next_text texts i t lt is))
+    subst (AreAnswered asked) (sym (next_is texts i t lt is))
     (subst (λ x. IsSome (answer_in asked x)) same answered, rest)
 
 next_texts : (ps : List (Keyed Policy)) (i : ℕ) (p : Keyed Policy) → i < length ps → p ≡ get_or ps i p
     → of_policies (drop i ps) ≡ of_policy p.value.spec ++ of_policies (drop (i + 1) ps)
 next_texts ps i p lt is =
-    ap of_policies
-    (drop-cons ps i p lt ∙ ap (λ y. y ∷ drop (suc i) ps) (sym is) ∙ ap (λ k. p ∷ drop k ps) (sym (add-one i)))
+    ap of_policies (next_is ps i p lt is)
 
 pub policies_end : (asked : Asked) (ps : List (Keyed Policy)) (i : ℕ) → length ps ≤ i → AreAnswered asked (of_policies (drop i ps))
 policies_end asked ps i ends = subst (λ xs. AreAnswered asked (of_policies xs)) (sym (none_left ps i ends)) tt

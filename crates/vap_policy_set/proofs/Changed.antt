@@ -1,6 +1,6 @@
 -- Which policies events change, and what stays of a set's policies.
-use Rattle.std.proofs.Common.{◌≡◌, ◌<◌, ◌≤◌, ◌+◌, ◌&&◌, ◌||◌, ℕ, suc, Bool, true, false, not, cond, List, [], ◌∷◌, ◌++◌}
-use Rattle.std.proofs.Common.{Option, Some, None, Result, Ok, Err, refl, sym, ap, ◌∙◌, subst, true≢false, add-one, drop-cons}
+use Rattle.std.proofs.Common.{◌≡◌, ◌<◌, ◌≤◌, ◌+◌, ◌&&◌, ◌||◌, ℕ, Bool, true, false, not, cond, List, [], ◌∷◌, ◌++◌}
+use Rattle.std.proofs.Common.{Option, Some, None, Result, Ok, Err, refl, sym, ap, ◌∙◌, subst, true≢false}
 use Rattle.std.proofs.Common.{filter, get_or, length, map, drop, take}
 use Rattle.std.specs.Prelude.{IfOk, IfSome, OnOk, if◌then◌else◌}
 use Rattle.std.specs.List.{list_any}
@@ -20,6 +20,7 @@ use Rattle.vap_read_objects.specs.Listed.{bindings_in, kinds_in, policies_in}
 use Rattle.vap_read_objects.specs.declared.kind.Kind.{Kind}
 use Rattle.vap_read_objects.proofs.Classed.{miss_less}
 use Rattle.vap_read_objects.proofs.OtherPolicies.{other_policies_stay}
+use Rattle.vap_policy_programs.proofs.Each.{next_is}
 use Rattle.vap_policy_set.specs.Changed.{HasTaken, IsNext, KeepOthers, MissOthers, has_changed, policy_name}
 use Rattle.vap_policy_set.specs.Reuse.{IsBefore}
 use Rattle.vap_policy_set.specs.Sets.{Holdings, bound_of}
@@ -159,7 +160,7 @@ passed changed bs i b lt is has before none =
     let named : is_one_of changed.names.items b.name ≡ true =
     one_of_both (is_one_of changed.names.items b.name) changed.all has none in
     let cut : drop i bs ≡ b ∷ drop (i + 1) bs =
-    drop-cons bs i b lt ∙ ap (λ x. x ∷ drop (suc i) bs) (sym is) ∙ ap (λ n. b ∷ drop n bs) (sym (add-one i)) in
+    next_is bs i b lt is in
     let out : others (b ∷ drop (i + 1) bs) ≡ others (drop (i + 1) bs) =
     ap (λ t. cond (not t) (named_of b ∷ others (drop (i + 1) bs)) (others (drop (i + 1) bs))) named in
     sym out ∙ sym (ap others cut) ∙ before none
@@ -201,7 +202,7 @@ next_found changed name rest behind i b stays own lt is before cut = record {
     others cs = filter (has_other_name changed.names.items) (map named_of cs)
 
     whole : drop i rest ≡ b ∷ drop (i + 1) rest
-    whole = drop-cons rest i b lt ∙ ap (λ x. x ∷ drop (suc i) rest) (sym is) ∙ ap (λ n. b ∷ drop n rest) (sym (add-one i))
+    whole = next_is rest i b lt is
 
     none : changed.all ≡ false
     none = all_of (is_one_of changed.names.items name) changed.all stays
@@ -228,12 +229,12 @@ pub keep_next : (changed : ChangedPolicies) (ps : List (Keyed Policy)) (rest : L
     → p ≡ get_or ps i p → KeepOthers changed (drop i ps) rest → KeepOthers changed (p ∷ drop (i + 1) ps) rest
 keep_next changed ps rest i p lt is keep none =
     let cut : drop i ps ≡ p ∷ drop (i + 1) ps =
-    drop-cons ps i p lt ∙ ap (λ x. x ∷ drop (suc i) ps) (sym is) ∙ ap (λ n. p ∷ drop n ps) (sym (add-one i)) in
+    next_is ps i p lt is in
     ap (filter (has_other_name changed.names.items)) (sym cut) ∙ keep none
 
 -- what is kept of a policy says the same
 pub says_same : (rest : List BoundPolicy) (p : Keyed Policy) (o : Option BoundPolicy) → IfSome o (IsOldOf rest p)
-    → IfSome o (λ b. b.own ≡ p.value)
+    → IfSome o (λ b. b.read ≡ p.value)
 says_same rest p None old = tt
 says_same rest p (Some b) old = old.says
 

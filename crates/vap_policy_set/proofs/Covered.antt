@@ -11,8 +11,9 @@ use Rattle.vap_match.specs.Namespaces.{is_cluster}
 use Rattle.vap_match.specs.declared.rules.Rule.{Rule}
 use Rattle.vap_match.specs.declared.rules.Rules.{Rules}
 use Rattle.vap_match.specs.declared.request.Admission.{Admission}
-use Rattle.vap_policy_set.specs.Covering.{is_wide, may_cover, rule_is_wide, rule_may_cover, rules_are_wide, rules_in, rules_may_cover}
-use Rattle.vap_policy_set.specs.Places.{group_places, is_place, places_of, rule_places}
+use Rattle.vap_policy_set.specs.Covering.{rule_is_wide, rule_may_cover, rules_are_wide, rules_may_cover}
+use Rattle.vap_policy_set.specs.Places.{group_places, is_place, rule_places}
+use Rattle.vap_policy_set.specs.PolicyCovering.{is_wide, may_cover, places_of, rules_in}
 use Rattle.vap_policy_set.specs.declared.bound.BoundPolicy.{BoundPolicy}
 
 -- ---- what covers may cover

@@ -12,7 +12,7 @@ use Rattle.vap_policy_programs.proofs.Crossing.{pair_send, pair_sync, params_typ
 use Rattle.vap_read.proofs.Crossing.{key_send, key_sync, map_send, map_sync, object_send, object_sync}
 use Rattle.vap_policy_programs.proofs.TypeCrossing.{fixed_send, fixed_sync}
 use Rattle.vap_policy_set.specs.contracts.choice.Choice as choice
-use Rattle.vap_policy_set.specs.contracts.texts.PolicyTexts as policy_texts
+use Rattle.vap_policy_set.specs.contracts.read_policy.ReadPolicy as read_policy
 use Rattle.vap_policy_set.specs.contracts.made.Inputs as inputs
 use Rattle.vap_policy_set.specs.contracts.made.MadePair as made
 use Rattle.vap_policy_set.specs.contracts.bound.KindPair as kind_pair
@@ -49,19 +49,39 @@ kind_pair_send = search (made_send, made_sync, sendable, crosses) depth 60 fits 
 pub kind_pair_sync : IsSync kind_pair.the_field.row
 kind_pair_sync = search (made_send, made_sync, sendable, crosses) depth 60 fits 200000
 
-pub texts_send : IsSend policy_texts.the_field.row
-texts_send = search (policy_send, policy_sync, sendable, crosses) depth 60 fits 200000
+pub read_policy_send : IsSend read_policy.the_field.row
+read_policy_send = search (policy_send, policy_sync, sendable, crosses) depth 60 fits 200000
 
-pub texts_sync : IsSync policy_texts.the_field.row
-texts_sync = search (policy_send, policy_sync, sendable, crosses) depth 60 fits 200000
+pub read_policy_sync : IsSync read_policy.the_field.row
+read_policy_sync = search (policy_send, policy_sync, sendable, crosses) depth 60 fits 200000
 
 pub bound_send : IsSend bound.the_field.row
 bound_send =
-    search (policy_send, texts_send, texts_sync, binding_send, kind_pair_send, made_send, made_sync, sendable, crosses) depth 60 fits 200000
+    search (
+      policy_send,
+      read_policy_send,
+      read_policy_sync,
+      binding_send,
+      kind_pair_send,
+      made_send,
+      made_sync,
+      sendable,
+      crosses,
+    ) depth 60 fits 200000
 
 pub bound_sync : IsSync bound.the_field.row
 bound_sync =
-    search (policy_sync, texts_send, texts_sync, binding_sync, kind_pair_sync, made_send, made_sync, sendable, crosses) depth 60 fits 200000
+    search (
+      policy_sync,
+      read_policy_send,
+      read_policy_sync,
+      binding_sync,
+      kind_pair_sync,
+      made_send,
+      made_sync,
+      sendable,
+      crosses,
+    ) depth 60 fits 200000
 
 pub entry_send : IsSend entry.the_field.row
 entry_send = search (bound_send, bound_sync, sendable, crosses) depth 60 fits 200000

@@ -1,7 +1,7 @@
 -- The entries of an index, and what one policy more makes of them.
 use Rattle.std.proofs.Common.{◌≡◌, ◌<◌, ◌≤◌, ◌+◌, ℕ, zero, suc, Bool, true, false, cond, ◌||◌, List, [], ◌∷◌, ◌++◌, length, map, filter}
 use Rattle.std.proofs.Common.{set, get_or, refl, sym, ap, ◌∙◌, subst, arith, append-nil, inl, inr, Result, Ok, Err, OnOk}
-use Rattle.std.proofs.Common.{take, drop, drop-cons, add-one, append_assoc}
+use Rattle.std.proofs.Common.{take, drop, append_assoc}
 use Rattle.std.specs.Prelude.{Some, None, if◌then◌else◌}
 use Rattle.std.specs.List.{All, AllByRecursion, HoldsAt, flat_map, list_any}
 use Rattle.std.specs.List.Sorted.{IsNonDecreasingBy, IsPartitionPoint, IsStrictlySortedBy}
@@ -16,15 +16,16 @@ use Rattle.std.proofs.lemmas.List.Elements.{All-from_recursion, filter-append, r
 use Rattle.std.proofs.lemmas.List.Folds.{list_any_none}
 use Rattle.std.proofs.lemmas.List.Sorted.{searchable_from_sorted}
 use Rattle.std.proofs.lemmas.Map.Keys.{Less-from_sorted, sorted_head, sorted_tail}
-use Rattle.vap_policy_set.specs.Covering.{is_wide, may_cover, rules_in}
 use Rattle.vap_policy_set.specs.Index.{AreApart, AreForPlaces, IsEntryOf, IsFoundAt, empty_entry, entry_places, is_entry, with_behind}
 use Rattle.vap_policy_set.specs.Index.{if_wide, with_named, with_policy}
 use Rattle.vap_policy_set.specs.PlaceOrder.{place_cmp}
 use Rattle.vap_policy_set.specs.Places.{is_place, rule_places}
+use Rattle.vap_policy_set.specs.PolicyCovering.{is_wide, may_cover, rules_in}
 use Rattle.vap_policy_set.specs.declared.bound.BoundPolicy.{BoundPolicy}
 use Rattle.vap_policy_set.specs.declared.index.Entry.{Entry}
 use Rattle.vap_policy_set.specs.declared.places.Place.{Place}
 use Rattle.vap_policy_set.proofs.Covered.{narrow_named, left_of, right_of}
+use Rattle.vap_policy_programs.proofs.Each.{next_is}
 use Rattle.vap_read_objects.proofs.Names.{itself, same_text}
 use Rattle.vap_policy_set.proofs.PlaceOrder.{exact_places, place, place_total}
 
@@ -244,10 +245,6 @@ pub put_none : (p : BoundPolicy) (es : List Entry) → map (with_named [] p) es 
 put_none p [] = refl
 put_none p (e ∷ es) = ap (λ (x : Entry). x ∷ map (with_named [] p) es) (kept e p) ∙ ap (λ (xs : List Entry). e ∷ xs) (put_none p es)
 
-pub cut_at : (ks : List Place) (i : ℕ) (k : Place) → i < length ks → k ≡ get_or ks i k → drop i ks ≡ k ∷ drop (i + 1) ks
-cut_at ks i k lt is =
-    drop-cons ks i k lt ∙ ap (λ (x : Place). x ∷ drop (suc i) ks) (sym is) ∙ ap (λ (n : ℕ). k ∷ drop n ks) (sym (add-one i))
-
 narrow_one : (ks : List Place) (p : BoundPolicy) (e : Entry) → is_wide p ≡ false
     → ((g s : List ℕ) → list_any (is_place g s) ks ≡ list_any (is_place g s) (flat_map rule_places (rules_in p)))
     → with_named ks p e ≡ with_policy p e
@@ -378,7 +375,7 @@ pub wide_next : (ps : List BoundPolicy) (i : ℕ) (p : BoundPolicy) (done new : 
     → new ++ filter is_wide (drop (i + 1) ps) ≡ filter is_wide ps
 wide_next ps i p done new lt is put whole =
     let cut : drop i ps ≡ p ∷ drop (i + 1) ps =
-    drop-cons ps i p lt ∙ ap (λ x. x ∷ drop (suc i) ps) (sym is) ∙ ap (λ n. p ∷ drop n ps) (sym (add-one i)) in
+    next_is ps i p lt is in
     ap (λ xs. xs ++ filter is_wide (drop (i + 1) ps)) put
     ∙ append_assoc done (if_wide p) (filter is_wide (drop (i + 1) ps))
     ∙ ap (λ xs. done ++ xs) (sym (wide_first p (drop (i + 1) ps)))

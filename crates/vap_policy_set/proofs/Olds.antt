@@ -1,6 +1,6 @@
 -- Policies with what was bound of each before.
 use Rattle.std.proofs.Common.{◌≡◌, ℕ, zero, suc, ◌<◌, ◌+◌, List, [], ◌∷◌, ◌++◌, length, get_or, take, drop, Option, Some, None}
-use Rattle.std.proofs.Common.{add-one, append_assoc, drop-cons, refl, sym, ap, subst, ◌∙◌, arith}
+use Rattle.std.proofs.Common.{append_assoc, refl, sym, ap, subst, ◌∙◌, arith}
 use Rattle.std.specs.Prelude.{IfSome}
 use Rattle.std.proofs.lemmas.List.{take_more}
 use Rattle.base_containers.specs.declared.text.Keyed.{Keyed}
@@ -8,6 +8,7 @@ use Rattle.vap_read.specs.declared.binding.Binding.{Binding}
 use Rattle.vap_read.specs.declared.policy.Policy.{Policy}
 use Rattle.vap_read_objects.specs.declared.kind.Kind.{Kind}
 use Rattle.vap_read_objects.specs.Listed.{bindings_of}
+use Rattle.vap_policy_programs.proofs.Each.{next_is}
 use Rattle.vap_policy_set.specs.Parts.{part_of}
 use Rattle.vap_policy_set.specs.Sets.{bound_of, other_of, pairs_of}
 use Rattle.vap_policy_set.specs.Still.{AreAt, AreBound, AreOldOf, IsOldOf}
@@ -67,7 +68,7 @@ abbrev with_own : Choice → List Kind → Keyed Policy → List (Keyed Binding)
 with_own choice kinds p own = record {
   name = p.key;
   policy = p.value;
-  own = p.value;
+  read = p.value;
   bindings = own;
   pairs = pairs_of (part_of choice p.value.spec) kinds p.value.spec;
   other = other_of (part_of choice p.value.spec) kinds p.value.spec;
@@ -115,7 +116,5 @@ whole_next ps done new i p q put same lt is whole =
     ap (λ xs. xs ++ drop (i + 1) ps) put
     ∙ append_assoc done (q ∷ []) (drop (i + 1) ps)
     ∙ ap (λ x. done ++ x ∷ drop (i + 1) ps) same
-    ∙ ap (λ n. done ++ p ∷ drop n ps) (add-one i)
-    ∙ ap (λ x. done ++ x ∷ drop (suc i) ps) is
-    ∙ ap (λ xs. done ++ xs) (sym (drop-cons ps i p lt))
+    ∙ ap (λ xs. done ++ xs) (sym (next_is ps i p lt is))
     ∙ whole

@@ -1,13 +1,17 @@
 -- Places that are put once.
-use Rattle.std.proofs.Common.{◌≡◌, ◌+◌, ◌<◌, ◌≤◌, ℕ, suc, Bool, true, false, ◌||◌, List, [], ◌∷◌, ◌++◌, length, get_or, drop}
-use Rattle.std.proofs.Common.{drop-cons, add-one, append-nil, append_assoc, refl, sym, ap, subst, ◌∙◌}
+use Rattle.std.proofs.Common.{◌≡◌, ◌+◌, ◌<◌, ◌≤◌, ℕ, Bool, true, false, ◌||◌, List, [], ◌∷◌, ◌++◌, length, get_or, drop}
+use Rattle.std.proofs.Common.{append-nil, append_assoc, refl, sym, ap, subst, ◌∙◌, Result, Ok, Err, IfOk}
 use Rattle.std.specs.List.{flat_map, list_any}
+use Rattle.std.specs.List.Sorted.{IsStrictlySortedBy}
 use Rattle.std.specs.Str.{bytes_eq}
 use Rattle.std.proofs.lemmas.Bool.{and_parts}
 use Rattle.std.proofs.lemmas.List.{drop_all}
 use Rattle.std.proofs.lemmas.List.Folds.{list_any-append}
 use Rattle.std.proofs.lemmas.Slice.Eq.{bytes_eq-Decides}
-use Rattle.vap_policy_set.specs.Places.{NameSame, group_places, is_place, place_of}
+use Rattle.vap_policy_programs.proofs.Each.{next_is}
+use Rattle.vap_policy_set.specs.PlaceOrder.{place_cmp}
+use Rattle.vap_policy_set.specs.Places.{AreNamedBy, NameSame, group_places, is_place, place_of, rule_places}
+use Rattle.vap_match.specs.declared.rules.Rule.{Rule}
 use Rattle.vap_policy_set.specs.declared.places.Place.{Place}
 
 -- ---- a place that is there already
@@ -68,10 +72,7 @@ pub names_next : {X : Type 0} (f : X → List Place) (xs : List X) (i : ℕ) (x 
     → NameSame (new ++ flat_map f (drop (i + 1) xs)) all
 names_next f xs i x old new all lt is put whole =
     names_on old new (f x) (flat_map f (drop (i + 1) xs)) all put
-    (
-    subst (λ ys. NameSame (old ++ flat_map f ys) all)
-    (drop-cons xs i x lt ∙ ap (λ y. y ∷ drop (suc i) xs) (sym is) ∙ ap (λ n. x ∷ drop n xs) (sym (add-one i))) whole
-    )
+    (subst (λ ys. NameSame (old ++ flat_map f ys) all) (next_is xs i x lt is) whole)
 
 -- those of all of them
 pub names_all : {X : Type 0} (f : X → List Place) (xs : List X) (i : ℕ) (old all : List Place) → length xs ≤ i
@@ -86,3 +87,30 @@ one_place group pattern = place_of group pattern ∷ []
 pub each_place : (patterns : List (List ℕ)) (group : List ℕ) → flat_map (one_place group) patterns ≡ group_places patterns group
 each_place [] group = refl
 each_place (p ∷ ps) group = ap (λ ks. place_of group p ∷ ks) (each_place ps group)
+
+-- places, one after the other
+abbrev pub itself : Place → List Place
+itself k = k ∷ []
+
+pub each_itself : (ks : List Place) → flat_map itself ks ≡ ks
+each_itself [] = refl
+each_itself (k ∷ ks) = ap (λ ls. k ∷ ls) (each_itself ks)
+
+-- ---- places in order
+
+-- places that are the same in order are named by these rules
+pub named_by : {E : Type 0} (r : Result (List Place) E) (rules : List Rule) (ks : List Place) → IsStrictlySortedBy place_cmp ks
+    → NameSame ks (flat_map rule_places rules) → IfOk r (λ ls. ls ≡ ks) → IfOk r (AreNamedBy rules)
+named_by (Ok ls) rules ks ordered same is =
+    subst (AreNamedBy rules) (sym is) (record { ordered = ordered; same = same })
+named_by (Err error) rules ks ordered same is = tt
+
+-- ---- places of policies
+
+-- what is named by the rules of a policy may stand for what its rules name
+pub names_policy : (old new ks ls : List Place) → NameSame new (old ++ ks) → NameSame ks ls → NameSame new (old ++ ls)
+names_policy old new ks ls put same g r =
+    put g r
+    ∙ list_any-append (is_place g r) old ks
+    ∙ ap (λ b. list_any (is_place g r) old || b) (same g r)
+    ∙ sym (list_any-append (is_place g r) old ls)

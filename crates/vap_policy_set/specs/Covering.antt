@@ -1,13 +1,13 @@
--- Which policies may cover requests on a resource of a group.
+-- Which rules may cover requests on a resource of a group.
 use Rattle.std.specs.Prelude.{ℕ, Bool, true, ◌&&◌, ◌||◌, codes, List, [], ◌∷◌}
 use Rattle.std.specs.List.{list_any}
 use Rattle.vap_match.specs.Cover.{before_slash, is_word_or_any}
 use Rattle.vap_match.specs.declared.rules.Rule.{Rule}
-use Rattle.vap_policy_set.specs.declared.bound.BoundPolicy.{BoundPolicy}
+use Rattle.vap_read.specs.declared.policy.Policy.{Policy}
 
 -- the rules of a policy
-abbrev pub rules_in : BoundPolicy → List Rule
-rules_in p = p.policy.spec.match_constraints.resource_rules
+abbrev pub rules_of : Policy → List Rule
+rules_of p = p.spec.match_constraints.resource_rules
 
 -- a rule has this group and this resource, or the word for all in their place
 unfoldable pub rule_may_cover : List ℕ → List ℕ → Rule → Bool
@@ -20,10 +20,6 @@ abbrev pub rules_may_cover : List ℕ → List ℕ → List Rule → Bool
 rules_may_cover group resource [] = true
 rules_may_cover group resource (rule ∷ rules) = list_any (rule_may_cover group resource) (rule ∷ rules)
 
--- a policy may cover requests on this resource of this group
-abbrev pub may_cover : List ℕ → List ℕ → BoundPolicy → Bool
-may_cover group resource p = rules_may_cover group resource (rules_in p)
-
 -- a rule has the word for all among its groups, or before a slash among its resources
 unfoldable pub rule_is_wide : Rule → Bool
 rule_is_wide rule =
@@ -34,7 +30,3 @@ rule_is_wide rule =
 abbrev pub rules_are_wide : List Rule → Bool
 rules_are_wide [] = true
 rules_are_wide (rule ∷ rules) = list_any rule_is_wide (rule ∷ rules)
-
--- a policy may cover more than the places that it names
-abbrev pub is_wide : BoundPolicy → Bool
-is_wide p = rules_are_wide (rules_in p)

@@ -3,9 +3,9 @@ use Rattle.std.specs.Prelude.{◌≡◌, ◌<◌, ℕ, Bool, true, false, if◌t
 use Rattle.std.specs.Prelude.{Option, Some, None}
 use Rattle.std.specs.List.{All, HoldsAt, list_any}
 use Rattle.std.specs.List.Sorted.{IsStrictlySortedBy}
-use Rattle.vap_policy_set.specs.Covering.{is_wide, may_cover}
 use Rattle.vap_policy_set.specs.PlaceOrder.{place_cmp}
-use Rattle.vap_policy_set.specs.Places.{is_place, places_in}
+use Rattle.vap_policy_set.specs.Places.{is_place}
+use Rattle.vap_policy_set.specs.PolicyCovering.{is_wide, may_cover, places_in}
 use Rattle.vap_policy_set.specs.declared.bound.BoundPolicy.{BoundPolicy}
 use Rattle.vap_policy_set.specs.declared.index.Entry.{Entry}
 use Rattle.vap_policy_set.specs.declared.places.Place.{Place}

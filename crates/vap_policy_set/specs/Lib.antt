@@ -12,4 +12,5 @@ pub mod Unverified
 pub mod Covering
 pub mod PlaceOrder
 pub mod Places
+pub mod PolicyCovering
 pub mod Index

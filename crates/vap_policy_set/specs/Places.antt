@@ -1,11 +1,11 @@
--- Resources of groups, and which of them policies name.
+-- Resources of groups, and which of them rules name.
 use Rattle.std.specs.Prelude.{◌≡◌, ℕ, Bool, ◌&&◌, List, map}
 use Rattle.std.specs.List.{flat_map, list_any}
+use Rattle.std.specs.List.Sorted.{IsStrictlySortedBy}
 use Rattle.std.specs.Str.{bytes_eq}
 use Rattle.vap_match.specs.Cover.{before_slash}
 use Rattle.vap_match.specs.declared.rules.Rule.{Rule}
-use Rattle.vap_policy_set.specs.Covering.{rules_in}
-use Rattle.vap_policy_set.specs.declared.bound.BoundPolicy.{BoundPolicy}
+use Rattle.vap_policy_set.specs.PlaceOrder.{place_cmp}
 use Rattle.vap_policy_set.specs.declared.places.Place.{Place}
 
 -- a place is this resource of this group
@@ -24,14 +24,11 @@ group_places patterns group = map (place_of group) patterns
 abbrev pub rule_places : Rule → List Place
 rule_places rule = flat_map (group_places rule.resources) rule.api_groups
 
--- the places that a policy names
-abbrev pub places_of : BoundPolicy → List Place
-places_of p = flat_map rule_places (rules_in p)
-
--- those that policies name
-abbrev pub places_in : List BoundPolicy → List Place
-places_in ps = flat_map places_of ps
-
 -- the same places are in both lists, in whatever order and however often
 abbrev pub NameSame : List Place → List Place → Type 0
 NameSame ks ls = (group resource : List ℕ) → list_any (is_place group resource) ks ≡ list_any (is_place group resource) ls
+
+-- places are those that rules name, in order, each once
+pub record AreNamedBy (rules : List Rule) (ks : List Place) : Type 0 where
+  pub ordered : IsStrictlySortedBy place_cmp ks
+  pub same : NameSame ks (flat_map rule_places rules)

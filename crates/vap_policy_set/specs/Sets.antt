@@ -62,12 +62,12 @@ pairs_of refused kinds p = map (kind_pair refused kinds p) (filter (is_looked_at
 abbrev pub other_of : List (List ℕ) → List Kind → PolicySpec → Inputs
 other_of refused kinds p = inputs_of refused kinds p None
 
--- a policy with its own texts, its bindings, and what it is at each kind
+-- a policy with what is read of it once, its bindings, and what it is at each kind
 abbrev pub bound_of : Choice → List Kind → List (Keyed Binding) → Keyed Policy → BoundPolicy
 bound_of choice kinds bindings p = record {
   name = p.key;
   policy = p.value;
-  own = p.value;
+  read = p.value;
   bindings = bindings_of p.key bindings;
   pairs = pairs_of (part_of choice p.value.spec) kinds p.value.spec;
   other = other_of (part_of choice p.value.spec) kinds p.value.spec;

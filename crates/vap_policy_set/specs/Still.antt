@@ -11,7 +11,7 @@ use Rattle.vap_policy_set.specs.declared.choice.Choice.{Choice}
 
 -- a policy under its name
 abbrev pub named_of : BoundPolicy → Keyed Policy
-named_of b = record { key = b.name; value = b.own }
+named_of b = record { key = b.name; value = b.read }
 
 -- a policy is bound as it is by a choice, with these kinds and bindings
 abbrev pub IsBound : Choice → List Kind → List (Keyed Binding) → BoundPolicy → Type 0
@@ -28,7 +28,7 @@ pub record AreAt (choice : Choice) (kinds : List Kind) (bs : List BoundPolicy) :
 
 -- what was bound of a policy before, among all that were: it says the same, and is bound to the same as long as they all are
 pub record IsOldOf (all : List BoundPolicy) (p : Keyed Policy) (b : BoundPolicy) : Type 0 where
-  pub says : b.own ≡ p.value
+  pub says : b.read ≡ p.value
   pub bound : (choice : Choice) (kinds : List Kind) (bindings : List (Keyed Binding)) → AreBound choice kinds bindings all
       → b ≡ bound_of choice kinds bindings p
 

@@ -2,10 +2,14 @@
 
 ghost use Rattle.std.specs.Prelude.{◌≡◌, Some};
 ghost use Rattle.std.specs.Option.{option_copied};
+ghost use Rattle.vap_policy_set.specs.Places.{AreNamedBy};
+ghost use Rattle.vap_policy_set.specs.PolicyCovering.{IsReadOf, is_wide, may_cover, rules_in};
 ghost use Rattle.vap_policy_set.specs.Sets.{is_pair_of, pair_in};
 
+use crate::covering::rules_may_cover;
 use crate::made::MadePair;
-use crate::texts::PolicyTexts;
+use crate::places::Place;
+use crate::read_policy::ReadPolicy;
 use base_containers::{Items, Keyed, Shared, Text};
 use vap_policy_programs::Pair;
 use vap_read::{Binding, Policy};
@@ -34,8 +38,8 @@ impl Drop for KindPair {
 pub struct BoundPolicy {
     pub name: Text,
     pub policy: Policy,
-    /// The same with its own texts.
-    pub own: Shared<PolicyTexts>,
+    /// The same with what is read of it once.
+    pub read: Shared<ReadPolicy>,
     pub bindings: Items<Keyed<Binding>>,
     /// At the known kinds that it names.
     pub pairs: Items<KindPair>,
@@ -48,7 +52,7 @@ impl Drop for BoundPolicy {
         let BoundPolicy {
             name: _name,
             policy: _policy,
-            own: _own,
+            read: _read,
             bindings: _bindings,
             pairs: _pairs,
             other: _other,
@@ -65,6 +69,34 @@ fn is_pair_of(kind: &Kind, pair: &KindPair) -> bool
 }
 
 impl BoundPolicy {
+    /// Whether the policy may cover requests on this resource of this group.
+    pub(crate) fn may_cover(&self, group: &str, resource: &str) -> bool
+        ensures { result ≡ may_cover group.now resource.now self.now }
+    {
+        let spec = self.policy.spec.get();
+        rules_may_cover(
+            spec.match_constraints.resource_rules.as_slice(),
+            group,
+            resource,
+        )
+    }
+
+    /// Whether the policy may cover more than the places that it names.
+    pub(crate) fn is_wide(&self) -> bool
+        requires read { IsReadOf self.now }
+        ensures { result ≡ is_wide self.now }
+    {
+        self.read.get().is_wide()
+    }
+
+    /// The places that the policy names, in order, each once.
+    pub(crate) fn places(&self) -> &[Place]
+        requires read { IsReadOf self.now }
+        ensures { AreNamedBy (rules_in self.now) result.now }
+    {
+        self.read.get().places()
+    }
+
     /// What the policy is at the kind of a request, or at those that are not known. At a known kind that it does not name it is
     /// nothing.
     pub fn pair(&self, kind: Option<&Kind>) -> Option<&Pair>

@@ -3,14 +3,14 @@
 ghost use Rattle.std.specs.Prelude.{◌≡◌, ◌++◌, false, [], ◌∷◌, filter, map, IfOk, OnOk};
 ghost use Rattle.std.specs.List.{All};
 ghost use Rattle.std.specs.List.Sorted.{IsStrictlySortedBy};
-ghost use Rattle.vap_policy_set.specs.Covering.{is_wide};
 ghost use Rattle.vap_policy_set.specs.Index.{AreApart, AreEnough, AreEntriesOf, AreForPlaces, IsEntryOf, IsFoundAt, empty_entry};
 ghost use Rattle.vap_policy_set.specs.Index.{if_wide, with_behind, with_named, with_policy};
 ghost use Rattle.vap_policy_set.specs.PlaceOrder.{place_cmp};
+ghost use Rattle.vap_policy_set.specs.Places.{NameSame};
+ghost use Rattle.vap_policy_set.specs.PolicyCovering.{AreRead, IsReadOf, is_wide, places_in};
 
 use crate::bound::BoundPolicy;
-use crate::covering::{is_wide, may_cover, rules_in};
-use crate::places::{NamedPlace, Place, places_in, put_in_order, put_rules};
+use crate::places::{NamedPlace, Place, put_in_order, put_places};
 use base_containers::{Items, Shared};
 use std::alloc::{AllocError, Global};
 use std::cmp::Ordering;
@@ -45,8 +45,8 @@ impl Drop for Index {
 impl Model for Index {
     ghost use Rattle.std.specs.Coded.{codes};
     ghost use Rattle.std.specs.Prelude.{◌≡◌, List, filter};
-    ghost use Rattle.vap_policy_set.specs.Covering.{is_wide};
     ghost use Rattle.vap_policy_set.specs.Index.{AreEntriesOf};
+    ghost use Rattle.vap_policy_set.specs.PolicyCovering.{is_wide};
     ghost use Rattle.vap_policy_set.specs.contracts.bound.BoundPolicy as of_policies;
     ghost use Rattle.vap_policy_set.specs.declared.bound.BoundPolicy.{BoundPolicy as PolicyOf};
 
@@ -90,11 +90,10 @@ fn put_behind(policy: &Shared<BoundPolicy>, entry: &mut Entry) -> Result<(), All
 fn put_covering(policy: &Shared<BoundPolicy>, entry: &mut Entry) -> Result<(), AllocError>
     ensures { OnOk result (entry.new ≡ with_policy policy.now entry.old) }
 {
-    if may_cover(
-        policy.get(),
-        entry.place.group.as_str(),
-        entry.place.resource.as_str(),
-    ) {
+    if policy
+        .get()
+        .may_cover(entry.place.group.as_str(), entry.place.resource.as_str())
+    {
         put_behind(policy, entry)
     } else {
         Ok(())
@@ -114,13 +113,13 @@ fn put_wide(policy: &Shared<BoundPolicy>, entries: &mut [Entry]) -> Result<(), A
 /// Puts a policy to the entry for a place, if there is one.
 fn put_at(
     policy: &Shared<BoundPolicy>,
-    place: &NamedPlace<'_>,
+    place: &Place,
     entries: &mut [Entry],
 ) -> Result<(), AllocError>
     requires apart { AreApart entries.old }
     ensures { OnOk result (entries.new ≡ map (with_named (place.now ∷ []) policy.now) entries.old) }
 {
-    match entry_at(entries, place.group(), place.resource()) {
+    match entry_at(entries, place.group.as_str(), place.resource.as_str()) {
         Some(at) => put_behind(policy, &mut entries[at]),
         None => Ok(()),
     }
@@ -129,7 +128,7 @@ fn put_at(
 /// Puts a policy to the entries for places.
 fn put_at_each(
     policy: &Shared<BoundPolicy>,
-    places: &[NamedPlace<'_>],
+    places: &[Place],
     entries: &mut [Entry],
 ) -> Result<(), AllocError>
     requires apart { AreApart entries.old }
@@ -142,40 +141,34 @@ fn put_at_each(
     Ok(())
 }
 
-/// Puts a policy to the entries for the places that it names. They are gathered in `places`, whose room serves all policies.
-fn put_narrow<'a>(
-    policy: &'a Shared<BoundPolicy>,
-    places: &mut Vec<NamedPlace<'a>>,
-    entries: &mut [Entry],
-) -> Result<(), AllocError>
+/// Puts a policy to the entries for the places that it names.
+fn put_narrow(policy: &Shared<BoundPolicy>, entries: &mut [Entry]) -> Result<(), AllocError>
     requires apart { AreApart entries.old }
+    requires read { IsReadOf policy.now }
     requires narrow { is_wide policy.now ≡ false }
     ensures { OnOk result (entries.new ≡ map (with_policy policy.now) entries.old) }
 {
-    places.clear();
-    put_rules(rules_in(policy.get()), places)?;
-    put_in_order(places);
-    put_at_each(policy, places.as_slice(), entries)
+    put_at_each(policy, policy.get().places(), entries)
 }
 
 /// Puts a policy to each entry that it may cover, and to the wide ones if it is wide. A narrow policy finds its entries by the places
 /// that it names.
 #[tactic(auto, unfolding(crate::specs::Index::if_wide))]
-fn put_policy<'a>(
-    policy: &'a Shared<BoundPolicy>,
-    places: &mut Vec<NamedPlace<'a>>,
+fn put_policy(
+    policy: &Shared<BoundPolicy>,
     entries: &mut [Entry],
     wide: &mut Vec<Shared<BoundPolicy>>,
 ) -> Result<(), AllocError>
     requires apart { AreApart entries.old }
+    requires read { IsReadOf policy.now }
     ensures entries { OnOk result (entries.new ≡ map (with_policy policy.now) entries.old) }
     ensures wide { OnOk result (wide.new.items ≡ wide.old.items ++ if_wide policy.now) }
 {
-    if is_wide(policy.get()) {
+    if policy.get().is_wide() {
         wide.push(policy.share()?)?;
         put_wide(policy, entries)
     } else {
-        put_narrow(policy, places, entries)
+        put_narrow(policy, entries)
     }
 }
 
@@ -205,7 +198,8 @@ fn found_at(
     policies: &[Shared<BoundPolicy>],
     places: &[NamedPlace<'_>],
 ) -> Result<Found, AllocError>
-    requires { IsStrictlySortedBy place_cmp places.now }
+    requires ordered { IsStrictlySortedBy place_cmp places.now }
+    requires read { AreRead policies.now }
     ensures right { IfOk result (λ found. All (IsEntryOf policies.now) found.entries) }
     ensures named { IfOk result (λ found. AreForPlaces places.now found.entries) }
     ensures apart { IfOk result (λ found. AreApart found.entries) }
@@ -213,9 +207,8 @@ fn found_at(
 {
     let mut entries = empty_entries(alloc, places)?;
     let mut wide = Vec::new(alloc);
-    let mut room = Vec::new(alloc);
     for policy in policies {
-        put_policy(policy, &mut room, entries.as_mut_slice(), &mut wide)?;
+        put_policy(policy, entries.as_mut_slice(), &mut wide)?;
     }
     Ok(Found {
         entries: Items::from_vec(entries),
@@ -223,8 +216,24 @@ fn found_at(
     })
 }
 
+/// The places that policies name.
+fn places_in<'a>(
+    alloc: Global,
+    policies: &'a [Shared<BoundPolicy>],
+) -> Result<Vec<NamedPlace<'a>>, AllocError>
+    requires read { AreRead policies.now }
+    ensures { IfOk result (λ places. NameSame places.items (places_in policies.now)) }
+{
+    let mut places = Vec::new(alloc);
+    for policy in policies {
+        put_places(policy.get().places(), &mut places)?;
+    }
+    Ok(places)
+}
+
 /// Policies with entries for the places that they name.
 fn found_in(alloc: Global, policies: &[Shared<BoundPolicy>]) -> Result<Found, AllocError>
+    requires read { AreRead policies.now }
     ensures entries { IfOk result (λ found. AreEntriesOf policies.now found.entries) }
     ensures wide { IfOk result (λ found. found.wide ≡ filter is_wide policies.now) }
 {
@@ -236,6 +245,7 @@ fn found_in(alloc: Global, policies: &[Shared<BoundPolicy>]) -> Result<Found, Al
 impl Index {
     /// Policies with their index.
     pub fn new(alloc: Global, all: Items<Shared<BoundPolicy>>) -> Result<Index, AllocError>
+        requires read { AreRead all }
         ensures { IfOk result (λ index. index ≡ all) }
     {
         let found = found_in(alloc, all.as_slice())?;

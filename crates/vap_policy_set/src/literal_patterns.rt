@@ -9,7 +9,7 @@ ghost use Rattle.vap_policy_set.specs.Patterns.{AreAsked, IsChoiceFor, of_polici
 
 use crate::choice::Choice;
 use crate::parts::refuses;
-use crate::texts::PolicyTexts;
+use crate::read_policy::ReadPolicy;
 use base_containers::{Items, Keyed, Shared, Text};
 use cel_expression::choice_of;
 use cel_operators::Patterns;
@@ -27,7 +27,7 @@ fn ask_texts(alloc: Global, texts: &[Text], patterns: &mut Patterns) -> Result<(
 /// Asks for each of the own texts of policies.
 fn ask_policies(
     alloc: Global,
-    policies: &[Keyed<Shared<PolicyTexts>>],
+    policies: &[Keyed<Shared<ReadPolicy>>],
     patterns: &mut Patterns,
 ) -> Result<(), AllocError>
     ensures { OnOk result (AreAsked (of_policies policies.now) patterns.old patterns.new) }
@@ -57,7 +57,7 @@ fn are_answered(texts: &[Text], patterns: &Patterns) -> bool
 }
 
 /// Whether each of the own texts of policies was answered.
-fn all_answered(policies: &[Keyed<Shared<PolicyTexts>>], patterns: &Patterns) -> bool
+fn all_answered(policies: &[Keyed<Shared<ReadPolicy>>], patterns: &Patterns) -> bool
     ensures { IsTrue result → AreAnswered patterns.now (of_policies policies.now) }
 {
     for policy in policies {
@@ -72,7 +72,7 @@ fn all_answered(policies: &[Keyed<Shared<PolicyTexts>>], patterns: &Patterns) ->
 pub fn answers_for(
     alloc: Global,
     kept: &Shared<Patterns>,
-    policies: &[Keyed<Shared<PolicyTexts>>],
+    policies: &[Keyed<Shared<ReadPolicy>>],
 ) -> Result<Shared<Patterns>, AllocError>
     ensures { IfOk result (λ patterns. AreAnswered patterns (of_policies policies.now)) }
 {
@@ -85,7 +85,7 @@ pub fn answers_for(
 }
 
 /// Whether a text is one of the own texts of policies.
-fn is_own(policies: &[Keyed<Shared<PolicyTexts>>], text: &str) -> bool
+fn is_own(policies: &[Keyed<Shared<ReadPolicy>>], text: &str) -> bool
     ensures { result ≡ refuses (of_policies policies.now) text.now }
 {
     for policy in policies {
@@ -98,7 +98,7 @@ fn is_own(policies: &[Keyed<Shared<PolicyTexts>>], text: &str) -> bool
 
 fn refused_among(
     alloc: Global,
-    policies: &[Keyed<Shared<PolicyTexts>>],
+    policies: &[Keyed<Shared<ReadPolicy>>],
     refused: &[Text],
 ) -> Result<Items<Text>, AllocError>
     ensures { IfOk result (λ own. own ≡ refused_among (of_policies policies.now) refused.now) }
@@ -116,7 +116,7 @@ fn refused_among(
 pub fn choice_for(
     alloc: Global,
     patterns: &Patterns,
-    policies: &[Keyed<Shared<PolicyTexts>>],
+    policies: &[Keyed<Shared<ReadPolicy>>],
 ) -> Result<Choice, AllocError>
     requires answered { AreAnswered patterns.now (of_policies policies.now) }
     ensures { IfOk result (λ choice. IsChoiceFor (of_policies policies.now) choice.refused) }

@@ -5,7 +5,7 @@ ghost use Rattle.cel_operators.specs.PatternChoice.{refuses};
 ghost use Rattle.vap_policy_set.specs.Parts.{part_of};
 
 use crate::choice::Choice;
-use crate::texts::PolicyTexts;
+use crate::read_policy::ReadPolicy;
 use base_containers::{Items, Shared, Text};
 use std::alloc::{AllocError, Global};
 
@@ -38,7 +38,7 @@ fn refused_in(alloc: Global, refused: &[Text], texts: &[Text]) -> Result<Items<T
 pub fn part_of(
     alloc: Global,
     choice: &Choice,
-    policy: &PolicyTexts,
+    policy: &ReadPolicy,
 ) -> Result<Shared<Items<Text>>, AllocError>
     ensures { IfOk result (λ part. part ≡ part_of choice.now policy.now.spec) }
 {

@@ -1,4 +1,4 @@
-//! Resources of groups, and which of them policies name.
+//! Resources of groups, and which of them rules name.
 
 ghost use Rattle.std.specs.Prelude.{◌≡◌, ◌++◌, ◌∷◌, [], ℕ, List, true, IfOk, IsTrue, OnOk};
 ghost use Rattle.std.proofs.Common.{rules};
@@ -8,12 +8,10 @@ ghost use Rattle.std.specs.List.{flat_map, list_any};
 ghost use Rattle.std.specs.List.Sorted.{IsStrictlySortedBy};
 ghost use Rattle.std.specs.Ordering.{as_partial_cmp, eq_by_cmp};
 ghost use Rattle.vap_policy_set.specs.PlaceOrder.{place_cmp};
-ghost use Rattle.vap_policy_set.specs.Places.{NameSame, group_places, is_place, places_in, rule_places};
+ghost use Rattle.vap_policy_set.specs.Places.{AreNamedBy, NameSame, group_places, is_place, rule_places};
 
-use crate::bound::BoundPolicy;
-use crate::covering::rules_in;
 use crate::params::resource_in;
-use base_containers::{Shared, Text};
+use base_containers::{Items, Text};
 use std::alloc::{AllocError, Global};
 use std::cmp::Ordering;
 use std::marker::Model;
@@ -103,18 +101,6 @@ impl<'a> NamedPlace<'a> {
         })
     }
 
-    pub fn group(&self) -> &'a str
-        ensures { result.now ≡ self.now.group }
-    {
-        self.group
-    }
-
-    pub fn resource(&self) -> &'a str
-        ensures { result.now ≡ self.now.resource }
-    {
-        self.resource
-    }
-
     /// Whether it is this resource of this group.
     fn is_place(&self, group: &str, resource: &str) -> bool
         ensures { result ≡ is_place group.now resource.now self.now }
@@ -172,7 +158,7 @@ fn put_rule<'a>(rule: &'a Rule, places: &mut Vec<NamedPlace<'a>>) -> Result<(), 
 }
 
 /// Puts the places that rules name after others.
-pub fn put_rules<'a>(rules: &'a [Rule], places: &mut Vec<NamedPlace<'a>>) -> Result<(), AllocError>
+fn put_rules<'a>(rules: &'a [Rule], places: &mut Vec<NamedPlace<'a>>) -> Result<(), AllocError>
     ensures { OnOk result (NameSame places.new.items (places.old.items ++ flat_map rule_places rules.now)) }
 {
     for rule in rules {
@@ -181,18 +167,17 @@ pub fn put_rules<'a>(rules: &'a [Rule], places: &mut Vec<NamedPlace<'a>>) -> Res
     Ok(())
 }
 
-/// The places that policies name.
-pub fn places_in<'a>(
-    alloc: Global,
-    policies: &'a [Shared<BoundPolicy>],
-) -> Result<Vec<NamedPlace<'a>>, AllocError>
-    ensures { IfOk result (λ places. NameSame places.items (places_in policies.now)) }
+/// Puts places after others.
+pub fn put_places<'a>(
+    named: &'a [Place],
+    places: &mut Vec<NamedPlace<'a>>,
+) -> Result<(), AllocError>
+    ensures { OnOk result (NameSame places.new.items (places.old.items ++ named.now)) }
 {
-    let mut places = Vec::new(alloc);
-    for policy in policies {
-        put_rules(rules_in(policy.get()), &mut places)?;
+    for place in named {
+        put_place(place.group.as_str(), place.resource.as_str(), places)?;
     }
-    Ok(places)
+    Ok(())
 }
 
 /// Puts places in order, each once.
@@ -203,4 +188,25 @@ pub fn put_in_order(places: &mut Vec<NamedPlace<'_>>)
 {
     places.sort_unstable();
     places.dedup();
+}
+
+/// Places with texts of their own.
+fn owned_places(alloc: Global, places: &[NamedPlace<'_>]) -> Result<Items<Place>, AllocError>
+    ensures { IfOk result (λ owned. owned ≡ places.now) }
+{
+    let mut owned = Vec::new(alloc);
+    for place in places {
+        owned.push(place.owned(alloc)?)?;
+    }
+    Ok(Items::from_vec(owned))
+}
+
+/// The places that rules name, in order, each once.
+pub fn named_places(alloc: Global, rules: &[Rule]) -> Result<Items<Place>, AllocError>
+    ensures { IfOk result (AreNamedBy rules.now) }
+{
+    let mut places = Vec::new(alloc);
+    put_rules(rules, &mut places)?;
+    put_in_order(&mut places);
+    owned_places(alloc, places.as_slice())
 }

@@ -19,7 +19,7 @@ use crate::choice::Choice;
 use crate::compiling::Compiling;
 use crate::made::MadePair;
 use crate::parts::part_of;
-use crate::texts::{PolicyTexts, read_texts};
+use crate::read_policy::{ReadPolicy, read_policy};
 use base_containers::{Items, Keyed, Same, Shared};
 use std::alloc::{AllocError, Global};
 use vap_policy_programs::{CompileError, CompileFault};
@@ -34,36 +34,36 @@ pub struct Workshop<'a> {
     pub kept: &'a Kept<'a>,
 }
 
-/// Policies with their own texts, and what was bound of each before, if anything is kept.
+/// Policies with what is read of them once, and what was bound of each before, if anything is kept.
 #[derive(Drop)]
 pub struct ReadPolicies<'a> {
-    pub own: Items<Keyed<Shared<PolicyTexts>>>,
+    pub policies: Items<Keyed<Shared<ReadPolicy>>>,
     pub old: Vec<Option<&'a Shared<BoundPolicy>>>,
 }
 
-/// A policy with its own texts, which are read if nothing was bound of it.
-fn own_texts(
+/// A policy with what is read of it once. It is read if nothing was bound of it.
+fn read_once(
     alloc: Global,
     policy: &Policy,
     old: Option<&Shared<BoundPolicy>>,
-) -> Result<Shared<PolicyTexts>, AllocError>
-    requires { IfSome (option_copied old) (λ bound. bound.own ≡ policy.now) }
-    ensures { IfOk result (λ own. own ≡ policy.now) }
+) -> Result<Shared<ReadPolicy>, AllocError>
+    requires { IfSome (option_copied old) (λ bound. bound.read ≡ policy.now) }
+    ensures { IfOk result (λ read. read ≡ policy.now) }
 {
     match old {
-        Some(bound) => bound.get().own.share(),
-        None => read_texts(alloc, policy),
+        Some(bound) => bound.get().read.share(),
+        None => read_policy(alloc, policy),
     }
 }
 
-/// Policies with their own texts. The texts of those that changed are read.
+/// Policies with what is read of them once. Those that changed are read.
 pub fn read_policies<'a>(
     alloc: Global,
     kept: &Kept<'a>,
     policies: &[Keyed<Policy>],
 ) -> Result<ReadPolicies<'a>, AllocError>
     requires others { KeepOthers kept.now.changed.now policies.now kept.now.policies.now }
-    ensures own { IfOk result (λ read. read.own ≡ policies.now) }
+    ensures policies { IfOk result (λ read. read.policies ≡ policies.now) }
     ensures old { IfOk result (λ read. AreOldOf kept.now.policies.now policies.now (map option_copied read.old.items)) }
 {
     let mut all = Vec::new(alloc);
@@ -74,19 +74,19 @@ pub fn read_policies<'a>(
         rest = next.behind;
         all.push(Keyed {
             key: policy.key.copy()?,
-            value: own_texts(alloc, &policy.value, next.bound)?,
+            value: read_once(alloc, &policy.value, next.bound)?,
         })?;
         old.push(next.bound)?;
     }
     Ok(ReadPolicies {
-        own: Items::from_vec(all),
+        policies: Items::from_vec(all),
         old,
     })
 }
 
 /// Why a policy is not compiled.
 fn unbuilt(
-    policy: &Keyed<Shared<PolicyTexts>>,
+    policy: &Keyed<Shared<ReadPolicy>>,
     error: CompileError,
 ) -> Result<BuildError, AllocError>
     ensures { IfOk result (λ told. told ≡ error_of policy.now.key error) }
@@ -103,7 +103,7 @@ fn unbuilt(
 /// A policy with its bindings, and what it is at each kind. Its own function, for the prover: each way out drops what is held there.
 fn with_bindings(
     alloc: Global,
-    policy: &Keyed<Shared<PolicyTexts>>,
+    policy: &Keyed<Shared<ReadPolicy>>,
     bindings: &[Keyed<Binding>],
     pairs: Items<KindPair>,
     other: Shared<MadePair>,
@@ -111,7 +111,7 @@ fn with_bindings(
     ensures { IfOk result (λ p. p ≡ record {
       name = policy.now.key;
       policy = policy.now.value;
-      own = policy.now.value;
+      read = policy.now.value;
       bindings = bindings_of policy.now.key bindings.now;
       pairs = pairs;
       other = other;
@@ -120,7 +120,7 @@ fn with_bindings(
     Ok(BoundPolicy {
         name: policy.key.copy()?,
         policy: policy.value.get().policy().copy()?,
-        own: policy.value.share()?,
+        read: policy.value.share()?,
         bindings: bindings_of(alloc, policy.key.as_str(), bindings)?,
         pairs,
         other,
@@ -151,20 +151,20 @@ impl Workshop<'_> {
         choice: &Choice,
         bindings: &[Keyed<Binding>],
         old: Option<&BoundPolicy>,
-        policy: &Keyed<Shared<PolicyTexts>>,
+        policy: &Keyed<Shared<ReadPolicy>>,
     ) -> Result<BoundPolicy, CompileError>
         ensures bound { IfOk result (λ p. p ≡ bound_of choice.now self.now.kinds.now bindings.now policy.now) }
         ensures unverified { (at : ℕ) → IsErrOf result (Fault (Unverified at))
             → HasUnverified (part_of choice.now policy.now.value.spec) self.now.kinds.now policy.now.value.spec }
     {
-        let own = policy.value.get();
-        let refused = part_of(self.alloc, choice, own)?;
+        let read = policy.value.get();
+        let refused = part_of(self.alloc, choice, read)?;
         let compiling = Compiling {
             alloc: self.alloc,
             fixed_types: self.kept.fixed_types.get(),
             refused: &refused,
             kinds: self.kinds,
-            policy: &own.policy().spec,
+            policy: &read.policy().spec,
             round: self.kept.round,
         };
         let pairs = compiling.pairs_of(old, self.kept)?;
@@ -191,7 +191,7 @@ impl Workshop<'_> {
         choice: &Choice,
         bindings: &[Keyed<Binding>],
         before: Before<'_>,
-        policy: &Keyed<Shared<PolicyTexts>>,
+        policy: &Keyed<Shared<ReadPolicy>>,
     ) -> Result<Shared<BoundPolicy>, CompileError>
         requires stands { IsTrue before.stands
             → IfSome (option_copied before.bound) (λ p. p ≡ bound_of choice.now self.now.kinds.now bindings.now policy.now) }
@@ -222,19 +222,19 @@ impl Workshop<'_> {
         bindings: &[Keyed<Binding>],
         read: &ReadPolicies<'_>,
     ) -> Result<Items<Shared<BoundPolicy>>, BuildError>
-        requires old { AreOldOf self.now.kept.now.policies.now read.now.own (map option_copied read.now.old.items) }
+        requires old { AreOldOf self.now.kept.now.policies.now read.now.policies (map option_copied read.now.old.items) }
         requires still { IsTrue self.now.kept.now.is_still
             → AreBound self.now.kept.now.choice.now self.now.kinds.now bindings.now self.now.kept.now.policies.now }
         requires at_kinds { IsTrue self.now.kept.now.is_still_at_kinds
             → AreAt self.now.kept.now.choice.now self.now.kinds.now self.now.kept.now.policies.now }
-        ensures bound { IfOk result (λ bound. bound ≡ map (bound_of choice.now self.now.kinds.now bindings.now) read.now.own) }
+        ensures bound { IfOk result (λ bound. bound ≡ map (bound_of choice.now self.now.kinds.now bindings.now) read.now.policies) }
         ensures unverified { (name : List ℕ) → IsErrOf result (Fault (build_fault.Unverified name))
-            → AreUnverified choice.now self.now.kinds.now name read.now.own }
+            → AreUnverified choice.now self.now.kinds.now name read.now.policies }
     {
         let mut bound = Vec::new(self.alloc);
         let stands = self.kept.is_still_by(choice);
         let stands_at_kinds = self.kept.is_still_at_kinds_by(choice);
-        let policies = read.own.as_slice();
+        let policies = read.policies.as_slice();
         for at in 0..policies.len() {
             let before = Before {
                 bound: read.old[at],

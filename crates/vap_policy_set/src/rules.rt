@@ -91,8 +91,8 @@ pub fn rules_of(
 {
     let bindings = objects.bindings(alloc)?;
     let read = read_policies(alloc, kept, named)?;
-    let patterns = answers_for(alloc, kept.patterns, read.own.as_slice())?;
-    let choice = choice_for(alloc, patterns.get(), read.own.as_slice())?;
+    let patterns = answers_for(alloc, kept.patterns, read.policies.as_slice())?;
+    let choice = choice_for(alloc, patterns.get(), read.policies.as_slice())?;
     let choice = Shared::new(alloc, choice)?;
     let workshop = Workshop {
         alloc,

@@ -6,6 +6,7 @@ use Rattle.vap_policy_set.specs.Index.{IsEntryOf, entry_places, with_policy}
 use Rattle.vap_policy_set.specs.declared.bound.BoundPolicy.{BoundPolicy}
 use Rattle.vap_policy_set.specs.declared.index.Entry.{Entry}
 use Rattle.vap_policy_set.proofs.Entries.{cut_before, empty_places, empty_right, for_places, next_right, places_kept, wide_next, written}
+use Rattle.vap_policy_set.proofs.Indexed.{read_at}
 use Rattle.vap_policy_set.proofs.index.found_at.Goals as goal
 
 -- no policy so far
@@ -17,6 +18,10 @@ loop-policy-init c =
       places = ap (λ (es : List Entry). entry_places es) made ∙ empty_places c.args.places.now;
       wide = search rules;
     }
+
+pub put_policy-requires-clause-read : goal.put_policy-requires-clause-read
+put_policy-requires-clause-read c =
+    read_at c.args.policies.now c.loop-policy.policy-index c.policy-item.result c.loop-policy-test.true c.policy-item.is c.requires.read
 
 -- one policy more
 pub loop-policy-preserved : goal.loop-policy-preserved

@@ -1,7 +1,7 @@
 use Rattle.std.proofs.Common.{◌≡◌, ◌++◌, drop, filter, take}
 use Rattle.std.specs.List.{All}
-use Rattle.vap_policy_set.specs.Covering.{is_wide}
 use Rattle.vap_policy_set.specs.Index.{IsEntryOf, entry_places}
+use Rattle.vap_policy_set.specs.PolicyCovering.{is_wide}
 use Rattle.vap_policy_set.proofs.index.found_at.Given as goal
 
 -- each entry has the policies so far that may cover its place, and the wide ones so far with those that are left are all

@@ -9,8 +9,8 @@ returns-in-Some c =
     let k = c.args.place.now in
     let es = c.args.entries.now in
     let found =
-    subst (λ s. IsFoundAt k.group s es (Some c.in-Some.at)) c.resource.ensures
-    (subst (λ g. IsFoundAt g c.resource.result.now es (Some c.in-Some.at)) c.group.ensures c.in-Some.ensures) in
+    subst (λ s. IsFoundAt k.group s es (Some c.in-Some.at)) c.as_str-2.ensures
+    (subst (λ g. IsFoundAt g c.as_str-2.result.now es (Some c.in-Some.at)) c.as_str.ensures c.in-Some.ensures) in
     put_where c.put_behind.result c.args.policy.now k es c.in-Some.at (get_or es c.in-Some.at c.index-entries-at.result)
     c.put_behind.new.entry (ap (λ (e : Entry). get_or es c.in-Some.at e) c.index-entries-at.is) found c.requires.apart
     c.put_behind.ensures
@@ -20,6 +20,6 @@ returns-in-None c =
     let k = c.args.place.now in
     let es = c.args.entries.now in
     let found =
-    subst (λ s. IsFoundAt k.group s es None) c.resource.ensures
-    (subst (λ g. IsFoundAt g c.resource.result.now es None) c.group.ensures c.in-None.ensures) in
+    subst (λ s. IsFoundAt k.group s es None) c.as_str-2.ensures
+    (subst (λ g. IsFoundAt g c.as_str-2.result.now es None) c.as_str.ensures c.in-None.ensures) in
     put_nowhere c.args.policy.now k es found

@@ -6,7 +6,8 @@ use Rattle.vap_policy_set.specs.Index.{AreApart, with_named}
 use Rattle.vap_policy_set.specs.PlaceOrder.{place_cmp}
 use Rattle.vap_policy_set.specs.declared.index.Entry.{Entry}
 use Rattle.vap_policy_set.specs.declared.places.Place.{Place}
-use Rattle.vap_policy_set.proofs.Entries.{cut_at, places_named, put_next, put_none}
+use Rattle.vap_policy_programs.proofs.Each.{next_is}
+use Rattle.vap_policy_set.proofs.Entries.{places_named, put_next, put_none}
 use Rattle.vap_policy_set.proofs.index.put_at_each.Goals as goal
 
 -- the place where the loop is comes before those that are left
@@ -16,7 +17,7 @@ loop-place-preserved c =
     let k = c.place-item.result in
     let p = c.args.policy.now in
     let rest = drop (l.place-index + 1) c.args.places.now in
-    let cut = cut_at c.args.places.now l.place-index k c.loop-place-test.true c.place-item.is in
+    let cut = next_is c.args.places.now l.place-index k c.loop-place-test.true c.place-item.is in
     let ordered = subst (IsStrictlySortedBy place_cmp) cut l.invariant.ordered in
     let put : c.put_at.new.entries ≡ map (with_named (k ∷ []) p) l.entries = c.in_ok-put_at.ensures in
     record {

@@ -1,12 +1,12 @@
-use Rattle.std.proofs.Common.{List, drop, map, ap, ap₂, sym, ◌+◌, ◌∙◌}
+use Rattle.std.proofs.Common.{drop, map, ap, ap₂, sym, ◌+◌, ◌∙◌}
 use Rattle.std.specs.Option.{option_copied}
 use Rattle.std.proofs.lemmas.List.{map_push}
 use Rattle.vap_policy_set.proofs.Changed.{keep_next, says_same}
 use Rattle.vap_policy_set.proofs.Olds.{old_next, old_some, whole_next}
 use Rattle.vap_policy_set.proofs.policies.read_policies.Goals as goal
 
-pub own_texts-requires : goal.own_texts-requires
-own_texts-requires c =
+pub read_once-requires : goal.read_once-requires
+read_once-requires c =
     let ps = c.args.policies.now in
     let i = c.loop-policy.policy-index in
     let item = c.policy-item.result in
@@ -30,8 +30,8 @@ loop-policy-preserved c =
     record {
       whole =
           whole_next ps c.loop-policy.all.items c.push-in-loop-policy.new.self.items i item
-          (record { key = c.in_ok-copy.field-0; value = c.in_ok-own_texts.field-0 }) c.in_ok-push.ensures.items
-          (ap₂ (λ k v. record { key = k; value = v }) c.in_ok-copy.ensures c.in_ok-own_texts.ensures) c.loop-policy-test.true
+          (record { key = c.in_ok-copy.field-0; value = c.in_ok-read_once.field-0 }) c.in_ok-push.ensures.items
+          (ap₂ (λ k v. record { key = k; value = v }) c.in_ok-copy.ensures c.in_ok-read_once.ensures) c.loop-policy-test.true
           c.policy-item.is at.whole;
       part = λ choice kinds bindings are. next.ensures.part choice kinds bindings (at.part choice kinds bindings are);
       others = next.ensures.kept item (drop (i + 1) ps) (sym c.as_str.ensures) keep;

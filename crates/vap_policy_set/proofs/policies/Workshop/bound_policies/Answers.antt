@@ -10,7 +10,8 @@ pub index-requires : goal.index-requires
 index-requires c =
     omega (
       arith,
-      old_length c.args.self.now.kept.now.policies.now c.args.read.now.own (map option_copied c.args.read.now.old.items) c.requires.old,
+      old_length c.args.self.now.kept.now.policies.now c.args.read.now.policies (map option_copied c.args.read.now.old.items)
+          c.requires.old,
       length-map c.args.read.now.old.items option_copied,
       c.loop-at-test.true,
       ap length c.as_slice-policies.ensures,
@@ -19,7 +20,7 @@ index-requires c =
 pub shared_of-requires : goal.shared_of-requires
 shared_of-requires c =
     let all = c.args.self.now.kept.now.policies.now in
-    let ps = c.args.read.now.own in
+    let ps = c.args.read.now.policies in
     let os = c.args.read.now.old.items in
     let old = option_copied c.index.result.now in
     let kinds = c.args.self.now.kinds.now in
