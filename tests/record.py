@@ -1,4 +1,5 @@
-"""The record of refused edits, refused.txt: of each crate how many edits the prover has refused, and a checksum of all that this rests on.
+"""The record of refused edits, refused.txt: of each crate and toolchain how many edits the prover has refused, and a checksum of all that
+this rests on.
 
 Whether the prover refuses an edit is a function of what its check reads and of how it is tried, and the checksum covers that: the
 toolchain's line; edits.py, which makes and tries edits; of the crate itself its libraries' names and all files of src/, specs/, proofs/
@@ -11,6 +12,7 @@ import hashlib
 import re
 import subprocess
 from pathlib import Path
+from typing import NamedTuple
 
 PARTS = ("src", "specs", "proofs", "must-fail")
 FUNCTION = re.compile(r"(?P<indent>(?: {4})?)(?P<public>pub )?(?:pub\([a-z]+\) )?(?:const )?(?:unsafe )?fn \w")
@@ -21,7 +23,7 @@ TRAIT = re.compile(r"(?:pub(?:\([a-z]+\))? )?trait ")
 OWN_METHODS = re.compile(r"impl(?:(?! for ).)*\{$")
 # What is written of a function's own proof, which no crate above reads.
 OWN_PROOF = ("Answers.antt", "Invariants.antt", "Proof.antt")
-HEAD = """# Of each crate: how many of its edits the prover has refused, and a checksum of all that this rests on (docs/GATE.md).
+HEAD = """# Of each crate: how many of its edits the prover has refused, a checksum of all that this rests on, and the toolchain (docs/GATE.md).
 # tests/wrong_bodies.py writes a line once all edits of its crate are refused.
 """
 
@@ -102,16 +104,28 @@ class Tree:
             self.shown[crate] = [it for it in found if it[1] is not None]
         return self.shown[crate]
 
-    def rests_on(self, crate):
-        """The checksum of all that the refusal of a crate's edits rests on."""
+    def rests_on(self, crate, by=None):
+        """The checksum of all that the refusal of a crate's edits rests on, by a toolchain, this one if none is named."""
         trying = Path(__file__).with_name("edits.py").read_bytes()
         own = [(name, file.read_bytes()) for name, file in self.files(crate, PARTS)]
         below = [(name, self.libraries[name], self.seen_of(name)) for name in self.below(crate)]
-        return sum_of([toolchain(), trying, self.libraries[crate], own, below])
+        return sum_of([by or toolchain(), trying, self.libraries[crate], own, below])
+
+
+class Line(NamedTuple):
+    """What a record tells of a crate: how many edits a toolchain refused, and the checksum of all that this rests on."""
+
+    crate: str
+    count: int
+    rests_on: str
+    by: str
+
+    def __str__(self):
+        return f"{self.crate} {self.count} {self.rests_on} {self.by}"
 
 
 class Record:
-    """The lines of a record's file."""
+    """The lines of a record's file, one of each crate by each toolchain."""
 
     def __init__(self, file):
         self.file = Path(file)
@@ -119,26 +133,25 @@ class Record:
 
     def read(self):
         texts = self.file.read_text(encoding="utf-8").splitlines() if self.file.is_file() else []
-        return {it.split()[0]: it for it in texts if it and not it.startswith("#")}
+        words = [it.split(maxsplit=3) for it in texts if it and not it.startswith("#")]
+        return {Line(crate, int(count), rests_on, by) for crate, count, rests_on, by in words}
 
-    def has(self, crate, count, rests_on):
-        return self.lines.get(crate) == self.line(crate, count, rests_on)
+    def has(self, line):
+        return line in self.lines
 
-    @staticmethod
-    def line(crate, count, rests_on):
-        return f"{crate} {count} {rests_on}"
-
-    def put(self, crate, count, rests_on):
-        """Writes the line of a crate whose edits are all refused."""
+    def put(self, line, tree):
+        """Writes the line of a crate whose edits are all refused. Its lines by other toolchains stay where they still match."""
         # (another run may have written lines meanwhile)
-        self.lines = {**self.read(), crate: self.line(crate, count, rests_on)}
+        self.lines = {it for it in self.read() if it.crate != line.crate or it.by != line.by and it.rests_on == tree.rests_on(it.crate, it.by)}
+        self.lines.add(line)
         self.write()
 
     def keep(self, crates):
         """Leaves out the lines of other crates than these."""
-        if not set(self.lines) <= set(crates):
-            self.lines = {crate: line for crate, line in self.lines.items() if crate in crates}
+        kept = {it for it in self.lines if it.crate in crates}
+        if kept != self.lines:
+            self.lines = kept
             self.write()
 
     def write(self):
-        self.file.write_text(HEAD + "".join(f"{self.lines[it]}\n" for it in sorted(self.lines)), encoding="utf-8")
+        self.file.write_text(HEAD + "".join(f"{it}\n" for it in sorted(self.lines)), encoding="utf-8")

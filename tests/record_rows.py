@@ -1,8 +1,9 @@
 #!/usr/bin/env python3
 """Changes a copy of the crates in one place at a time, and looks whether the record's line of a crate above, cel_lex, still matches.
 
-It has to match where nothing is changed that a check of its edits reads, and must not where something is. The first word may be
-a repository whose crates are copied, in place of this one's. The last line is 'N passed, M failed'.
+It has to match where nothing is changed that a check of its edits reads, and must not where something is; and a line by another
+toolchain has to stay on the record while it matches, and no longer. The first word may be a repository whose crates are copied, in
+place of this one's. The last line is 'N passed, M failed'.
 """
 import shutil
 import sys
@@ -49,6 +50,16 @@ def matches_with(crates, path, old, new):
         file.write_text(text, encoding="utf-8")
 
 
+def stays(crates, file, change):
+    """Whether a line by another toolchain is on the record still when the crate's edits are refused once more, after a change of a file."""
+    file.unlink(missing_ok=True)
+    for by in "another", "this one":
+        tree = record.Tree(crates, crates, CRATES)
+        record.Record(file).put(record.Line(ABOVE, 1, tree.rests_on(ABOVE, by), by), tree)
+        change.write_text(change.read_text(encoding="utf-8") + "\n", encoding="utf-8")
+    return {it.by for it in record.Record(file).lines} == {"another", "this one"}
+
+
 def rows(crates):
     """What is changed, whether the line still matches, and whether it has to."""
     for what, path, old, new, is_valid in CHANGES:
@@ -59,6 +70,8 @@ def rows(crates):
     yield "the toolchain", rests_on(crates) == before, False
     record.toolchain = toolchain
     yield "nothing", rests_on(crates) == before, True
+    yield "a file of another crate, by another toolchain", stays(crates, crates / "record", crates / "cel_code/src/lib.rt"), True
+    yield "a definition below, by another toolchain", stays(crates, crates / "record", crates / "base_containers/specs/Keys.antt"), False
 
 
 def main(words):

@@ -2,7 +2,8 @@
 
 Each crate is proved by a run of its own, in a copy of the crates that it uses, once these are proved, and first those for which the most
 lines of Rust wait: how long a crate takes grows with these, and hardly with its definitions and proofs. What one run has proved the others
-take. One run less goes on than there are processors, since `rt ci` checks a crate by two jobs where it finds memory for them; where it
+take. (Where the toolchain keeps nothing from run to run, one run proves all of them, as many side by side as there are processors.)
+One run less goes on than there are processors, since `rt ci` checks a crate by two jobs where it finds memory for them; where it
 finds none and a processor is idle, one more. The crate for which more lines wait has the processors first. Where memory is free, the run of
 the crate that comes next begins early: it takes what it uses, of hundreds of megabytes each, and waits for the last.
 """
@@ -30,6 +31,12 @@ NEAR_END = 3000
 BUILT = re.compile(r"rt: (\w+) (?:proved|is kept)")
 ELSEWHERE = re.compile(r"rt: (\w+)(?: is kept|: another run)")
 COUNT = re.compile(r"(\d+) passed, (\d+) failed")
+
+
+def keeps_proofs():
+    """Whether `rt ci` of this toolchain takes what an earlier run has proved, which it then says is kept."""
+    doc = subprocess.run(["rt", "doc"], capture_output=True, text=True, check=True).stdout.strip()
+    return any("is kept" in (Path(doc).parent / "bin" / it).read_text(encoding="utf-8") for it in ("rt", "rtlib.py"))
 
 
 def available():
@@ -91,12 +98,14 @@ class Listed:
 
 class Run:
     """A run of `rt ci` in a folder, so far behind others: the crates that it has built so far, whether it has ended, and the counts of its
-    last line. `hear` gets each of its lines, but for those that tell what other runs did for another crate than `of`, if one is named."""
+    last line. `hear` gets each of its lines, but for those that tell what other runs did for another crate than `of`, if one is named. With
+    `lanes` it checks so many crates side by side, each by one job."""
 
-    def __init__(self, folder, hear, of=None, behind=0):
+    def __init__(self, folder, hear, of=None, behind=0, lanes=None):
         self.folder, self.of, self.built = folder, of, set()
         self.has_ended, self.passed, self.failed = False, 0, 1
         how = {"stdin": subprocess.DEVNULL, "stdout": subprocess.PIPE, "stderr": subprocess.STDOUT, "text": True, "errors": "replace"}
+        how["env"] = {**os.environ, "RT_JOBS": str(lanes)} if lanes else None
         self.ran = subprocess.Popen(["nice", "-n", str(behind), "rt", "ci"], cwd=folder, **how)
         self.reader = threading.Thread(target=self.follow, args=(hear,))
         self.reader.start()
@@ -133,9 +142,12 @@ class Proofs:
     def make(self):
         """Makes them all. Answers whether all is well."""
         try:
-            self.prove_each()
-            # (A run of all takes what is proved, and says what is not.)
-            self.whole = self.run_of_all() or Run(self.listed.top, self.hear)
+            if keeps_proofs():
+                self.prove_each()
+                # (A run of all takes what is proved, and says what is not.)
+                self.whole = self.run_of_all() or Run(self.listed.top, self.hear)
+            else:
+                self.whole = Run(self.listed.top, self.hear, lanes=processors())
             return self.whole.wait()
         finally:
             self.has_ended = True
@@ -194,5 +206,4 @@ class Proofs:
 
     def place_of(self, crate):
         """The folder in which a crate is built, if it is."""
-        run = self.runs.get(crate)
-        return run.folder if run and crate in run.built else None
+        return next((run.folder for run in (self.runs.get(crate), self.whole) if run and crate in run.built), None)

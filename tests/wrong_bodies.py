@@ -11,7 +11,7 @@ from concurrent.futures import ThreadPoolExecutor
 from pathlib import Path
 
 from edits import CRATES, TOP, Trial, library
-from record import Record, Tree
+from record import Line, Record, Tree, toolchain
 from stages import processors
 
 
@@ -37,9 +37,9 @@ class Edits:
         """A trial of each crate with edits that the record does not tell of, the dearest first."""
         trials = [Trial(crate, self.tree.edits, self.turn) for crate in names]
         for trial in trials:
-            trial.rests_on = self.tree.rests_on(trial.crate)
+            trial.line = Line(trial.crate, len(trial.edits), self.tree.rests_on(trial.crate), toolchain())
         with_edits = [it for it in trials if it.edits or it.results]
-        left = [it for it in with_edits if is_anew or not self.record.has(it.crate, len(it.edits), it.rests_on)]
+        left = [it for it in with_edits if is_anew or not self.record.has(it.line)]
         self.recorded = sum(len(it.edits) for it in with_edits if it not in left)
         return sorted(left, key=dearness, reverse=True)
 
@@ -52,7 +52,7 @@ class Edits:
         self.tried, self.failed = self.tried + len(trial.results), self.failed + failed
         self.passed += len(trial.results) - failed
         if not failed:
-            self.record.put(trial.crate, len(trial.edits), trial.rests_on)
+            self.record.put(trial.line, self.tree)
 
     def tell(self):
         """Tells how many edits were tried and how many the record told of, which count as refused."""

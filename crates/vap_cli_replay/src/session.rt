@@ -46,6 +46,10 @@ const ENOUGH_FOR_ONE: usize = 64;
 /// From how many bytes on the lines of the audit are written, in one write.
 const FULL_TEXT: usize = 65_536;
 
+/// Room for most lines. Each is made in a room of its own and then put behind the others, since a writer of JSON clears up to 16 KiB of
+/// the room behind its text.
+const LINE_ROOM: usize = 1_024;
+
 /// A replay under way: what reads its events, what is published, what was decided, by call, and the reviews that are read and not
 /// yet answered, with the line of the first of them. It is not `Drop`: give it up by [`Session::end`].
 pub(crate) struct Session {
@@ -370,7 +374,10 @@ impl Session {
     {
         let entry = self.history.at(number);
         let uid = entry.request.admission().uid.as_str();
-        let mut all = with_answer(uid, &entry.verdict, text)?;
+        let room = Vec::with_capacity(self.alloc, LINE_ROOM)?;
+        let line = with_answer(uid, &entry.verdict, room)?;
+        let mut all = text;
+        all.extend_from_slice(line.as_slice())?;
         all.push(b'\n')?;
         Ok(all)
     }
@@ -449,7 +456,9 @@ impl Session {
         ensures memory { IfErr result (λ error. error ≡ ReplayError.OutOfMemory) }
     {
         let entry = self.history.at(number);
-        let mut lines = with_audit_text(entry, text)?;
+        let line = with_audit_text(entry, Vec::with_capacity(self.alloc, LINE_ROOM)?)?;
+        let mut lines = text;
+        lines.extend_from_slice(line.as_slice())?;
         lines.push(b'\n')?;
         Ok(lines)
     }
