@@ -36,7 +36,8 @@ COUNT = re.compile(r"(\d+) passed, (\d+) failed")
 def keeps_proofs():
     """Whether `rt ci` of this toolchain takes what an earlier run has proved, which it then says is kept."""
     doc = subprocess.run(["rt", "doc"], capture_output=True, text=True, check=True).stdout.strip()
-    return any("is kept" in (Path(doc).parent / "bin" / it).read_text(encoding="utf-8") for it in ("rt", "rtlib.py"))
+    sources = [Path(doc).parent / "bin" / it for it in ("rt", "rtlib.py")]
+    return any(it.is_file() and "is kept" in it.read_text(encoding="utf-8", errors="replace") for it in sources)
 
 
 def available():
