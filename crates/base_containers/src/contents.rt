@@ -1,6 +1,10 @@
 //! All items of a list, and all members of an object in the order of their names.
 
-ghost use Rattle.std.specs.Prelude.{◌≡◌, option_map, IfOk, IfSome, Some};
+ghost use Rattle.std.specs.Prelude.{◌≡◌, ◌≤◌, length, option_map, IfOk, IfSome, Some};
+ghost use Rattle.std.specs.List.{AllWithin};
+ghost use Rattle.std.specs.Ordering.{nat_cmp};
+ghost use Rattle.std.specs.Cmp.Lexicographic.{slice_cmp};
+ghost use Rattle.std.specs.declared.cmp.Ordering.TheVariants.{Less, Greater};
 ghost use Rattle.serde_json.specs.Find.{as_array, as_object};
 ghost use Rattle.serde_json.specs.View.{items_view, members_view};
 ghost use Rattle.base_containers.specs.Gathered.{items_of, members_of, is_above, AreInOrder};
@@ -14,6 +18,12 @@ use std::collections::BTreeMap;
 
 /// A member of an object: its name, and what is under it.
 type Member<'t, 'a> = (&'a str, Part<'t, 'a>);
+
+/// For how many members there is room at once: most objects have no more.
+const USUAL: usize = 8;
+
+/// How many members there may be among which one is put in its place, since those behind it are moved.
+const FEW: usize = 64;
 
 impl<'t, 'a> Part<'t, 'a> {
     /// The items of a list.
@@ -71,7 +81,7 @@ fn items_in_tree<'t, 'a>(alloc: Global, items: &'a [Json]) -> Result<Vec<Part<'t
     Ok(found)
 }
 
-/// The members of an object; by a map, if their names do not rise in the text.
+/// The members of an object; by a map, if they are many, and their names do not rise in the text.
 fn members_in_tape<'t, 'a>(
     alloc: Global,
     element: &Element<'t, 'a>,
@@ -80,14 +90,14 @@ fn members_in_tape<'t, 'a>(
     ensures exact { IfOk result (λ found. option_map (λ v. members_of v.items) found ≡ as_object (data_of element.now)) }
     ensures ordered { IfOk result (λ found. IfSome found (λ v. AreInOrder v.items)) }
 {
-    match rising_members(alloc, element)? {
+    match placed_members(alloc, element)? {
         Some(found) => Ok(Some(found)),
         None => members_by_name(alloc, element),
     }
 }
 
-/// The members of an object, if their names rise in the text.
-fn rising_members<'t, 'a>(
+/// The members of an object, each put in its place, if they are few or their names rise in the text, and none has the name of another.
+fn placed_members<'t, 'a>(
     alloc: Global,
     element: &Element<'t, 'a>,
 ) -> Result<Option<Vec<Member<'t, 'a>>>, AllocError>
@@ -98,14 +108,35 @@ fn rising_members<'t, 'a>(
     let Some(mut members) = element.members() else {
         return Ok(None);
     };
-    let mut found = Vec::new(alloc);
+    let mut found = Vec::with_capacity(alloc, USUAL)?;
     while let Some((name, member)) = members.next() {
-        if !is_above(found.as_slice(), name) {
+        let member = (name, Part::new(member));
+        if is_above(found.as_slice(), name) {
+            found.push(member)?;
+        } else if let Some(place) = free_place(found.as_slice(), name) {
+            found.insert(place, member)?;
+        } else {
             return Ok(None);
         }
-        found.push((name, Part::new(member)))?;
     }
     Ok(Some(found))
+}
+
+/// The place of a name among those of members, if they are few and none of them has it.
+fn free_place(found: &[Member<'_, '_>], name: &str) -> Option<usize>
+    requires { AreInOrder found.now }
+    ensures within { IfSome result (λ place. place ≤ length found.now) }
+    ensures above { IfSome result (λ place. AllWithin (λ m. slice_cmp nat_cmp m.0.now name.now ≡ Less) found.now 0 place) }
+    ensures below { IfSome result (λ place.
+        AllWithin (λ m. slice_cmp nat_cmp m.0.now name.now ≡ Greater) found.now place (length found.now)) }
+{
+    if found.len() > FEW {
+        return None;
+    }
+    match found.binary_search_by(|member| member.0.cmp(name)) {
+        Ok(_) => None,
+        Err(place) => Some(place),
+    }
 }
 
 /// Whether a name is above the last one.

@@ -4,7 +4,7 @@ use Rattle.serde_json.specs.Find.{as_object}
 use Rattle.base_containers.specs.Gathered.{members_of, AreInOrder}
 use Rattle.base_containers.specs.Parts.{data_of}
 use Rattle.base_containers.proofs.Gathers.{MembersLeft}
-use Rattle.base_containers.proofs.contents.rising_members.Given as goal
+use Rattle.base_containers.proofs.contents.placed_members.Given as goal
 
 abbrev pub invariant-loop-name : goal.invariant-loop-name
 invariant-loop-name l = record {
