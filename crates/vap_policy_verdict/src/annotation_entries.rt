@@ -8,12 +8,18 @@ use crate::finding::Note;
 use base_containers::{Keyed, Text};
 use std::alloc::{AllocError, Global};
 
+/// Room for most keys.
+const KEY_ROOM: usize = 64;
+
+/// The key of a note. (It is pushed piece by piece, since each review may have many of them, and formatting takes several times as long.)
 fn key_of(alloc: Global, note: &Note) -> Result<Text, AllocError>
     ensures { IfOk result (λ key. key ≡ key_of note.now) }
 {
-    let policy = note.policy.as_str();
-    let key = note.key.as_str();
-    Ok(Text::from_string(format!(in alloc; "{policy}/{key}")?))
+    let mut key = String::with_capacity(alloc, KEY_ROOM)?;
+    key.push_str(note.policy.as_str())?;
+    key.push_str("/")?;
+    key.push_str(note.key.as_str())?;
+    Ok(Text::from_string(key))
 }
 
 fn entry_of(alloc: Global, note: &Note) -> Result<Keyed<Text>, AllocError>

@@ -1,12 +1,15 @@
 //! The words of a verdict.
 
-ghost use Rattle.std.specs.Prelude.{◌≡◌, IfOk};
+ghost use Rattle.std.specs.Prelude.{◌≡◌, ◌++◌, codes, IfOk};
 ghost use Rattle.vap_policy_verdict.specs.Sentences.{code_of, reason_name, denial, warning};
 
 use crate::finding::Finding;
 use base_containers::Text;
 use std::alloc::{AllocError, Global};
 use vap_read::Reason;
+
+/// Room for most sentences.
+const SENTENCE_ROOM: usize = 256;
 
 /// The status code of a reason.
 pub fn code_of(reason: Reason) -> u16
@@ -32,26 +35,47 @@ pub fn reason_name(reason: Reason) -> &'static str
     }
 }
 
+/// A sentence about a failure: what is said before its policy and behind its binding, and its message. (It is pushed piece by piece,
+/// since a review may have many of them, and formatting takes several times as long.)
+fn sentence(
+    alloc: Global,
+    before: &str,
+    behind: &str,
+    finding: &Finding,
+) -> Result<Text, AllocError>
+    ensures { IfOk result (λ text. text ≡ before.now ++ (finding.now.policy ++ (codes "' with binding '"
+        ++ (finding.now.binding ++ (behind.now ++ finding.now.message))))) }
+{
+    let mut text = String::with_capacity(alloc, SENTENCE_ROOM)?;
+    text.push_str(before)?;
+    text.push_str(finding.policy.as_str())?;
+    text.push_str("' with binding '")?;
+    text.push_str(finding.binding.as_str())?;
+    text.push_str(behind)?;
+    text.push_str(finding.message.as_str())?;
+    Ok(Text::from_string(text))
+}
+
 /// What is said if a failure denies the request.
 pub fn denial_text(alloc: Global, finding: &Finding) -> Result<Text, AllocError>
     ensures { IfOk result (λ text. text ≡ denial finding.now.policy finding.now.binding finding.now.message) }
 {
-    let policy = finding.policy.as_str();
-    let binding = finding.binding.as_str();
-    let message = finding.message.as_str();
-    Ok(Text::from_string(format!(in alloc;
-        "ValidatingAdmissionPolicy '{policy}' with binding '{binding}' denied request: {message}"
-    )?))
+    sentence(
+        alloc,
+        "ValidatingAdmissionPolicy '",
+        "' denied request: ",
+        finding,
+    )
 }
 
 /// What is said if a failure is only warned of.
 pub fn warning_text(alloc: Global, finding: &Finding) -> Result<Text, AllocError>
     ensures { IfOk result (λ text. text ≡ warning finding.now.policy finding.now.binding finding.now.message) }
 {
-    let policy = finding.policy.as_str();
-    let binding = finding.binding.as_str();
-    let message = finding.message.as_str();
-    Ok(Text::from_string(format!(in alloc;
-        "Validation failed for ValidatingAdmissionPolicy '{policy}' with binding '{binding}': {message}"
-    )?))
+    sentence(
+        alloc,
+        "Validation failed for ValidatingAdmissionPolicy '",
+        "': ",
+        finding,
+    )
 }
