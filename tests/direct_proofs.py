@@ -108,9 +108,9 @@ class DirectProofs:
         return True
 
 
-def linked(folder, program):
+def linked(folder, program, log):
     """Links the object file of a program. Answers the program, if all is well."""
     made = folder / "out" / program
     words = [f"{edits.KIT}/bin/rattle-link", "--target", "x86_64-unknown-linux-gnu", "--toolchain", f"{edits.KIT}/toolchain"]
     words += ["-o", str(made), f"{made}.o", f"{edits.KIT}/c/libos_c.a", f"{edits.KIT}/c/liblibc_c.a"]
-    return made if subprocess.run(words, stdout=subprocess.DEVNULL, check=False).returncode == 0 else None
+    return made if subprocess.run(words, stdout=log, stderr=subprocess.STDOUT, check=False).returncode == 0 else None
