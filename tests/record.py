@@ -5,7 +5,8 @@ Whether the prover refuses an edit is a function of what its check reads and of 
 toolchain's line; edits.py, which makes and tries edits; of the crate itself its libraries' names and all files of src/, specs/, proofs/
 and must-fail/; and of each library below it what a check of a crate above can see. That is specs/, the lemma files of proofs/, and
 src/ without comments, without functions that are not public, and without the bodies of those that are: of a function a crate
-above sees its signature and its contract.
+above sees its signature and its contract. Nor does it see a constant that is not public, or what is imported for contracts, where
+nothing that is left names it.
 """
 import functools
 import hashlib
@@ -21,6 +22,9 @@ OWNER = re.compile(r"impl\b|(?:pub(?:\([a-z]+\))? )?trait ")
 TRAIT = re.compile(r"(?:pub(?:\([a-z]+\))? )?trait ")
 # The first line of an impl that is of no trait: its methods are seen above where they are public.
 OWN_METHODS = re.compile(r"impl(?:(?! for ).)*\{$")
+# A constant that is not public, and an import for contracts, by what it is of and its names.
+CONSTANT = re.compile(r"const (?P<name>[A-Z]\w*): .*;$")
+IMPORT = re.compile(r" *ghost use (?P<path>[\w.]+)\.(?:\{(?P<names>.*)\}|(?P<name>[^\s{}]+(?: as \S+)?));$")
 # What is written of a function's own proof, which no crate above reads.
 OWN_PROOF = ("Answers.antt", "Invariants.antt", "Proof.antt")
 HEAD = """# Of each crate: how many of its edits the prover has refused, a checksum of all that this rests on, and the toolchain (docs/GATE.md).
@@ -54,7 +58,28 @@ def without_bodies(text):
         if opens or begins and line.endswith(("}", ";")) or line == indent + ");":
             indent, is_hidden = None, False
     # (a body without an end is no such layout)
-    return "\n".join(kept) if closing is None else text
+    return "\n".join(named_alone(kept)) if closing is None else text
+
+
+def is_named(name, text):
+    """Whether a text has a name, or all parts of an operator's."""
+    parts = [it for it in name.split("◌") if it]
+    return all(re.search(rf"(?<![\w-]){re.escape(it)}(?![\w-])" if it.isidentifier() else re.escape(it), text) for it in parts)
+
+
+def named_alone(lines):
+    """Lines of a source without empty ones and the constants that are not public and that no other line names, and of its imports for
+    contracts with the names alone that a line names."""
+    others = "\n".join(it for it in lines if not (CONSTANT.match(it) or IMPORT.match(it)))
+    kept = []
+    for line in lines:
+        constant, imported = CONSTANT.match(line), IMPORT.match(line)
+        if imported:
+            names = (imported["names"] or imported["name"]).split(", ")
+            kept += [f"{imported['path']}.{it}" for it in names if is_named(it.rpartition(" as ")[2], others)]
+        elif line and not (constant and not is_named(constant["name"], others)):
+            kept.append(line)
+    return kept
 
 
 def seen(path):
