@@ -1,9 +1,9 @@
 """Proves crates by the prover itself, and builds a program of them: for `./vap`, where `rt ci` has kept nothing that it could take.
 
 `rt ci` gives a crate two jobs at most on four processors, also where nothing else could go on, since it counts the crate's tests as
-another check; and the crates of the longest chain wait for each other. Here the crate for which the most lines wait has a job for each
-processor, and goes before the others; each of these has one job, and fills what is left. What is proved so is kept nowhere: the
-gate proves by `rt ci`.
+another check; and the crates of the longest chain wait for each other. Here the first of those that run, for which the most lines wait,
+has a job for each processor, and goes before the others; each of these has two jobs, and fills what is left. What is proved so is kept
+nowhere: the gate proves by `rt ci`.
 """
 import os
 import signal
@@ -13,8 +13,8 @@ import time
 import edits
 from stages import HELD, UNDER_WAY, available, processors
 
-# How far a check is behind the one for which the most lines wait, as `nice` counts it.
-BEHIND = 10
+# How far a check is behind each of a crate for which more lines wait, as `nice` counts it.
+BEHIND = 5
 
 
 def words_of(crate, jobs, made):
@@ -29,7 +29,7 @@ class Check:
     """A check of a crate in its folder, which builds it if it is proved."""
 
     def __init__(self, folder, crate, jobs, behind, log):
-        self.begun, self.made = time.monotonic(), edits.library(crate)
+        self.jobs, self.begun, self.made = jobs, time.monotonic(), edits.library(crate)
         is_program = (folder / "src/main.rt").is_file()
         if is_program:
             self.made = folder / "out" / f"{crate}.o"
@@ -84,9 +84,10 @@ class DirectProofs:
             if self.running and not self.has_place():
                 return
             left.remove(crate)
-            is_first = all(self.lengths[it] < self.lengths[crate] for it in self.running)
-            jobs, behind = (processors(), 0) if is_first else (1, BEHIND)
-            self.running[crate] = Check(self.listed.top / "crates" / crate, crate, jobs, behind, self.log)
+            longer = [it for it in self.running if self.lengths[it] > self.lengths[crate]]
+            is_first = not any(self.running[it].jobs == processors() for it in longer)
+            jobs = processors() if is_first else min(processors(), 2)
+            self.running[crate] = Check(self.listed.top / "crates" / crate, crate, jobs, BEHIND * len(longer), self.log)
 
     def has_place(self):
         """Whether one more check may begin beside those that run."""
