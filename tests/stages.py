@@ -2,8 +2,8 @@
 
 Each crate is proved by a run of its own, in a copy of the crates that it uses, once these are proved, and first those for which most is
 to be proved that waits for them: how long a crate takes grows with its lines of Rust and with its clauses, and hardly with its
-definitions and proofs. What one run has proved the others
-take. (Where the toolchain keeps nothing from run to run, one run proves all of them, as many side by side as there are processors.)
+definitions and proofs. What one run has proved the others take. (Where the toolchain keeps nothing from run to run, one run proves all of
+them, as many side by side as there are processors.)
 One run less goes on than there are processors, since `rt ci` checks a crate by two jobs where it finds memory for them; where it
 finds none and a processor is idle, one more. The crate for which more lines wait has the processors first. Where memory is free, the run of
 the crate that comes next begins early: it takes what it uses, of hundreds of megabytes each, and waits for the last.
