@@ -5,7 +5,7 @@ Whether the prover refuses an edit is a function of what its check reads and of 
 toolchain's line; edits.py, which makes and tries edits; of the crate itself its libraries' names and all files of src/, specs/, proofs/
 and must-fail/; and of each library below it what a check of a crate above can see. That is specs/, the lemma files of proofs/, and
 src/ without comments, without functions that are not public, and without the bodies of those that are: of a function a crate
-above sees its signature and its contract. Nor does it see a constant that is not public, or what is imported for contracts, where
+above sees its signature and its contract. Nor does it see a constant or a module that is not public, or what is imported, where
 nothing that is left names it.
 """
 import functools
@@ -25,6 +25,10 @@ OWN_METHODS = re.compile(r"impl(?:(?! for ).)*\{$")
 # A constant that is not public, and an import for contracts, by what it is of and its names.
 CONSTANT = re.compile(r"const (?P<name>[A-Z]\w*): .*;$")
 IMPORT = re.compile(r" *ghost use (?P<path>[\w.]+)\.(?:\{(?P<names>.*)\}|(?P<name>[^\s{}]+(?: as \S+)?));$")
+# An attribute, a module that is not public, and an import in one line, by what it is of and its names.
+ATTRIBUTE = re.compile(r" *#\[.*\]$")
+MODULE = re.compile(r"mod (?P<name>\w+);$")
+USE = re.compile(r"use (?P<path>[\w:]+)::(?:\{(?P<names>[^{}]*)\}|(?P<name>\w+(?: as \w+)?));$")
 # What is written of a function's own proof, which no crate above reads.
 OWN_PROOF = ("Answers.antt", "Invariants.antt", "Proof.antt")
 HEAD = """# Of each crate: how many of its edits the prover has refused, a checksum of all that this rests on, and the toolchain (docs/GATE.md).
@@ -35,12 +39,15 @@ HEAD = """# Of each crate: how many of its edits the prover has refused, a check
 def without_bodies(text):
     """What a crate above can see of a source in rt fmt's layout: all but comments, functions that are not public, and the bodies of those
     that are. (The methods of traits keep theirs.)"""
-    kept, closing, indent, has_clauses, is_hidden, owner = [], None, None, False, False, ""
+    kept, closing, indent, has_clauses, is_hidden, owner, attributes = [], None, None, False, False, "", []
     for line in text.split("\n"):
         if closing is not None:
             closing = None if line == closing else closing
             continue
         if line.lstrip().startswith("//"):
+            continue
+        if indent is None and ATTRIBUTE.match(line):
+            attributes.append(line)
             continue
         owner = line if OWNER.match(line) else "" if line == "}" else owner
         begins = FUNCTION.match(line)
@@ -48,7 +55,8 @@ def without_bodies(text):
             indent, has_clauses = begins["indent"], False
             is_hidden = not begins["public"] and (not indent or bool(OWN_METHODS.match(owner)))
         if not is_hidden:
-            kept.append(line)
+            kept += [*attributes, line]
+        attributes = []
         if indent is None:
             continue
         has_clauses = has_clauses or bool(CLAUSE.match(line))
@@ -67,25 +75,45 @@ def is_named(name, text):
     return all(re.search(rf"(?<![\w-]){re.escape(it)}(?![\w-])" if it.isidentifier() else re.escape(it), text) for it in parts)
 
 
+def in_one_line(lines):
+    """Lines of a source, with each import that is written over several in one."""
+    joined, begun = [], []
+    for line in lines:
+        if begun or line.startswith("use ") and line.endswith("{"):
+            begun.append(line.strip())
+            if line == "};":
+                joined.append(" ".join(begun).replace("{ ", "{").replace(", }", "}"))
+                begun = []
+        else:
+            joined.append(line)
+    return joined + begun
+
+
+def names_in(line):
+    """What a line declares that is not public, or imports: where it is from, and the names; None of another line."""
+    constant, module, imported = CONSTANT.match(line), MODULE.match(line), IMPORT.match(line) or USE.match(line)
+    if constant or module:
+        return line, [(constant or module)["name"]]
+    return imported and (imported["path"], (imported["names"] or imported["name"]).split(", "))
+
+
 def named_alone(lines):
-    """Lines of a source without empty ones and the constants that are not public and that no other line names, and of its imports for
-    contracts with the names alone that a line names."""
-    others = "\n".join(it for it in lines if not (CONSTANT.match(it) or IMPORT.match(it)))
+    """Lines of a source without empty ones, and of its constants, modules and imports that are not public those alone that another line
+    names."""
+    lines = in_one_line(lines)
+    others = "\n".join(it for it in lines if not names_in(it))
     kept = []
     for line in lines:
-        constant, imported = CONSTANT.match(line), IMPORT.match(line)
-        if imported:
-            names = (imported["names"] or imported["name"]).split(", ")
-            kept += [f"{imported['path']}.{it}" for it in names if is_named(it.rpartition(" as ")[2], others)]
-        elif line and not (constant and not is_named(constant["name"], others)):
-            kept.append(line)
+        path, names = names_in(line) or (line, [])
+        found = [it for it in names if is_named(it.rpartition(" as ")[2], others)]
+        kept += [f"{path} {it}" for it in found] if names else [line] if line else []
     return kept
 
 
 def seen(path):
     """What a check of a crate above can see of a file, or None where that is nothing."""
     if path.suffix == ".rt":
-        return without_bodies(path.read_text(encoding="utf-8"))
+        return without_bodies(path.read_text(encoding="utf-8")) or None
     return None if path.name in OWN_PROOF else path.read_text(encoding="utf-8")
 
 
