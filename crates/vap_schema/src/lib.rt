@@ -18,6 +18,8 @@ mod keywords;
 mod own_fault;
 mod path;
 mod place;
+mod refusals;
+mod scalars;
 mod schema;
 mod schema_fault;
 mod values;

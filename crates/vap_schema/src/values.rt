@@ -1,33 +1,30 @@
 //! The value that a document is at a type, or its first fault.
 
-ghost use Rattle.std.specs.Prelude.{◌≡◌, ◌≤◌, ◌&&◌, ◌++◌, All, IsTrue, IfOk, IfSome, OnOk, Ok, nat_le, length, drop, option_to_list};
+ghost use Rattle.std.specs.Prelude.{◌≡◌, ◌≤◌, ◌&&◌, ◌++◌, All, Bool, IsTrue, IfOk, IfSome, OnOk, Ok, nat_le, length, drop, option_to_list};
 ghost use Rattle.std.specs.List.{list_all};
-ghost use Rattle.base_containers.specs.Failures.{Answers, IfFault, made};
+ghost use Rattle.base_containers.specs.Failures.{Answers, made};
 ghost use Rattle.base_containers.specs.Gathered.{items_of, members_of, AreInOrder};
-ghost use Rattle.base_containers.specs.Numbers.{num_of};
 ghost use Rattle.base_containers.specs.Keys.{IsInKeyOrder};
-ghost use Rattle.cel_value.specs.Reading.{duration_of};
 ghost use Rattle.cel_value.specs.Fits.{fits, HasItsField};
 ghost use Rattle.cel_value.specs.declared.value.Value as V;
-ghost use Rattle.cel_value.specs.declared.cel_type.CelType.{Object as ObjectType};
+ghost use Rattle.cel_value.specs.declared.cel_type.CelType as type;
 ghost use Rattle.cel_value.specs.Greatest.{greatest_of};
 ghost use Rattle.cel_value.specs.Value.{code_points, weight_of};
 ghost use Rattle.vap_schema.specs.InStep.{first_under};
 ghost use Rattle.vap_schema.specs.Paths.{path_text};
 ghost use Rattle.vap_schema.specs.Seen.{Carries, if_all_there};
-ghost use Rattle.vap_schema.specs.Seen.{seen, seen_int, seen_text, seen_list, seen_items, seen_map};
+ghost use Rattle.vap_schema.specs.Seen.{seen, seen_list, seen_items, seen_map};
 ghost use Rattle.vap_schema.specs.Seen.{seen_entries, seen_entry, seen_object, seen_members, seen_member, seen_field};
-ghost use Rattle.vap_schema.specs.Seen.{seen_time, instant_of};
-ghost use Rattle.vap_schema.specs.Seen.{all_there, misfit, fault, within, reader_of, readers_of, is_absent};
+ghost use Rattle.vap_schema.specs.Seen.{all_there, within, reader_of, readers_of, is_absent};
 ghost use Rattle.vap_schema.specs.Entries.{entry_fits};
 
-use crate::fit_fault::{FitError, FitFault, FitFaultKind};
+use crate::fit_fault::{FitError, FitFaultKind};
 use crate::in_step::{is_at, place_from};
-use crate::path::{Path, written};
-use base_containers::{Items, Keyed, Number, Part, Text, TextMap};
-use cel_value::{
-    CelType, Field, Timestamp, Value, code_points, read_date, read_duration, read_timestamp,
-};
+use crate::path::Path;
+use crate::refusals::{check_limit, misfit, refusal};
+use crate::scalars::{bool_at, duration_at, int_at, null_at, text_at, timestamp_at};
+use base_containers::{Items, Keyed, Part, Text, TextMap};
+use cel_value::{CelType, Field, Value, code_points};
 use std::alloc::{AllocError, Global};
 
 /// The value that a document is at a type, or the first fault in document order, with its path from the name given.
@@ -44,6 +41,8 @@ pub fn fit(
     fit_at(alloc, cel_type, document, &Path::Root(root))
 }
 
+/// What a part is at a type. Each kind of type has a function of its own, so that a text or a number, of which there are most, does
+/// not pay for the room that lists and objects need.
 #[cycle(fit_at)]
 fn fit_at(
     alloc: Global,
@@ -56,13 +55,7 @@ fn fit_at(
 {
     match cel_type {
         CelType::Opaque => Ok(Value::Opaque),
-        CelType::Null => {
-            if document.is_null() {
-                Ok(Value::Null)
-            } else {
-                Err(misfit(alloc, document, path))
-            }
-        }
+        CelType::Null => null_at(alloc, document, path),
         CelType::Nullable(item) => {
             if document.is_null() {
                 Ok(Value::Null)
@@ -70,51 +63,34 @@ fn fit_at(
                 fit_at(alloc, item.get(), document, path)
             }
         }
-        CelType::Bool => match document.as_bool() {
-            Some(truth) => Ok(Value::Bool(truth)),
-            None => Err(misfit(alloc, document, path)),
-        },
-        CelType::Int => match document.as_number() {
-            Some(number) => int_value(fit_int(alloc, number, path)),
-            None => Err(misfit(alloc, document, path)),
-        },
-        CelType::Text { max } => match document.as_str() {
-            Some(text) => text_value(fit_text(alloc, *max, text, path)),
-            None => Err(misfit(alloc, document, path)),
-        },
-        CelType::Timestamp => match document.as_str() {
-            Some(text) => timestamp_value(fit_timestamp(alloc, text, path)),
-            None => Err(misfit(alloc, document, path)),
-        },
-        CelType::Duration => match document.as_str() {
-            Some(text) => duration_value(fit_duration(alloc, text, path)),
-            None => Err(misfit(alloc, document, path)),
-        },
-        CelType::List { max, item, .. } => match document.items(alloc)? {
-            Some(items) => list_value(fit_list(alloc, item.get(), *max, items.as_slice(), path)),
-            None => Err(misfit(alloc, document, path)),
-        },
-        CelType::Map { max, key_max, item } => match document.members(alloc)? {
-            Some(members) => map_value(fit_map(
-                alloc,
-                item.get(),
-                *max,
-                *key_max,
-                members.as_slice(),
-                path,
-            )),
-            None => Err(misfit(alloc, document, path)),
-        },
-        CelType::Object { fields } => match document.members(alloc)? {
-            Some(members) => object_value(fit_object(
-                alloc,
-                fields.get(),
-                members.as_slice(),
-                path,
-            )),
-            None => Err(misfit(alloc, document, path)),
-        },
+        CelType::Bool => bool_at(alloc, document, path),
+        CelType::Int => int_at(alloc, document, path),
+        CelType::Text { max } => text_at(alloc, *max, document, path),
+        CelType::Timestamp => timestamp_at(alloc, document, path),
+        CelType::Duration => duration_at(alloc, document, path),
+        CelType::List { max, item, .. } => list_at(alloc, item.get(), *max, document, path),
+        CelType::Map { max, key_max, item } => {
+            map_at(alloc, item.get(), *max, *key_max, document, path)
+        }
+        CelType::Object { fields } => object_at(alloc, fields.get(), document, path),
         CelType::Never | CelType::Uint => Err(misfit(alloc, document, path)),
+    }
+}
+
+#[cycle(fit_at)]
+fn list_at(
+    alloc: Global,
+    item_type: &CelType,
+    max: u32,
+    document: &Part<'_, '_>,
+    path: &Path<'_>,
+) -> Result<Value, FitError>
+    ensures exact { (plain : Bool) → Answers (seen (path_text path.now) (type.List max plain item_type.now) document.now) result }
+    ensures fits { (plain : Bool) → IfOk result (λ value. IsTrue (fits value (type.List max plain item_type.now))) }
+{
+    match document.items(alloc)? {
+        Some(items) => list_value(fit_list(alloc, item_type, max, items.as_slice(), path)),
+        None => Err(misfit(alloc, document, path)),
     }
 }
 
@@ -148,6 +124,27 @@ fn fit_items(
         values.push(fit_at(alloc, item_type, item, &Path::Item(path, place))?)?;
     }
     Ok(Items::from_vec(values))
+}
+
+#[cycle(fit_at)]
+fn map_at(
+    alloc: Global,
+    item_type: &CelType,
+    max: u32,
+    key_max: u32,
+    document: &Part<'_, '_>,
+    path: &Path<'_>,
+) -> Result<Value, FitError>
+    ensures exact { Answers (seen (path_text path.now) (type.Map max key_max item_type.now) document.now) result }
+    ensures fits { IfOk result (λ value. IsTrue (fits value (type.Map max key_max item_type.now))) }
+{
+    match document.members(alloc)? {
+        Some(members) => {
+            let members = members.as_slice();
+            map_value(fit_map(alloc, item_type, max, key_max, members, path))
+        }
+        None => Err(misfit(alloc, document, path)),
+    }
 }
 
 #[cycle(fit_at)]
@@ -206,6 +203,22 @@ fn fit_entry(
 }
 
 #[cycle(fit_at)]
+fn object_at(
+    alloc: Global,
+    fields: &TextMap<Field<CelType>>,
+    document: &Part<'_, '_>,
+    path: &Path<'_>,
+) -> Result<Value, FitError>
+    ensures exact { Answers (seen (path_text path.now) (type.Object fields.now) document.now) result }
+    ensures fits { IfOk result (λ value. IsTrue (fits value (type.Object fields.now))) }
+{
+    match document.members(alloc)? {
+        Some(members) => object_value(fit_object(alloc, fields, members.as_slice(), path)),
+        None => Err(misfit(alloc, document, path)),
+    }
+}
+
+#[cycle(fit_at)]
 fn fit_object(
     alloc: Global,
     fields: &TextMap<Field<CelType>>,
@@ -214,7 +227,7 @@ fn fit_object(
 ) -> Result<TextMap<Value>, FitError>
     requires { AreInOrder members.now }
     ensures exact { Answers (seen_object (readers_of fields.now) (path_text path.now) (members_of members.now)) result }
-    ensures fits { IfOk result (λ entries. IsTrue (fits (V.Object entries) (ObjectType fields.now))) }
+    ensures fits { IfOk result (λ entries. IsTrue (fits (V.Object entries) (type.Object fields.now))) }
 {
     complete(
         alloc,
@@ -238,7 +251,7 @@ fn fit_members(
 {
     let all = fields.as_slice();
     let mut place = 0;
-    let mut entries = Vec::new(alloc);
+    let mut entries = Vec::with_capacity(alloc, members.len())?;
     for member in members {
         place = place_from(all, place, member.0);
         let entry = fit_member(alloc, fields, place, member.0, &member.1, path)?;
@@ -304,30 +317,6 @@ fn fit_field(
     Ok(Some(Keyed { key, value }))
 }
 
-fn int_value(int: Result<i64, FitError>) -> Result<Value, FitError>
-    ensures { result ≡ made V.Int int }
-{
-    Ok(Value::Int(int?))
-}
-
-fn text_value(text: Result<Text, FitError>) -> Result<Value, FitError>
-    ensures { result ≡ made V.Text text }
-{
-    Ok(Value::Text(text?))
-}
-
-fn timestamp_value(timestamp: Result<Timestamp, FitError>) -> Result<Value, FitError>
-    ensures { result ≡ made V.Timestamp timestamp }
-{
-    Ok(Value::Timestamp(timestamp?))
-}
-
-fn duration_value(duration: Result<i64, FitError>) -> Result<Value, FitError>
-    ensures { result ≡ made V.Duration duration }
-{
-    Ok(Value::Duration(duration?))
-}
-
 fn list_value(items: Result<Items<Value>, FitError>) -> Result<Value, FitError>
     ensures { result ≡ made V.List items }
 {
@@ -384,7 +373,7 @@ fn complete(
 ) -> Result<TextMap<Value>, FitError>
     ensures exact { Carries entries result (if_all_there (readers_of fields.now) (path_text path.now)) }
     ensures fits { IfOk entries (All (HasItsField fields.now))
-        → IfOk result (λ es. IsTrue (fits (V.Object es) (ObjectType fields.now))) }
+        → IfOk result (λ es. IsTrue (fits (V.Object es) (type.Object fields.now))) }
 {
     let entries = entries?;
     check_all_there(alloc, fields.as_slice(), entries.as_slice(), path)?;
@@ -425,92 +414,8 @@ fn check_all_there(
     Ok(())
 }
 
-fn fit_int(alloc: Global, number: Number, path: &Path<'_>) -> Result<i64, FitError>
-    ensures { Answers (seen_int (path_text path.now) (num_of number)) result }
-{
-    match number {
-        Number::Unsigned(n) => {
-            if n <= i64::MAX as u64 {
-                Ok(n as i64)
-            } else {
-                Err(refusal(alloc, FitFaultKind::IntRange, path))
-            }
-        }
-        Number::Negative(z) => Ok(z),
-        Number::Float(_) => Err(refusal(alloc, FitFaultKind::WrongKind, path)),
-    }
-}
-
-fn fit_text(alloc: Global, max: u32, text: &str, path: &Path<'_>) -> Result<Text, FitError>
-    ensures { Answers (seen_text max (path_text path.now) text.now) result }
-{
-    check_limit(alloc, max, code_points(text), path)?;
-    Ok(Text::from_str(alloc, text)?)
-}
-
-fn fit_timestamp(alloc: Global, text: &str, path: &Path<'_>) -> Result<Timestamp, FitError>
-    ensures { Answers (seen_time (instant_of text.now) (path_text path.now)) result }
-{
-    match timestamp_or_date(text) {
-        Some(timestamp) => Ok(timestamp),
-        None => Err(refusal(alloc, FitFaultKind::WrongKind, path)),
-    }
-}
-
-/// A timestamp, or the midnight in UTC with which a date begins.
-#[tactic(auto, unfolding(crate::specs::Seen::instant_of))]
-fn timestamp_or_date(text: &str) -> Option<Timestamp>
-    ensures { result ≡ instant_of text.now }
-{
-    match read_timestamp(text) {
-        Some(timestamp) => Some(timestamp),
-        None => read_date(text),
-    }
-}
-
-fn fit_duration(alloc: Global, text: &str, path: &Path<'_>) -> Result<i64, FitError>
-    ensures { Answers (seen_time (duration_of text.now) (path_text path.now)) result }
-{
-    match read_duration(text) {
-        Some(duration) => Ok(duration),
-        None => Err(refusal(alloc, FitFaultKind::WrongKind, path)),
-    }
-}
-
 fn check_key(alloc: Global, key_max: u32, name: &str, place: &Path<'_>) -> Result<(), FitError>
     ensures { Answers (within key_max (code_points name.now) (path_text place.now)) result }
 {
     check_limit(alloc, key_max, code_points(name), place)
-}
-
-fn check_limit(alloc: Global, max: u32, length: usize, path: &Path<'_>) -> Result<(), FitError>
-    ensures { Answers (within max length (path_text path.now)) result }
-{
-    if length > max as usize {
-        return Err(refusal(alloc, FitFaultKind::OverLimit, path));
-    }
-    Ok(())
-}
-
-/// Why a document of a kind that the type does not have is refused.
-#[cold]
-fn misfit(alloc: Global, document: &Part<'_, '_>, path: &Path<'_>) -> FitError
-    ensures { IfFault (λ f. misfit (path_text path.now) document.now ≡ f) result }
-{
-    let kind = if document.is_null() {
-        FitFaultKind::NullHere
-    } else {
-        FitFaultKind::WrongKind
-    };
-    refusal(alloc, kind, path)
-}
-
-#[cold]
-fn refusal(alloc: Global, kind: FitFaultKind, path: &Path<'_>) -> FitError
-    ensures { IfFault (λ f. fault kind (path_text path.now) ≡ f) result }
-{
-    match written(alloc, path) {
-        Ok(path) => FitError::Fault(FitFault { path, kind }),
-        Err(_) => FitError::OutOfMemory,
-    }
 }

@@ -1,5 +1,5 @@
 use Rattle.std.proofs.Common.{rules}
-use Rattle.vap_schema.proofs.values.misfit.Goals as goal
+use Rattle.vap_schema.proofs.refusals.misfit.Goals as goal
 
 pub returns : goal.returns
 returns c = search rules

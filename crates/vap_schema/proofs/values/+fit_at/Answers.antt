@@ -12,12 +12,13 @@ use Rattle.base_containers.proofs.Gathers.{items_len-items_of, members_len-membe
 use Rattle.cel_value.specs.declared.value.Value as value
 use Rattle.cel_value.specs.declared.value.Value.{Value}
 use Rattle.cel_value.specs.declared.cel_type.Field.{Field}
+use Rattle.cel_value.specs.declared.cel_type.CelType as type
 use Rattle.cel_value.specs.declared.cel_type.CelType.{CelType}
 use Rattle.vap_schema.specs.InStep.{first_under}
 use Rattle.cel_value.specs.Fits.{fits, HasItsField}
 use Rattle.vap_schema.specs.Entries.{entry_fits}
 use Rattle.vap_schema.specs.Paths.{path_text}
-use Rattle.vap_schema.specs.Seen.{seen_under, seen_entries, seen_member, seen_members, reader_of, readers_of}
+use Rattle.vap_schema.specs.Seen.{seen, seen_under, seen_entries, seen_member, seen_members, reader_of, readers_of}
 use Rattle.vap_schema.proofs.Rest.{behind, behind-none, behind-all}
 use Rattle.vap_schema.proofs.Turns.{path_text-Field, path_text-Item, all_push, items_stop, items_go, items_end, entries_stop, entries_go}
 use Rattle.vap_schema.proofs.Lengths.{list_over, list_read, list_fits, map_over, map_read, map_fits}
@@ -29,26 +30,32 @@ use Rattle.vap_schema.proofs.values.+fit_at.Goals as goal
 
 -- ---- a level
 
-pub fit_at-returns-in-Some-2-clause-fits : goal.fit_at-returns-in-Some-2-clause-fits
-fit_at-returns-in-Some-2-clause-fits t c =
+pub fit_at-returns-in-List-clause-exact : goal.fit_at-returns-in-List-clause-exact
+fit_at-returns-in-List-clause-exact t c =
+    let path = path_text c.args.path.now in
+    let d = c.args.document.now in
     let max = c.in-List.max in
-    made_fits value.List c.fit_list.result c.list_value.result
-    (λ (vs : List Value). IsTrue (nat_le (length vs) max && list_all (λ v. fits v c.get-in-Some-2.result.now) vs))
-    c.args.cel_type.now c.list_value.ensures c.fit_list.ensures.fits
-    (λ vs h. subst (λ u. IsTrue (fits (value.List vs) u)) (sym c.in-List.is)
-    (fits-List max c.in-List.plain c.in-List.item vs
-    ∙ subst (λ (u : CelType). IsTrue (nat_le (length vs) max && list_all (λ v. fits v u) vs)) c.get-in-Some-2.ensures h))
+    let plain = c.in-List.plain in
+    subst (λ (u : CelType). Answers (seen path u d) c.list_at.result) (sym c.in-List.is)
+    (subst (λ (u : CelType). Answers (seen path (type.List max plain u) d) c.list_at.result) c.get-in-List.ensures
+    (c.list_at.ensures.exact plain))
 
-pub fit_at-returns-in-Some-3-clause-fits : goal.fit_at-returns-in-Some-3-clause-fits
-fit_at-returns-in-Some-3-clause-fits t c =
-    let max = c.in-Map.max in
-    let key_max = c.in-Map.key_max in
+pub list_at-returns-in-Some-clause-fits : goal.list_at-returns-in-Some-clause-fits
+list_at-returns-in-Some-clause-fits t c = λ plain.
+    let max = c.args.max in
+    let item = c.args.item_type.now in
+    made_fits value.List c.fit_list.result c.list_value.result
+    (λ (vs : List Value). IsTrue (nat_le (length vs) max && list_all (λ v. fits v item) vs))
+    (type.List max plain item) c.list_value.ensures c.fit_list.ensures.fits (λ vs h. fits-List max plain item vs ∙ h)
+
+pub map_at-returns-in-Some-clause-fits : goal.map_at-returns-in-Some-clause-fits
+map_at-returns-in-Some-clause-fits t c =
+    let max = c.args.max in
+    let key_max = c.args.key_max in
+    let item = c.args.item_type.now in
     made_fits value.Map c.fit_map.result c.map_value.result
-    (λ (es : List (Keyed Value)). IsTrue (nat_le (length es) max && list_all (entry_fits key_max c.get-in-Some-3.result.now) es))
-    c.args.cel_type.now c.map_value.ensures c.fit_map.ensures.fits
-    (λ es h. subst (λ u. IsTrue (fits (value.Map es) u)) (sym c.in-Map.is)
-    (fits-Map max key_max c.in-Map.item es
-    ∙ subst (λ (u : CelType). IsTrue (nat_le (length es) max && list_all (entry_fits key_max u) es)) c.get-in-Some-3.ensures h))
+    (λ (es : List (Keyed Value)). IsTrue (nat_le (length es) max && list_all (entry_fits key_max item) es))
+    (type.Map max key_max item) c.map_value.ensures c.fit_map.ensures.fits (λ es h. fits-Map max key_max item es ∙ h)
 
 -- ---- lists
 
@@ -230,18 +237,18 @@ fit_field-returns-in_err-value-clause-exact t c =
 
 pub fit_members-loop-member-init : goal.fit_members-loop-member-init
 fit_members-loop-member-init t c =
-    let none = c.new-entries.ensures.items in record {
+    let none = c.in_ok-entries.ensures.items in record {
       within = omega arith;
       ordered = names_in_order c.args.members.now c.requires;
       exact = rw none (sym (behind-none _));
-      fits = All-same (HasItsField c.args.fields.now) c.new-entries.result.items [] none (All-nil (HasItsField c.args.fields.now));
+      fits = All-same (HasItsField c.args.fields.now) c.in_ok-entries.entries.items [] none (All-nil (HasItsField c.args.fields.now));
     }
 
 pub fit_members-returns-in_err-entry-clause-exact : goal.fit_members-returns-in_err-entry-clause-exact
 fit_members-returns-in_err-entry-clause-exact t c =
     let path = path_text c.args.path.now in
     let members = c.args.members.now in
-    let p = err_from_is_err_and c.from_residual.result c.from_residual.ensures.1 in
+    let p = err_from_is_err_and c.from_residual-in_err-entry.result c.from_residual-in_err-entry.ensures.1 in
     let all = c.as_slice-all in
     let found = c.place_from-place in
     let l = c.loop-member in
