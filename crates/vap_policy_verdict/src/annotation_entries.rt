@@ -11,7 +11,7 @@ use std::alloc::{AllocError, Global};
 /// Room for most keys.
 const KEY_ROOM: usize = 64;
 
-/// The key of a note. (It is pushed piece by piece, since each review may have many of them, and formatting takes several times as long.)
+/// The key of a note. (It is pushed piece by piece and not formatted, since a review may have many of them.)
 fn key_of(alloc: Global, note: &Note) -> Result<Text, AllocError>
     ensures { IfOk result (λ key. key ≡ key_of note.now) }
 {

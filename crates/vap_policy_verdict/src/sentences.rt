@@ -35,8 +35,8 @@ pub fn reason_name(reason: Reason) -> &'static str
     }
 }
 
-/// A sentence about a failure: what is said before its policy and behind its binding, and its message. (It is pushed piece by piece,
-/// since a review may have many of them, and formatting takes several times as long.)
+/// A sentence about a failure: what is said before its policy and behind its binding, and its message. (It is pushed piece by piece and
+/// not formatted, since a review may have many of them.)
 fn sentence(
     alloc: Global,
     before: &str,
