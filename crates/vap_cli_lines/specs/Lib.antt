@@ -1,3 +1,4 @@
 pub mod Faults
+pub mod Judged
 pub mod Lines
 pub mod LineQueues

@@ -1,6 +1,6 @@
 //! What a line of a stream is.
 
-ghost use Rattle.std.specs.Prelude.{◌≡◌, ◌≤◌, length, IfOk, Result, Some, false};
+ghost use Rattle.std.specs.Prelude.{◌≡◌, ◌≤◌, length, IfOk, IfSome, Result, Some, false};
 ghost use Rattle.serde_json.specs.Data.{Data};
 ghost use Rattle.serde_json.specs.Read.{read};
 ghost use Rattle.serde_json.specs.View.{view};
@@ -11,9 +11,11 @@ ghost use Rattle.vap_read.specs.declared.event.Event.{Event as EventOf};
 ghost use Rattle.vap_read.specs.declared.event_fault.EventFault.{EventFault as EventFaultOf};
 ghost use Rattle.vap_read.specs.declared.line.LineKind.TheVariants.{WatchEvent, ObjectList};
 ghost use Rattle.vap_match.specs.RequestReading.{read_review as review_of};
+ghost use Rattle.vap_cli_lines.specs.Judged.{IsJudgedAt, IsOfReview};
 ghost use Rattle.vap_cli_lines.specs.Lines.{Reads, event_line, is_blank, line_of, review_line};
 
 use crate::fault::LineFault;
+use crate::judging::{Judge, ReadLine, judged};
 use base_containers::{Part, opened};
 use json::Scratch;
 use serde_json::Value as Json;
@@ -38,20 +40,23 @@ fn is_blank(bytes: &[u8]) -> bool
     bytes.is_empty() || bytes == b"\r".as_slice()
 }
 
-/// What the bytes of a line are; there are no more of them than a line may have.
+/// What the bytes of a line are, and the verdict on it if it is a review and is to be judged; there are no more bytes than a line may
+/// have.
 pub(crate) fn read_line(
     alloc: Global,
     events: &EventReader,
     bytes: &[u8],
     scratch: &mut Scratch,
-) -> Result<Line, AllocError>
+    judge: Option<Judge<'_>>,
+) -> Result<ReadLine, AllocError>
     requires { length bytes.now ≤ longest_line }
-    ensures { IfOk result (Reads bytes.now) }
+    ensures line { IfOk result (λ read. Reads bytes.now read.line) }
+    ensures judged { IfSome judge.entry (λ j. IfOk result (λ read. IsJudgedAt j.snapshot.now read.line read.verdict)) }
 {
     if is_blank(bytes) {
-        Ok(Line::Skipped)
+        Ok(ReadLine::new(Line::Skipped))
     } else {
-        read_bytes(alloc, events, bytes, scratch)
+        read_bytes(alloc, events, bytes, scratch, judge)
     }
 }
 
@@ -60,14 +65,16 @@ fn read_bytes(
     events: &EventReader,
     bytes: &[u8],
     scratch: &mut Scratch,
-) -> Result<Line, AllocError>
+    judge: Option<Judge<'_>>,
+) -> Result<ReadLine, AllocError>
     requires short { length bytes.now ≤ longest_line }
     requires some { is_blank bytes.now ≡ false }
-    ensures { IfOk result (Reads bytes.now) }
+    ensures line { IfOk result (λ read. Reads bytes.now read.line) }
+    ensures judged { IfSome judge.entry (λ j. IfOk result (λ read. IsJudgedAt j.snapshot.now read.line read.verdict)) }
 {
     match std::str::from_utf8(bytes) {
-        Ok(text) => read_text(alloc, events, text, scratch),
-        Err(_) => Ok(Line::Refused(LineFault::BadJson)),
+        Ok(text) => read_text(alloc, events, text, scratch, judge),
+        Err(_) => Ok(ReadLine::new(Line::Refused(LineFault::BadJson))),
     }
 }
 
@@ -76,14 +83,21 @@ fn read_text(
     events: &EventReader,
     text: &str,
     scratch: &mut Scratch,
-) -> Result<Line, AllocError>
+    judge: Option<Judge<'_>>,
+) -> Result<ReadLine, AllocError>
     requires short { length text.now ≤ longest_line }
     requires some { is_blank text.now ≡ false }
-    ensures { IfOk result (Reads text.now) }
+    ensures line { IfOk result (λ read. Reads text.now read.line) }
+    ensures judged { IfSome judge.entry (λ j. IfOk result (λ read. IsJudgedAt j.snapshot.now read.line read.verdict)) }
 {
     match opened(alloc, text, scratch)? {
-        Some(tape) => read_opened(alloc, events, text, &Part::new(tape.root())),
-        None => Ok(Line::Refused(LineFault::BadJson)),
+        Some(tape) => {
+            let document = Part::new(tape.root());
+            let line = read_opened(alloc, events, text, &document)?;
+            let verdict = judged(alloc, &line, document, judge);
+            Ok(ReadLine { line, verdict })
+        }
+        None => Ok(ReadLine::new(Line::Refused(LineFault::BadJson))),
     }
 }
 
@@ -97,7 +111,8 @@ fn read_opened(
     requires short { length text.now ≤ longest_line }
     requires some { is_blank text.now ≡ false }
     requires spelled { read text.now ≡ Some document.now }
-    ensures { IfOk result (Reads text.now) }
+    ensures reads { IfOk result (Reads text.now) }
+    ensures review { IfOk result (λ line. IsOfReview line document.now) }
 {
     read_document(alloc, events, text, document)
 }

@@ -3,16 +3,20 @@
 ghost use Rattle.std.specs.Prelude.{◌≡◌, ◌<◌, ◌≤◌, ◌==◌, [], length, IfOk, IsErrOf, OnOk};
 ghost use Rattle.base_containers.specs.Counted.{failures_of, inner_of};
 ghost use Rattle.base_containers.specs.Lines.{AllGive, IsCutOff, IsFirst, IsLine, empty_reads, longest_line, room, unread};
+ghost use Rattle.vap_cli_lines.specs.Judged.{IsJudgedAt};
 ghost use Rattle.vap_cli_lines.specs.Lines.{Reads};
 
+use crate::judging::{Judge, ReadLine};
 use crate::line::{Line, read_line};
 use base_containers::{Counted, Ending, LineError, LineReader};
+use cel_machine::Matchers;
 use json::Scratch;
 use std::alloc::{AllocError, Global};
 use std::io::Read;
 use std::marker::Model;
 use std::mem;
 use vap_read::EventReader;
+use vap_watch::Snapshot;
 
 /// A line, which contracts see as its bytes, and what they are, if that is known.
 #[derive(Drop)]
@@ -46,19 +50,21 @@ impl QueuedLine {
         ensures { self.new ≡ self.old }
     {
         let bytes = self.bytes.as_slice();
-        if let Ok(line) = read_line(alloc, events, bytes, scratch) {
-            self.line = Some(line);
+        if let Ok(read) = read_line(alloc, events, bytes, scratch, None) {
+            self.line = Some(read.line);
         }
     }
 }
 
-/// The line that is taken, which contracts see as its bytes: what they are, if that is known, and the room in which they are opened.
+/// The line that is taken, which contracts see as its bytes: what they are, if that is known, the room in which they are opened, and the
+/// patterns that judging keeps.
 #[derive(Drop)]
 pub struct LineBuffer {
     alloc: Global,
     bytes: Vec<u8>,
     line: Option<Line>,
     scratch: Scratch,
+    matchers: Matchers,
 }
 
 impl Model for LineBuffer {
@@ -82,6 +88,7 @@ impl LineBuffer {
             bytes: Vec::new(alloc),
             line: None,
             scratch: Scratch::new(alloc),
+            matchers: Matchers::new(alloc),
         }
     }
 
@@ -99,7 +106,35 @@ impl LineBuffer {
     {
         match mem::replace(&mut self.line, None) {
             Some(line) => Ok(line),
-            None => read_line(self.alloc, events, self.bytes.as_slice(), &mut self.scratch),
+            None => {
+                let bytes = self.bytes.as_slice();
+                let read = read_line(self.alloc, events, bytes, &mut self.scratch, None)?;
+                Ok(read.line)
+            }
+        }
+    }
+
+    /// What the bytes of a line are, as [`LineBuffer::read`] answers it, and if it is a review, what judging it at a snapshot gives. A
+    /// line that was read before its turn is not judged.
+    pub fn read_judged(
+        &mut self,
+        events: &EventReader,
+        snapshot: &Snapshot,
+    ) -> Result<ReadLine, AllocError>
+        requires { length self.old ≤ longest_line }
+        ensures line { IfOk result (λ read. Reads self.old read.line) }
+        ensures judged { IfOk result (λ read. IsJudgedAt snapshot.now read.line read.verdict) }
+    {
+        match mem::replace(&mut self.line, None) {
+            Some(line) => Ok(ReadLine::new(line)),
+            None => {
+                let judge = Judge {
+                    snapshot,
+                    matchers: &mut self.matchers,
+                };
+                let bytes = self.bytes.as_slice();
+                read_line(self.alloc, events, bytes, &mut self.scratch, Some(judge))
+            }
         }
     }
 

@@ -1,7 +1,7 @@
 -- What the lines of each kind result in.
-use Rattle.std.proofs.Common.{◌≡◌, ℕ, ◌+◌, ◌<◌, ◌≤◌, List, [], ◌∷◌, ◌++◌, length, Option, Result, Ok, Err}
-use Rattle.std.proofs.Common.{sym, ap, ◌∙◌, append_assoc, arith, length-append}
-use Rattle.std.specs.Prelude.{OnOk}
+use Rattle.std.proofs.Common.{◌≡◌, ◌⊎◌, inl, inr, ℕ, ◌+◌, ◌<◌, ◌≤◌, List, [], ◌∷◌, ◌++◌, length, Option, Some, Result, Ok, Err}
+use Rattle.std.proofs.Common.{refl, sym, ap, subst, ◌∙◌, append_assoc, arith, length-append}
+use Rattle.std.specs.Prelude.{IfSome, OnOk}
 use Rattle.std.specs.Io.KnownBytes.{Appends}
 use Rattle.vap_read.specs.declared.event.Event.{Event}
 use Rattle.vap_match.specs.declared.request.Request.{Request}
@@ -11,17 +11,79 @@ use Rattle.vap_watch.specs.Places.{Written}
 use Rattle.vap_watch.specs.declared.log.Logged.{Logged}
 use Rattle.vap_audit.specs.Entries.{most_entries}
 use Rattle.vap_audit.specs.declared.entry.Entry.{Entry}
+use Rattle.vap_audit.specs.Verdicts.{verdict_at}
+use Rattle.vap_policy_verdict.specs.declared.verdict.Verdict.{Verdict}
+use Rattle.vap_plane.specs.Answers.{verdicts_at}
 use Rattle.vap_cli_replay.specs.Moves.{IsRefusal, RefusesAt, Takes}
 use Rattle.vap_cli_replay.specs.Replay.{answers_text, entry_of}
-use Rattle.vap_cli_replay.specs.Sessions.{Answered, HasRoom, IsInStep, RefusesEvent, TakesEvent, TakesReview}
+use Rattle.vap_cli_replay.specs.Sessions.{AreJudged, Answered, HasRoom, IsInStep, RefusesEvent, TakesEvent, TakesReview}
 use Rattle.vap_cli_replay.specs.Sessions.{group_entries, sofar_of, waiting_entries}
 use Rattle.vap_cli_lines.specs.declared.fault.LineFault.{LineFault}
 use Rattle.vap_cli_lines.specs.declared.fault.LineFault.TheVariants as fault
 use Rattle.vap_cli_lines.specs.declared.line.Line.TheVariants.{Happens, Asks, Refused}
 use Rattle.vap_cli_replay.specs.declared.session.Session.{Session}
-use Rattle.vap_cli_replay.proofs.Groups.{group_last, group_length}
+use Rattle.vap_cli_replay.proofs.Groups.{group_last, group_length, one_judged}
 use Rattle.vap_cli_replay.proofs.Taking.{event_refused, review_refused, took_event}
 use Rattle.vap_cli_replay.proofs.Told.{none_waiting}
+
+-- ---- verdicts that are kept
+
+nothing_kept : (verdicts : List Verdict) → length verdicts ≡ 0 → verdicts ≡ []
+nothing_kept [] none = refl
+nothing_kept (v ∷ verdicts) none = cc
+
+-- if no review waits, none is judged
+pub none_judged : (s : Session) → s.group.items ≡ [] → AreJudged s
+none_judged s none = λ same.
+    nothing_kept s.verdicts.items (same ∙ ap (λ (rs : List Request). length rs) none)
+    ∙ ap (λ (rs : List Request). verdicts_at s.writer.published rs) (sym none)
+
+-- a verdict that is put behind those on the others
+behind_others : (log : List Logged) (requests more : List Request) (request : Request) (before after : List Verdict) (count : ℕ)
+    (verdict : Option Verdict) → (length before ≡ length requests → before ≡ verdicts_at log requests) → count ≡ length requests
+    → more ≡ requests ++ request ∷ [] → IfSome verdict (λ v. v ≡ verdict_at log request)
+    → ((after ≡ []) ⊎ ((v : Verdict) × (verdict ≡ Some v) × (length before ≡ count) × (after ≡ before ++ v ∷ [])))
+    → length after ≡ length more → after ≡ verdicts_at log more
+behind_others log requests more request before after count verdict judged counted grown right (inl none) same =
+    let one : length more ≡ length requests + 1 =
+    ap (λ (rs : List Request). length rs) grown ∙ length-append requests (request ∷ []) in
+    let zero : length after ≡ 0 = ap (λ (vs : List Verdict). length vs) none in
+    absurd (omega (arith, one, zero, same))
+behind_others log requests more request before after count verdict judged counted grown right (inr kept) same =
+    let is : kept.0 ≡ verdict_at log request = subst (λ (o : Option Verdict). IfSome o (λ v. v ≡ verdict_at log request)) kept.1 right in
+    kept.3 ∙ (one_judged log requests request before kept.0 (judged (kept.2 ∙ counted)) is
+    ∙ ap (λ (rs : List Request). verdicts_at log rs) (sym grown))
+
+judged_last : (old new : Session) (request : Request) (verdict : Option Verdict) (count : ℕ) → AreJudged old
+    → new.writer ≡ old.writer → count ≡ length old.group.items → new.group.items ≡ old.group.items ++ request ∷ []
+    → IfSome verdict (λ v. v ≡ verdict_at old.writer.published request)
+    → ((new.verdicts.items ≡ []) ⊎ ((v : Verdict) × (verdict ≡ Some v) × (length old.verdicts.items ≡ count)
+    × (new.verdicts.items ≡ old.verdicts.items ++ v ∷ [])))
+    → AreJudged new
+judged_last old new request verdict count judged writer counted grown right kept = λ same.
+    behind_others old.writer.published old.group.items new.group.items request old.verdicts.items new.verdicts.items count verdict
+    judged counted grown right kept same
+    ∙ ap (λ (w : Written). verdicts_at w.published new.group.items) (sym writer)
+
+-- ---- room
+
+-- a review that waits as the last has room, with its verdict or without
+pub waits_room : (old new : Session) (request : Request) (verdict : Option Verdict) (count : ℕ) → IsInStep old
+    → length old.history + length old.group.items < most_entries → new.writer ≡ old.writer → new.history ≡ old.history
+    → count ≡ length old.group.items → new.group.items ≡ old.group.items ++ request ∷ []
+    → IfSome verdict (λ v. v ≡ verdict_at old.writer.published request)
+    → ((new.verdicts.items ≡ []) ⊎ ((v : Verdict) × (verdict ≡ Some v) × (length old.verdicts.items ≡ count)
+    × (new.verdicts.items ≡ old.verdicts.items ++ v ∷ [])))
+    → HasRoom new
+waits_room old new request verdict count step room writer history counted grown right kept =
+    let one : length new.group.items ≡ length old.group.items + 1 =
+    ap (λ (rs : List Request). length rs) grown ∙ length-append old.group.items (request ∷ []) in
+    let same : length new.history ≡ length old.history = ap (λ (es : List Entry). length es) history in
+    record {
+      few = omega (arith, one, step.few);
+      room = omega (arith, one, same, room);
+      judged = judged_last old new request verdict count step.judged writer counted grown right kept;
+    }
 
 -- after an answered group there is room as before
 pub answered_step : (old new : Session) → HasRoom old → Answered old new → new.writer.staged ≡ [] → IsInStep new
@@ -31,7 +93,12 @@ answered_step old new room done published =
     ap (λ (l : List Entry). length l) done.entries
     ∙ (length-append old.history (waiting_entries old)
     ∙ ap (λ (n : ℕ). length old.history + n) (group_length old.writer.published (length old.history) old.group.items)) in
-    record { published = published; few = omega (arith, none); room = omega (arith, none, longer, room.room) }
+    record {
+      published = published;
+      few = omega (arith, none);
+      room = omega (arith, none, longer, room.room);
+      judged = none_judged new done.none;
+    }
 
 -- how many entries there are if the group is taken as answered
 pub entries_length : (s : Session) → length (sofar_of s).entries ≡ length s.history + length s.group.items
@@ -71,7 +138,12 @@ event_step (Ok x) one two new done room rest published =
     let none : length new.group.items ≡ 0 = ap (λ (l : List Request). length l) empty in
     let longer : length new.history ≡ length one.history + length one.group.items =
     ap (λ (l : List Entry). length l) (rest.0 ∙ done.entries) ∙ entries_length one in
-    record { published = published; few = omega (arith, none); room = omega (arith, none, longer, room) }
+    record {
+      published = published;
+      few = omega (arith, none);
+      room = omega (arith, none, longer, room);
+      judged = none_judged new empty;
+    }
 event_step (Err e) one two new done room rest published = tt
 
 -- an event is refused after an answered group

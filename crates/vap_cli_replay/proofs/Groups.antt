@@ -1,6 +1,7 @@
 -- A group, one request further.
 use Rattle.std.proofs.Common.{◌≡◌, ◌≢◌, ℕ, ◌+◌, ◌≤◌, List, [], ◌∷◌, ◌++◌, Some, length, refl, sym, ap, ◌∙◌}
 use Rattle.std.proofs.Common.{append_assoc, add-zero, suc, arith}
+use mathlib.Core.List.{map-append}
 use Rattle.std.specs.Prelude.{slice_get}
 use Rattle.vap_match.specs.declared.request.Request.{Request}
 use Rattle.vap_policy_verdict.specs.declared.verdict.Verdict.{Verdict}
@@ -76,6 +77,13 @@ pub none_asked : (log : List Logged) (requests : List Request) (verdicts : List 
     → verdicts ≡ verdicts_at log requests
 none_asked log [] verdicts none is = is
 none_asked log (r ∷ requests) verdicts none is = cc
+
+-- the verdicts on some requests and one more
+pub one_judged : (log : List Logged) (requests : List Request) (request : Request) (verdicts : List Verdict) (v : Verdict)
+    → verdicts ≡ verdicts_at log requests → v ≡ verdict_at log request → verdicts ++ v ∷ [] ≡ verdicts_at log (requests ++ request ∷ [])
+one_judged log requests request verdicts v are is =
+    ap (λ (vs : List Verdict). vs ++ v ∷ []) are
+    ∙ (ap (λ (w : Verdict). verdicts_at log requests ++ w ∷ []) is ∙ sym (map-append (verdict_at log) requests (request ∷ [])))
 
 -- the verdicts that are left are those on the requests that are left
 pub verdicts_next : (log : List Logged) (left rest : List Request) (request : Request) (all more : List Verdict) (v : Verdict)

@@ -8,6 +8,7 @@ use Rattle.base_containers.specs.declared.counted.Counted.{Counted}
 use Rattle.vap_audit.specs.declared.entry.Entry.{Entry}
 use Rattle.vap_cli_replay.specs.Moves.{RefusesNext, StopsAt, Writes}
 use Rattle.vap_cli_replay.specs.Replay.{answers_text}
+use Rattle.vap_cli_replay.specs.Sessions.{waiting_entries}
 use Rattle.vap_cli_replay.specs.Streams.{Refuses, Stops}
 use Rattle.vap_cli_lines.specs.declared.fault.LineFault.{LineFault}
 use Rattle.vap_cli_replay.specs.declared.fault.ReplayError.{ReplayError}
@@ -58,6 +59,13 @@ stops_unless_written r (Ok x) e contents session before after failed is at = tt
 stops_unless_written (Ok x) (Err f) e contents session before after failed is at = cc
 stops_unless_written (Err d) (Err f) e contents session before after failed is at =
     λ not. stops_here contents session before after (at (λ write. not (let same : f ≡ Write = cc in same)))
+
+-- a call that ends by an error behind an answered group stops behind its answers
+pub stops_answered : {A W : Type 0} (r : Result A ReplayError) (contents : W → Option (List ℕ)) (session : Session)
+    (before after : Counted W) → Appends (contents (inner_of before)) (contents (inner_of after)) (answers_text (waiting_entries session))
+    → IfErr r (λ error. error ≢ Write → StopsAt contents session before after)
+stops_answered (Ok x) contents session before after written = tt
+stops_answered (Err e) contents session before after written = λ not. stops_behind contents session before after written
 
 -- the replay stops after what was taken
 pub stopped_next : {W : Type 0} (contents : W → Option (List ℕ)) (audit : Bool) (all text : Option (List ℕ)) (session : Session)

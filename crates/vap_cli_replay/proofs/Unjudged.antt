@@ -3,7 +3,7 @@ use Rattle.std.proofs.Common.{◌≡◌, ◌≢◌, ◌⊎◌, inl, inr, ℕ, �
 use Rattle.std.proofs.Common.{true, refl, sym, ap, ◌∙◌, subst, arith}
 use Rattle.std.specs.Prelude.{OnOk, IfSome}
 use Rattle.std.specs.Io.KnownBytes.{Appends}
-use Rattle.std.proofs.lemmas.List.Elements.{Contains-append_left, Contains-push_cases}
+use Rattle.std.proofs.lemmas.List.Elements.{Contains-append_left, Contains-push, Contains-push_cases}
 use Rattle.vap_read.specs.Reading.{read_line}
 use Rattle.vap_read.specs.Lines.{line_kind}
 use Rattle.vap_read.specs.declared.event.Event.{Event}
@@ -76,6 +76,15 @@ one_more_waits old request one = record {
   request = one.request;
   waits = Contains-append_left old.group.items (request ∷ []) one.request one.waits;
   matches = one.matches;
+}
+
+-- what is looked for at the review that was read last is looked for at one of those that wait with it
+pub last_looks : (old : Session) (request : Request) → MayMatch (set_of old.writer.published) request
+    → OneMayMatch old.writer.published (old.group.items ++ request ∷ [])
+last_looks old request matches = record {
+  request = request;
+  waits = Contains-push old.group.items request;
+  matches = matches;
 }
 
 -- the same if the last of the group waits with the others

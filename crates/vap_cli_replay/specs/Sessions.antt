@@ -8,6 +8,7 @@ use Rattle.vap_watch.specs.Logs.{objects_of, publication}
 use Rattle.vap_watch.specs.Places.{most_events}
 use Rattle.vap_watch.specs.declared.log.Logged.{Logged}
 use Rattle.vap_audit.specs.Entries.{most_entries}
+use Rattle.vap_plane.specs.Answers.{verdicts_at}
 use Rattle.vap_audit.specs.declared.entry.Entry.{Entry}
 use Rattle.vap_cli_replay.specs.Groups.{TellsRequests}
 use Rattle.vap_cli_replay.specs.Replay.{Choices, Sofar, beginning, entry_of}
@@ -46,16 +47,22 @@ sofar_of s = record {
 abbrev pub largest_group : ℕ
 largest_group = 1024
 
+-- as many verdicts as reviews that wait are the verdicts on these
+abbrev pub AreJudged : Session → Type 0
+AreJudged s = length s.verdicts.items ≡ length s.group.items → s.verdicts.items ≡ verdicts_at s.writer.published s.group.items
+
 -- the group is no larger than it may be, and the history has room for it
 pub record HasRoom (s : Session) : Type 0 where
   pub few : length s.group.items ≤ largest_group
   pub room : length s.history + length s.group.items ≤ most_entries
+  pub judged : AreJudged s
 
 -- nothing is staged, the group is not yet as large as it may be, and the history has room for it
 pub record IsInStep (s : Session) : Type 0 where
   pub published : s.writer.staged ≡ []
   pub few : length s.group.items < largest_group
   pub room : length s.history + length s.group.items ≤ most_entries
+  pub judged : AreJudged s
 
 -- nothing is read, published or decided
 pub record IsOpening (s : Session) : Type 0 where

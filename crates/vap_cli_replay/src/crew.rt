@@ -254,7 +254,7 @@ fn unjudged(
 }
 
 /// A request that is given up, which is reported at a line.
-fn given_up(line: u64, error: JudgeError) -> ReplayError
+pub(crate) fn given_up(line: u64, error: JudgeError) -> ReplayError
     ensures pattern { (number : ℕ) → (why : FaultOf) → result ≡ ReplayError.Line number why → (number ≡ line) × (why ≡ LineFault.Pattern) }
     ensures told { (number : ℕ) → (why : FaultOf) → result ≡ ReplayError.Line number why → error ≡ Fault Pattern }
     ensures unwritten { result ≢ ReplayError.Write }

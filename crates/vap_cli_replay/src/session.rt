@@ -1,7 +1,7 @@
 //! A replay under way.
 
 ghost use Rattle.std.specs.Prelude.{◌≡◌, ◌≢◌, ◌+◌, ◌<◌, ◌≤◌, ◌^◌, ◌∷◌, ◌++◌, ℕ, [], false, true};
-ghost use Rattle.std.specs.Prelude.{length, take, slice_get, Some, IfErr, IfOk, IsErr, IsErrOf, OnOk};
+ghost use Rattle.std.specs.Prelude.{length, take, slice_get, Ok, Err, Some, ◌⊎◌, IfErr, IfOk, IfSome, IsErr, IsErrOf, OnOk};
 ghost use Rattle.std.specs.Io.KnownBytes.{Appends, Keeps};
 ghost use Rattle.std.specs.Vec.Iter.{into_iter_items};
 ghost use Rattle.base_containers.specs.Counted.{inner_of};
@@ -11,19 +11,23 @@ ghost use Rattle.vap_plane.specs.Answers.{verdicts_at};
 ghost use Rattle.vap_watch.specs.Given.{AreUnverified};
 ghost use Rattle.vap_watch.specs.Logs.{objects_after, objects_of};
 ghost use Rattle.vap_audit.specs.Verdicts.{verdict_at};
+ghost use Rattle.vap_policy_verdict.specs.declared.verdict.Verdict.{Verdict as VerdictOf};
 ghost use Rattle.vap_cli_replay.specs.Moves.{CountsWrites, IsRefusal, IsUnjudged, IsUnpublished, RefusesAt, StopsAt, Takes, Waits, Writes};
 ghost use Rattle.vap_cli_replay.specs.Streams.{IsPlain, is_of_the_lines};
 ghost use Rattle.vap_cli_lines.specs.declared.fault.LineFault.{LineFault as FaultOf};
 ghost use Rattle.vap_cli_replay.specs.Replay.{answer_line, answers_text, audit_line, audit_lines, audit_where, entry_of};
 ghost use Rattle.vap_cli_replay.specs.Groups.{OneMayMatch};
 ghost use Rattle.vap_cli_replay.specs.Sessions.{Answered, Decided, HasRoom, IsInStep, IsOpening, RefusesEvent, TakesEvent, TakesReview};
-ghost use Rattle.vap_cli_replay.specs.Sessions.{TellsGroup, first_with, group_entries, sofar_of, waiting_entries};
+ghost use Rattle.vap_cli_replay.specs.Sessions.{AreJudged, TellsGroup, first_with, group_entries, sofar_of, waiting_entries};
+ghost use Rattle.vap_cli_lines.specs.Judged.{IsJudged, IsJudgedAt};
+ghost use Rattle.cel_machine.specs.declared.fault.RunFault.TheVariants.{Pattern};
+ghost use Rattle.base_containers.specs.declared.failed.Failed.TheVariants.{Fault};
 
 use crate::audit_line::with_audit_text;
-use crate::crew::Crew;
+use crate::crew::{Crew, given_up};
 use crate::fault::{ReplayError, unpublished, unstaged};
 use base_containers::Counted;
-use std::alloc::Global;
+use std::alloc::{AllocError, Global};
 use std::io::Write;
 use std::mem;
 use std::sync::Wait;
@@ -33,6 +37,7 @@ use vap_audit::{AuditFault, Entry, History, MOST_ENTRIES};
 use vap_cli_lines::{Line, LineFault};
 use vap_match::Request;
 use vap_plane::Plan;
+use vap_policy::JudgeError;
 use vap_policy_verdict::{Verdict, with_answer};
 use vap_read::{Event, EventReader};
 use vap_watch::Writer;
@@ -40,7 +45,8 @@ use vap_watch::Writer;
 /// The most reviews that are judged together.
 pub const LARGEST_GROUP: usize = 1_024;
 
-/// How many are enough for one thread: what it has read is then still in the processor's caches when it is judged.
+/// How many are enough for one thread, which has judged them where it read them: they are then still in the processor's caches when they
+/// are answered.
 const ENOUGH_FOR_ONE: usize = 64;
 
 /// From how many bytes on the lines of the audit are written, in one write.
@@ -51,13 +57,15 @@ const FULL_TEXT: usize = 65_536;
 const LINE_ROOM: usize = 1_024;
 
 /// A replay under way: what reads its events, what is published, what was decided, by call, and the reviews that are read and not
-/// yet answered, with the line of the first of them. It is not `Drop`: give it up by [`Session::end`].
+/// yet answered, with the verdicts on them if they were judged where they were read, and the line of the first of them. It is not
+/// `Drop`: give it up by [`Session::end`].
 pub(crate) struct Session {
     alloc: Global,
     events: EventReader,
     pub(crate) writer: Writer,
     pub(crate) history: History,
     pub(crate) group: Vec<Request>,
+    pub(crate) verdicts: Vec<Verdict>,
     pub(crate) lines: u64,
     pub(crate) first: u64,
 }
@@ -74,6 +82,7 @@ impl Session {
             writer,
             history: History::new(alloc),
             group: Vec::new(alloc),
+            verdicts: Vec::new(alloc),
             lines: 0,
             first: 0,
         }
@@ -89,6 +98,7 @@ impl Session {
             writer,
             history,
             group: _group,
+            verdicts: _verdicts,
             lines: _,
             first: _,
         } = self;
@@ -110,14 +120,17 @@ impl Session {
         }
     }
 
-    /// Takes one line more: an event when the reviews before it are answered, a review into the group.
+    /// Takes one line more, with what judging it gave if that was done: an event when the reviews before it are answered, a review into
+    /// the group.
     pub(crate) fn take<L: Plan + Send + Sync, H: Threads + Wait + Sync, W: Write>(
         &mut self,
         crew: &mut Crew<'_, L, H>,
         line: Line,
+        verdict: Option<Result<Verdict, JudgeError>>,
         out: &mut Counted<W>,
     ) -> Result<(), ReplayError>
         requires step { IsInStep self.old }
+        requires judged { IsJudgedAt self.old.writer.published line verdict }
         requires home { crew.old.home.board ≡ self.old.writer.board }
         requires count { self.old.lines + 1 < 2 ^ 64 }
         ensures home { OnOk result (crew.new.home.board ≡ self.new.writer.board) }
@@ -138,7 +151,7 @@ impl Session {
         self.lines += 1;
         match line {
             Line::Skipped => Ok(()),
-            Line::Asks(request) => self.take_review(crew, request, out),
+            Line::Asks(request) => self.take_review(crew, request, verdict, out),
             Line::Happens(event) => {
                 self.answer_group(crew, out)?;
                 self.take_event(crew.rt, event)
@@ -207,9 +220,11 @@ impl Session {
         &mut self,
         crew: &mut Crew<'_, L, H>,
         request: Request,
+        verdict: Option<Result<Verdict, JudgeError>>,
         out: &mut Counted<W>,
     ) -> Result<(), ReplayError>
         requires step { IsInStep self.old }
+        requires judged { IsJudged self.old.writer.published request verdict }
         requires home { crew.old.home.board ≡ self.old.writer.board }
         ensures home { OnOk result (crew.new.home.board ≡ self.new.writer.board) }
         ensures step { OnOk result (IsInStep self.new) }
@@ -234,7 +249,8 @@ impl Session {
         if self.waiting() == MOST_ENTRIES {
             return self.refuse(crew, LineFault::AuditFull, out);
         }
-        self.wait(request)?;
+        let verdict = self.given(verdict)?;
+        self.wait(request, verdict)?;
         if self.group.len() == LARGEST_GROUP
             || self.waiting() == MOST_ENTRIES
             || self.is_enough(crew.threads())
@@ -244,11 +260,44 @@ impl Session {
         Ok(())
     }
 
-    /// Puts a review into the group, as the last.
+    /// The line of the first review of the group, if the one that was read last waits with the others.
     #[tactic(auto, using(crate::proofs::Unjudged::first_none, crate::proofs::Unjudged::first_some))]
-    fn wait(&mut self, request: Request) -> Result<(), ReplayError>
+    fn first_line(&self) -> u64
+        ensures { result ≡ first_with self.now.group.items self.now.first self.now.lines }
+    {
+        if self.group.is_empty() {
+            self.lines
+        } else {
+            self.first
+        }
+    }
+
+    /// The verdict on the review that was read last, if it was judged. If it was given up, that is reported at the first line of the group
+    /// that it waits with.
+    fn given(
+        &self,
+        verdict: Option<Result<Verdict, JudgeError>>,
+    ) -> Result<Option<Verdict>, ReplayError>
+        ensures given { IfOk result (λ found. IfSome found (λ v. verdict ≡ Some (Ok v))) }
+        ensures told { (number : ℕ) → (why : FaultOf) → IsErrOf result (ReplayError.Line number why)
+            → (number ≡ first_with self.now.group.items self.now.first self.now.lines) × (why ≡ LineFault.Pattern) }
+        ensures pattern { (number : ℕ) → (why : FaultOf) → IsErrOf result (ReplayError.Line number why)
+            → verdict ≡ Some (Err (Fault Pattern)) }
+        ensures unwritten { IfErr result (λ error. error ≢ ReplayError.Write) }
+        ensures no_read { IsErrOf result ReplayError.Read → ⊥ }
+    {
+        match verdict {
+            None => Ok(None),
+            Some(Ok(verdict)) => Ok(Some(verdict)),
+            Some(Err(error)) => Err(given_up(self.first_line(), error)),
+        }
+    }
+
+    /// Puts a review into the group, as the last, with the verdict on it if there is one.
+    fn wait(&mut self, request: Request, verdict: Option<Verdict>) -> Result<(), ReplayError>
         requires step { IsInStep self.old }
         requires room { length self.old.history + length self.old.group.items < most_entries }
+        requires right { IfSome verdict (λ v. v ≡ verdict_at self.old.writer.published request) }
         ensures taken { OnOk result (TakesReview request self.old self.new) }
         ensures room { OnOk result (HasRoom self.new) }
         ensures history { OnOk result (self.new.history ≡ self.old.history) }
@@ -256,11 +305,8 @@ impl Session {
         ensures first { OnOk result (self.new.first ≡ first_with self.old.group.items self.old.first self.old.lines) }
         ensures group { OnOk result (self.new.group.items ≡ self.old.group.items ++ request ∷ []) }
     {
-        self.first = if self.group.is_empty() {
-            self.lines
-        } else {
-            self.first
-        };
+        self.first = self.first_line();
+        keep(&mut self.verdicts, self.group.len(), verdict)?;
         self.group.push(request)?;
         Ok(())
     }
@@ -295,7 +341,8 @@ impl Session {
         write_text(text.as_slice(), out)
     }
 
-    /// Has the group judged by all workers, and records what is decided. The text is that of the answers, read from the history.
+    /// Has the group judged by all workers, if that was not done where it was read, and records what is decided. The text is that of the
+    /// answers, read from the history.
     fn decide_group<L: Plan + Send + Sync, H: Threads + Wait + Sync>(
         &mut self,
         crew: &mut Crew<'_, L, H>,
@@ -310,13 +357,36 @@ impl Session {
         ensures pattern { (number : ℕ) → (why : FaultOf) → IsErrOf result (ReplayError.Line number why) → TellsGroup self.old number why }
         ensures no_read { IsErrOf result ReplayError.Read → ⊥ }
     {
-        let first = self.history.len() as u64;
-        let snapshot = self.writer.snapshot();
-        let told = self.writer.tell();
-        let verdicts = crew.judge(self.first, first, &told, snapshot, self.group.as_slice())?;
+        let early = mem::replace(&mut self.verdicts, Vec::new(self.alloc));
+        let verdicts = self.verdicts(crew, early)?;
         let group = mem::replace(&mut self.group, Vec::new(self.alloc));
         let text = self.decide_all(group, verdicts)?;
         Ok(text)
+    }
+
+    /// The verdicts on the group: those that were given where its reviews were read, if these are all, and else those of the workers.
+    fn verdicts<L: Plan + Send + Sync, H: Threads + Wait + Sync>(
+        &self,
+        crew: &mut Crew<'_, L, H>,
+        early: Vec<Verdict>,
+    ) -> Result<Vec<Verdict>, ReplayError>
+        requires home { crew.old.home.board ≡ self.now.writer.board }
+        requires room { length self.now.history + length self.now.group.items ≤ most_entries }
+        requires early { length early.items ≡ length self.now.group.items
+            → early.items ≡ verdicts_at self.now.writer.published self.now.group.items }
+        ensures home { crew.new.home ≡ crew.old.home }
+        ensures verdicts { IfOk result (λ verdicts. verdicts.items ≡ verdicts_at self.now.writer.published self.now.group.items) }
+        ensures pattern { (number : ℕ) → (why : FaultOf) → IsErrOf result (ReplayError.Line number why) → TellsGroup self.now number why }
+        ensures unwritten { IfErr result (λ error. error ≢ ReplayError.Write) }
+        ensures no_read { IsErrOf result ReplayError.Read → ⊥ }
+    {
+        if early.len() == self.group.len() {
+            return Ok(early);
+        }
+        let first = self.history.len() as u64;
+        let snapshot = self.writer.snapshot();
+        let told = self.writer.tell();
+        crew.judge(self.first, first, &told, snapshot, self.group.as_slice())
     }
 
     /// Records what is decided on requests, in order. The text is that of the answers, read from the history.
@@ -461,6 +531,25 @@ impl Session {
         lines.extend_from_slice(line.as_slice())?;
         lines.push(b'\n')?;
         Ok(lines)
+    }
+}
+
+/// Keeps the verdict on one review more behind those on this many others, if there is one, and as many others have theirs. Else it
+/// keeps none.
+fn keep(
+    verdicts: &mut Vec<Verdict>,
+    others: usize,
+    verdict: Option<Verdict>,
+) -> Result<(), AllocError>
+    ensures { OnOk result ((verdicts.new.items ≡ []) ⊎ ((v : VerdictOf) × (verdict ≡ Some v) × (length verdicts.old.items ≡ others)
+        × (verdicts.new.items ≡ verdicts.old.items ++ v ∷ []))) }
+{
+    match verdict {
+        Some(verdict) if verdicts.len() == others => Ok(verdicts.push(verdict)?),
+        _ => {
+            verdicts.clear();
+            Ok(())
+        }
     }
 }
 

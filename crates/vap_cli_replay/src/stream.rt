@@ -9,6 +9,8 @@ ghost use Rattle.vap_cli_replay.specs.Moves.{Advances, BeginsWith, CountsWrites,
 ghost use Rattle.vap_cli_replay.specs.Moves.{RefusesNext, StopsAt, TakesNext, Writes};
 ghost use Rattle.vap_cli_replay.specs.Sessions.{IsInStep, IsOpening};
 ghost use Rattle.vap_cli_replay.specs.Streams.{IsUnansweredAt, IsUnverifiedAt, Refuses, Replays, Stops, is_of_the_lines};
+ghost use Rattle.vap_cli_lines.specs.Judged.{IsJudgedAt};
+ghost use Rattle.vap_cli_lines.specs.Lines.{Reads};
 ghost use Rattle.vap_cli_lines.specs.declared.fault.LineFault.{LineFault as FaultOf};
 
 use crate::crew::Crew;
@@ -16,13 +18,13 @@ use crate::fault::ReplayError;
 use crate::progress::{Progress, Silent};
 use crate::session::Session;
 use base_containers::{Counted, Ending};
-use std::alloc::Global;
+use std::alloc::{AllocError, Global};
 use std::io::{Read, Write};
 use std::marker::Brand;
 use std::sync::Wait;
 use std::sync::ledger::Blank;
 use std::thread::Threads;
-use vap_cli_lines::{Line, LineBuffer, LineFault, LineQueue, LineReaders};
+use vap_cli_lines::{Line, LineBuffer, LineFault, LineQueue, LineReaders, ReadLine};
 use vap_plane::Plan;
 use vap_read::EventReader;
 use vap_watch::{open, revision_of};
@@ -341,10 +343,13 @@ fn take_bytes<L: Plan + Send + Sync, H: Threads + Wait + Sync, W: Write>(
     ensures no_read { IsErrOf result ReplayError.Read → ⊥ }
 {
     match ending {
-        Ending::TooLong => session.take(crew, Line::Refused(LineFault::TooLong), output),
+        Ending::TooLong => {
+            let line = Line::Refused(LineFault::TooLong);
+            session.take(crew, line, None, output)
+        }
         Ending::Feed => {
-            let line = buffer.read(session.events())?;
-            session.take(crew, line, output)
+            let read = read_bytes(session, crew.threads(), buffer)?;
+            session.take(crew, read.line, read.verdict, output)
         }
         Ending::End => take_last(session, crew, buffer, output),
     }
@@ -379,6 +384,23 @@ fn take_last<L: Plan + Send + Sync, H: Threads + Wait + Sync, W: Write>(
     if buffer.is_empty() {
         return Ok(());
     }
-    let line = buffer.read(session.events())?;
-    session.take(crew, line, output)
+    let read = read_bytes(session, crew.threads(), buffer)?;
+    session.take(crew, read.line, read.verdict, output)
+}
+
+/// What the bytes of a line are. Where one thread does all, it judges a review where it reads it, while it is open: no event comes
+/// between it and its answer.
+fn read_bytes(
+    session: &Session,
+    threads: usize,
+    buffer: &mut LineBuffer,
+) -> Result<ReadLine, AllocError>
+    requires { length buffer.old ≤ longest_line }
+    ensures line { IfOk result (λ read. Reads buffer.old read.line) }
+    ensures judged { IfOk result (λ read. IsJudgedAt session.now.writer.published read.line read.verdict) }
+{
+    if threads == 1 {
+        return buffer.read_judged(session.events(), session.writer.snapshot());
+    }
+    Ok(ReadLine::new(buffer.read(session.events())?))
 }

@@ -165,6 +165,29 @@ fn judge_opened(
     judge_at(alloc, set, &open, kind, matchers)
 }
 
+/// The verdict of a set on a request whose review is open, as [`judge`] answers it.
+#[tactic(auto, unfolding(crate::specs::Judging::verdict_of))]
+pub fn judge_open(
+    alloc: Global,
+    set: &PolicySet,
+    request: &OpenRequest<'_, '_, '_>,
+    matchers: &mut Matchers,
+) -> Result<Verdict, JudgeError>
+    ensures exact { IfOk result (λ verdict. verdict ≡ verdict_of set.now request.now.request.now) }
+    ensures none_passed_over { NoneIsPassedOver set.now request.now.request.now.admission }
+    ensures priced { ArePriced set.now (kind_at (kinds_of set.now) request.now.request.now.admission) }
+    ensures spent { IfOk result (λ verdict. verdict.charged ≤ budget) }
+    ensures pattern { IsErrOf result (Fault Pattern) → MayMatch set.now request.now.request.now.admission }
+{
+    let kinds = set.kinds();
+    let admission = request.request.admission();
+    if is_exempt(&admission.resource) {
+        return Ok(without_evaluation(alloc, set)?);
+    }
+    let kind = kind_at(kinds, admission);
+    judge_at(alloc, set, request, kind, matchers)
+}
+
 /// The verdict of a set on a request, at the revision that is the number of the set's events. It is given up if memory runs out,
 /// or if a pattern that was built before is not built again. The latter happens only if a policy runs that gives `matches` a literal
 /// text. No policy that matches the request is passed over, none charges more than its price for one param, and all together charge

@@ -24,31 +24,31 @@ returns-in-TooLong-clause-lines g c =
     never_taken c.take.result TooLong c.args.session.now c.take.new.self (c.take.new.self.lines ≤ c.args.session.now.lines + 1)
     c.take.ensures.taken
 
-pub returns-in_ok-line-in-Feed-clause-taken :
-    goal.returns-in_ok-line-in-Feed-clause-taken
-returns-in_ok-line-in-Feed-clause-taken g c =
+pub returns-in_ok-read-in-Feed-clause-taken :
+    goal.returns-in_ok-read-in-Feed-clause-taken
+returns-in_ok-read-in-Feed-clause-taken g c =
     let bytes = c.args.buffer.now in
     let some : c.args.ending ≡ End → 0 < length bytes = λ e. cc in
     let short : c.args.ending ≢ TooLongOf = λ e. cc in
-    one_each c.take-in-Feed.result c.args.ending bytes c.in_ok-line-in-Feed.line c.args.session.now
-    c.take-in-Feed.new.self some short c.in_ok-line-in-Feed.ensures c.take-in-Feed.ensures.taken
+    one_each c.take-in-Feed.result c.args.ending bytes c.in_ok-read-in-Feed.read.line c.args.session.now
+    c.take-in-Feed.new.self some short c.in_ok-read-in-Feed.ensures.line c.take-in-Feed.ensures.taken
     c.take-in-Feed.ensures.waiting
 
-pub returns-in_ok-line-in-Feed-clause-lines :
-    goal.returns-in_ok-line-in-Feed-clause-lines
-returns-in_ok-line-in-Feed-clause-lines g c =
-    one_counted c.take-in-Feed.result c.in_ok-line-in-Feed.line c.args.session.now c.take-in-Feed.new.self
+pub returns-in_ok-read-in-Feed-clause-lines :
+    goal.returns-in_ok-read-in-Feed-clause-lines
+returns-in_ok-read-in-Feed-clause-lines g c =
+    one_counted c.take-in-Feed.result c.in_ok-read-in-Feed.read.line c.args.session.now c.take-in-Feed.new.self
     c.take-in-Feed.ensures.taken
 
-pub returns-in_ok-line-in-Feed-clause-refused :
-    goal.returns-in_ok-line-in-Feed-clause-refused
-returns-in_ok-line-in-Feed-clause-refused g c =
+pub returns-in_ok-read-in-Feed-clause-refused :
+    goal.returns-in_ok-read-in-Feed-clause-refused
+returns-in_ok-read-in-Feed-clause-refused g c =
     let bytes = c.args.buffer.now in
     let some : c.args.ending ≡ End → 0 < length bytes = λ e. cc in
     let short : c.args.ending ≢ TooLongOf = λ e. cc in
     λ number why is told.
-    one_refused g.W.Write.contents c.args.ending bytes c.in_ok-line-in-Feed.line c.args.session.now
-    c.args.output.now c.take-in-Feed.new.out number why some short c.in_ok-line-in-Feed.ensures
+    one_refused g.W.Write.contents c.args.ending bytes c.in_ok-read-in-Feed.read.line c.args.session.now
+    c.args.output.now c.take-in-Feed.new.out number why some short c.in_ok-read-in-Feed.ensures.line
     (c.take-in-Feed.ensures.refused number why is told)
 
 pub returns-in-End-clause-refused : goal.returns-in-End-clause-refused
@@ -66,13 +66,13 @@ returns-in-TooLong-clause-unverified g c =
     unpublished_as g.W.Write.contents (λ (l : Line). Refused TooLong ≡ l) (IsReadAs c.args.ending c.args.buffer.now)
     c.args.session.now c.args.output.now c.take.new.out number (λ event is. cc) (c.take.ensures.unverified number told refl)
 
-pub returns-in_ok-line-in-Feed-clause-pattern : goal.returns-in_ok-line-in-Feed-clause-pattern
-returns-in_ok-line-in-Feed-clause-pattern g c =
+pub returns-in_ok-read-in-Feed-clause-pattern : goal.returns-in_ok-read-in-Feed-clause-pattern
+returns-in_ok-read-in-Feed-clause-pattern g c =
     let bytes = c.args.buffer.now in
     let some : c.args.ending ≡ End → 0 < length bytes = λ e. cc in
     let short : c.args.ending ≢ TooLongOf = λ e. cc in
-    let line = c.in_ok-line-in-Feed.line in
-    let read = c.in_ok-line-in-Feed.ensures in
+    let line = c.in_ok-read-in-Feed.read.line in
+    let read = c.in_ok-read-in-Feed.ensures.line in
     λ number told.
     unjudged_as (λ (l : Line). line ≡ l) (IsReadAs c.args.ending bytes) c.args.session.now c.args.output.now
     c.take-in-Feed.new.out number
@@ -80,13 +80,13 @@ returns-in_ok-line-in-Feed-clause-pattern g c =
     read_as c.args.ending bytes line (Asks request) (one_line c.args.ending bytes some) short read is)
     (c.take-in-Feed.ensures.pattern number told (plain_read bytes line read))
 
-pub returns-in_ok-line-in-Feed-clause-unverified : goal.returns-in_ok-line-in-Feed-clause-unverified
-returns-in_ok-line-in-Feed-clause-unverified g c =
+pub returns-in_ok-read-in-Feed-clause-unverified : goal.returns-in_ok-read-in-Feed-clause-unverified
+returns-in_ok-read-in-Feed-clause-unverified g c =
     let bytes = c.args.buffer.now in
     let some : c.args.ending ≡ End → 0 < length bytes = λ e. cc in
     let short : c.args.ending ≢ TooLongOf = λ e. cc in
-    let line = c.in_ok-line-in-Feed.line in
-    let read = c.in_ok-line-in-Feed.ensures in
+    let line = c.in_ok-read-in-Feed.read.line in
+    let read = c.in_ok-read-in-Feed.ensures.line in
     λ number told.
     unpublished_as g.W.Write.contents (λ (l : Line). line ≡ l) (IsReadAs c.args.ending bytes) c.args.session.now
     c.args.output.now c.take-in-Feed.new.out number

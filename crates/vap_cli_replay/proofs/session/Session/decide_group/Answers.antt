@@ -1,24 +1,28 @@
-use Rattle.std.proofs.Common.{◌+◌, ◌≤◌, ◌++◌, List, length, ap, sym, subst, ◌∙◌}
+use Rattle.std.proofs.Common.{◌≡◌, ◌+◌, ◌≤◌, ◌++◌, List, length, ap, sym, subst, ◌∙◌}
 use Rattle.std.specs.Prelude.{IsErrOf}
 use Rattle.std.proofs.lemmas.Result.{err_from_is_err_and}
 use Rattle.vap_match.specs.declared.request.Request.{Request}
-use Rattle.vap_watch.specs.declared.log.Logged.{Logged}
 use Rattle.vap_audit.specs.Entries.{most_entries}
+use Rattle.vap_policy_verdict.specs.declared.verdict.Verdict.{Verdict}
 use Rattle.vap_plane.specs.Answers.{verdicts_at}
 use Rattle.vap_cli_replay.specs.Replay.{answers_text}
 use Rattle.vap_cli_replay.specs.Sessions.{group_entries}
 use Rattle.vap_cli_replay.specs.declared.fault.ReplayError.TheVariants.{Line}
 use Rattle.vap_cli_replay.proofs.Tellings.{not_of_lines}
-use Rattle.vap_cli_replay.proofs.Unjudged.{group_tells}
 use Rattle.vap_cli_replay.proofs.session.Session.decide_group.Goals as goal
+
+-- the verdicts that were given where the reviews were read
+pub verdicts-requires-clause-early : goal.verdicts-requires-clause-early
+verdicts-requires-clause-early g c κs within =
+    let same = ap (λ vs. vs.items) c.replace-early.ensures.value in
+    λ long. same ∙ c.requires.room.judged (ap (λ (vs : List Verdict). length vs) (sym same) ∙ long)
 
 -- the verdicts are those on the requests that were taken out of the group
 pub decide_all-requires-clause-right : goal.decide_all-requires-clause-right
 decide_all-requires-clause-right g c =
     let log = c.args.self.now.writer.published in
     c.in_ok-verdicts.ensures.verdicts
-    ∙ (ap (λ (l : List Logged). verdicts_at l c.as_slice.result.now) c.snapshot-snapshot.ensures
-    ∙ ap (λ (rs : List Request). verdicts_at log rs) (c.as_slice.ensures.value ∙ sym (ap (λ g. g.items) c.replace-group.ensures.value)))
+    ∙ ap (λ (rs : List Request). verdicts_at log rs) (sym (ap (λ g. g.items) c.replace-group.ensures.value))
 
 pub decide_all-requires-clause-room : goal.decide_all-requires-clause-room
 decide_all-requires-clause-room g c =
@@ -51,13 +55,12 @@ pub returns-in_err-verdicts-clause-pattern : goal.returns-in_err-verdicts-clause
 returns-in_err-verdicts-clause-pattern g c =
     let p = err_from_is_err_and c.from_residual.result c.from_residual.ensures.1 in
     λ number why told.
-    let same : IsErrOf c.judge.result (Line number why) = cc (c.in_err-verdicts.was) in
-    group_tells c.args.self.now c.snapshot-snapshot.result.now c.as_slice.result.now number why c.snapshot-snapshot.ensures
-    c.as_slice.ensures.value (c.judge.ensures.told number why same)
+    let same : IsErrOf c.verdicts.result (Line number why) = cc (c.in_err-verdicts.was) in
+    c.verdicts.ensures.pattern number why same
 
 pub returns-in_err-verdicts-clause-lines : goal.returns-in_err-verdicts-clause-lines
 returns-in_err-verdicts-clause-lines g c =
     let p = err_from_is_err_and c.from_residual.result c.from_residual.ensures.1 in
     λ number why told.
-    let same : IsErrOf c.judge.result (Line number why) = cc (c.in_err-verdicts.was) in
-    not_of_lines why (c.judge.ensures.told number why same).fault
+    let same : IsErrOf c.verdicts.result (Line number why) = cc (c.in_err-verdicts.was) in
+    not_of_lines why (c.verdicts.ensures.pattern number why same).fault

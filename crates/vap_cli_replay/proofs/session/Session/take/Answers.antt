@@ -3,13 +3,18 @@ use Rattle.std.specs.Prelude.{IsErrOf, OnOk}
 use Rattle.std.proofs.lemmas.Result.{err_from_is_err_and}
 use Rattle.vap_cli_replay.specs.Moves.{RefusesAt, Takes}
 use Rattle.vap_cli_replay.specs.declared.fault.ReplayError.TheVariants.{Line as AtLine}
+use Rattle.vap_cli_lines.specs.Judged.{IsJudgedAt}
 use Rattle.vap_cli_lines.specs.declared.line.Line.{Line}
 use Rattle.vap_cli_replay.proofs.Arms.{event_step, refused_event, refused_line, refused_review, took_each}
 use Rattle.vap_cli_lines.specs.declared.fault.LineFault.TheVariants.{Pattern, Unverified}
-use Rattle.vap_cli_replay.proofs.Told.{told_unwritten}
+use Rattle.vap_cli_replay.proofs.Told.{stops_answered, told_unwritten}
 use Rattle.vap_cli_replay.proofs.Unjudged.{asks_waits, event_unpublished, group_unjudged, none_waits, plain_fault, review_unjudged}
 use Rattle.vap_cli_replay.proofs.Unjudged.{same_waits}
 use Rattle.vap_cli_replay.proofs.session.Session.take.Goals as goal
+
+pub take_review-requires-clause-judged : goal.take_review-requires-clause-judged
+take_review-requires-clause-judged g c κs within =
+    subst (λ (l : Line). IsJudgedAt c.args.self.now.writer.published l c.args.verdict) c.in-Asks.is c.requires.judged
 
 pub returns-in-Asks-clause-refused : goal.returns-in-Asks-clause-refused
 returns-in-Asks-clause-refused g c =
@@ -41,6 +46,12 @@ returns-in_ok-answer_group-in-Happens-clause-refused g c =
     (refused_event g.W.Write.contents c.in-Happens.event c.args.self.now _ c.answer_group.new.self c.args.out.now
     c.answer_group.new.out number why c.in_ok-answer_group-in-Happens.ensures.answered
     c.in_ok-answer_group-in-Happens.ensures.written (c.take_event.ensures.refused number why is told) refl refl refl)
+
+pub returns-in_ok-answer_group-in-Happens-clause-stopped :
+    goal.returns-in_ok-answer_group-in-Happens-clause-stopped
+returns-in_ok-answer_group-in-Happens-clause-stopped g c =
+    stops_answered c.take_event.result g.W.Write.contents c.args.self.now c.args.out.now c.answer_group.new.out
+    c.in_ok-answer_group-in-Happens.ensures.written
 
 pub returns-in-Refused-clause-refused : goal.returns-in-Refused-clause-refused
 returns-in-Refused-clause-refused g c =

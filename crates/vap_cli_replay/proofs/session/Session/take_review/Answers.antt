@@ -1,4 +1,4 @@
-use Rattle.std.proofs.Common.{◌≡◌, List, refl, sym, subst, ap, ◌∙◌}
+use Rattle.std.proofs.Common.{◌≡◌, List, Some, Err, true, refl, sym, subst, ap, ◌∙◌}
 use Rattle.std.specs.Prelude.{IsErrOf}
 use Rattle.std.proofs.lemmas.Result.{err_from_is_err_and}
 use Rattle.vap_match.specs.declared.request.Request.{Request}
@@ -8,7 +8,12 @@ use Rattle.vap_cli_lines.specs.declared.fault.LineFault.TheVariants.{Pattern, Un
 use Rattle.vap_cli_replay.specs.declared.fault.ReplayError.TheVariants.{Line}
 use Rattle.vap_cli_replay.proofs.Arms.{answered_last, answered_step, entries_length}
 use Rattle.vap_cli_replay.proofs.Told.{stops_unless_written, told_unwritten}
-use Rattle.vap_cli_replay.proofs.Unjudged.{group_first, one_more_waits}
+use Rattle.base_containers.specs.declared.failed.Failed.TheVariants.{Fault}
+use Rattle.cel_machine.specs.declared.fault.RunFault.TheVariants.{Pattern as PatternOf}
+use Rattle.vap_cli_lines.specs.Judged.{IsJudged}
+use Rattle.vap_cli_lines.specs.declared.fault.LineFault.{LineFault}
+use Rattle.vap_cli_replay.specs.Streams.{is_of_the_lines}
+use Rattle.vap_cli_replay.proofs.Unjudged.{group_first, last_looks, one_more_waits}
 use Rattle.vap_cli_replay.proofs.session.Session.take_review.Goals as goal
 
 pub returns-then-waiting-eq-MOST_ENTRIES-clause-full :
@@ -98,3 +103,52 @@ returns-in_err-answer_group-clause-pattern g c =
       told_unwritten c.answer_group.result c.args.out.now c.answer_group.new.out number Pattern same c.answer_group.ensures.stopped,
       (c.answer_group.ensures.pattern number Pattern same).numbered ∙ c.in_ok-wait.ensures.first,
     )
+
+-- a review that was given up where it was read is reported at the first line of the group
+pub returns-in_err-verdict-clause-told : goal.returns-in_err-verdict-clause-told
+returns-in_err-verdict-clause-told g c =
+    let from = c.from_residual in
+    let p = err_from_is_err_and from.result from.ensures.1 in
+    λ number why is told.
+    let same : IsErrOf c.given.result (Line number why) = cc (c.in_err-verdict.was) in
+    let pattern : is_of_the_lines Pattern ≡ true =
+    subst (λ (f : LineFault). is_of_the_lines f ≡ true) (c.given.ensures.told number why same).1 is in
+    cc
+
+pub returns-in_err-verdict-clause-full : goal.returns-in_err-verdict-clause-full
+returns-in_err-verdict-clause-full g c =
+    let from = c.from_residual in
+    let p = err_from_is_err_and from.result from.ensures.1 in
+    λ number why is told.
+    let same : IsErrOf c.given.result (Line number why) = cc (c.in_err-verdict.was) in
+    let pattern : is_of_the_lines Pattern ≡ true =
+    subst (λ (f : LineFault). is_of_the_lines f ≡ true) (c.given.ensures.told number why same).1 is in
+    cc
+
+pub returns-in_err-verdict-clause-pattern : goal.returns-in_err-verdict-clause-pattern
+returns-in_err-verdict-clause-pattern g c =
+    let from = c.from_residual in
+    let p = err_from_is_err_and from.result from.ensures.1 in
+    λ number told.
+    let same : IsErrOf c.given.result (Line number Pattern) = cc (c.in_err-verdict.was) in
+    (refl, (c.given.ensures.told number Pattern same).0)
+
+pub returns-in_err-verdict-clause-asked : goal.returns-in_err-verdict-clause-asked
+returns-in_err-verdict-clause-asked g c =
+    let from = c.from_residual in
+    let p = err_from_is_err_and from.result from.ensures.1 in
+    λ number told.
+    let same : IsErrOf c.given.result (Line number Pattern) = cc (c.in_err-verdict.was) in
+    let log = c.args.self.now.writer.published in
+    let judged : IsJudged log c.args.request (Some (Err (Fault PatternOf))) =
+    subst (λ said. IsJudged log c.args.request said) (c.given.ensures.pattern number Pattern same) c.requires.judged in
+    last_looks c.args.self.now c.args.request (judged.1 refl)
+
+pub returns-in_err-verdict-clause-no_image : goal.returns-in_err-verdict-clause-no_image
+returns-in_err-verdict-clause-no_image g c =
+    let from = c.from_residual in
+    let p = err_from_is_err_and from.result from.ensures.1 in
+    λ number told.
+    let same : IsErrOf c.given.result (Line number Unverified) = cc (c.in_err-verdict.was) in
+    let other = (c.given.ensures.told number Unverified same).1 in
+    cc

@@ -1,0 +1,65 @@
+//! Reviews that are judged where they are read, while they are open.
+
+ghost use Rattle.std.specs.Prelude.{◌≡◌, IfSome, List, None};
+ghost use Rattle.vap_watch.specs.declared.log.Logged.{Logged};
+ghost use Rattle.vap_cli_lines.specs.Judged.{IsJudgedAt, IsOfReview};
+
+use crate::line::Line;
+use base_containers::Part;
+use cel_machine::Matchers;
+use std::alloc::Global;
+use vap_audit::judge_open;
+use vap_match::OpenRequest;
+use vap_policy::JudgeError;
+use vap_policy_verdict::Verdict;
+use vap_watch::Snapshot;
+
+/// A line that was read, and what judging it gave, if it is a review and was judged where it was read.
+#[derive(Drop)]
+pub struct ReadLine {
+    pub line: Line,
+    pub verdict: Option<Result<Verdict, JudgeError>>,
+}
+
+impl ReadLine {
+    /// A line that is not judged.
+    pub fn new(line: Line) -> ReadLine
+        ensures line { result.line ≡ line }
+        ensures verdict { result.verdict ≡ None }
+        ensures judged { (log : List Logged) → IsJudgedAt log result.line result.verdict }
+    {
+        ReadLine {
+            line,
+            verdict: None,
+        }
+    }
+}
+
+/// At which snapshot reviews are judged, and the patterns that are kept for that.
+#[derive(Drop)]
+pub(crate) struct Judge<'a> {
+    pub(crate) snapshot: &'a Snapshot,
+    pub(crate) matchers: &'a mut Matchers,
+}
+
+/// What judging a line gives, if it is a review, of this document.
+pub(crate) fn judged(
+    alloc: Global,
+    line: &Line,
+    document: Part<'_, '_>,
+    judge: Option<Judge<'_>>,
+) -> Option<Result<Verdict, JudgeError>>
+    requires { IsOfReview line.now document }
+    ensures { IfSome judge.entry (λ j. IsJudgedAt j.snapshot.now line.now result) }
+{
+    let Some(judge) = judge else {
+        return None;
+    };
+    match line {
+        Line::Asks(request) => {
+            let open = OpenRequest::new(request, document);
+            Some(judge_open(alloc, judge.snapshot, &open, judge.matchers))
+        }
+        _ => None,
+    }
+}
