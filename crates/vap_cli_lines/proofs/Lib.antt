@@ -1,3 +1,4 @@
 pub mod Crossing
 pub mod LineQueues
 pub mod Reading
+mod WorkedRows

@@ -1,31 +1,38 @@
 -- Lines that go into a queue, and out of it.
-use Rattle.std.proofs.Common.{◌≡◌, ◌≢◌, ◌<◌, ◌≤◌, ◌+◌, ◌*◌, ℕ, List, [], ◌∷◌, ◌++◌, length, Option, None, Some, refl, sym, ap, ◌∙◌}
-use Rattle.std.proofs.Common.{append_assoc, arith, get_or, subst, suc}
+use Rattle.std.proofs.Common.{◌≡◌, ◌+◌, ℕ, List, [], ◌∷◌, ◌++◌, length, Option, None, Some, refl, sym, ap, ◌∙◌}
+use Rattle.std.proofs.Common.{append_assoc, append-nil, length-append, arith, subst, suc}
 use Rattle.std.proofs.lemmas.List.Elements.{All-append, All-from_recursion}
 use Rattle.std.specs.Io.KnownBytes.{Consumes, prepend_known}
 use Rattle.base_containers.specs.Lines.{AllGive, Pending}
-use Rattle.vap_cli_lines.specs.LineQueues.{AreWhole, IsWhole, text_of}
+use Rattle.vap_watch.specs.Begins.{StartsWith}
+use Rattle.vap_watch.specs.declared.log.Logged.{Logged}
+use Rattle.vap_cli_lines.specs.LineQueues.{AreWhole, IsWhole, Queued, text_of}
 
 -- one line more
-pub more_whole : (lines : List (List ℕ)) (line : List ℕ) → AreWhole lines → IsWhole line → AreWhole (lines ++ line ∷ [])
-more_whole lines line all one = All-append IsWhole lines (line ∷ []) all (All-from_recursion IsWhole (line ∷ []) (one, tt))
+pub more_whole : (log : List Logged) (lines : List Queued) (line : Queued) → AreWhole log lines → IsWhole log line
+    → AreWhole log (lines ++ line ∷ [])
+more_whole log lines line all one =
+    All-append (IsWhole log) lines (line ∷ []) all (All-from_recursion (IsWhole log) (line ∷ []) (one, tt))
 
-pub more_text : (lines : List (List ℕ)) (line rest : List ℕ) → text_of (lines ++ line ∷ []) ++ rest ≡ text_of lines ++ (line ++ 10 ∷ rest)
-more_text [] line rest = append_assoc line (10 ∷ []) rest
+pub more_text : (lines : List Queued) (line : Queued) (rest : List ℕ)
+    → text_of (lines ++ line ∷ []) ++ rest ≡ text_of lines ++ (line.bytes ++ 10 ∷ rest)
+more_text [] line rest = append_assoc line.bytes (10 ∷ []) rest
 more_text (first ∷ lines) line rest =
-    append_assoc first (10 ∷ text_of (lines ++ line ∷ [])) rest
-    ∙ ap (λ (text : List ℕ). first ++ 10 ∷ text) (more_text lines line rest)
-    ∙ sym (append_assoc first (10 ∷ text_of lines) (line ++ 10 ∷ rest))
+    append_assoc first.bytes (10 ∷ text_of (lines ++ line ∷ [])) rest
+    ∙ ap (λ (text : List ℕ). first.bytes ++ 10 ∷ text) (more_text lines line rest)
+    ∙ sym (append_assoc first.bytes (10 ∷ text_of lines) (line.bytes ++ 10 ∷ rest))
 
 -- one line less
-pub rest_whole : (line : List ℕ) (rest lines : List (List ℕ)) → lines ≡ line ∷ rest → AreWhole lines → AreWhole rest
-rest_whole line rest lines is all =
-    let whole = subst AreWhole is all in
+pub rest_whole : (log : List Logged) (line : Queued) (rest lines : List Queued) → lines ≡ line ∷ rest → AreWhole log lines
+    → AreWhole log rest
+rest_whole log line rest lines is all =
+    let whole = subst (AreWhole log) is all in
     λ k d lt. whole (suc k) d (omega arith)
 
-pub first_whole : (line : List ℕ) (rest lines : List (List ℕ)) → lines ≡ line ∷ rest → AreWhole lines → IsWhole line
-first_whole line rest lines is all =
-    let whole = subst AreWhole is all in
+pub first_whole : (log : List Logged) (line : Queued) (rest lines : List Queued) → lines ≡ line ∷ rest → AreWhole log lines
+    → IsWhole log line
+first_whole log line rest lines is all =
+    let whole = subst (AreWhole log) is all in
     whole 0 line (omega arith)
 
 -- what is unread loses the first line, with its line feed
@@ -43,18 +50,15 @@ pub none_read : (known : Option (List ℕ)) (old new : Pending) → new.reads �
 none_read None old new same = tt
 none_read (Some left) old new same = omega (arith, same)
 
--- two lists with the same elements in the same places
-pub same_places : {X : Type 0} (xs ys : List X) → length ys ≡ length xs → ((k : ℕ) (d : X) → k < length xs → get_or ys k d ≡ get_or xs k d)
-    → ys ≡ xs
-same_places [] [] len each = refl
-same_places [] (y ∷ ys) len each = absurd (omega arith)
-same_places (x ∷ xs) [] len each = absurd (omega arith)
-same_places (x ∷ xs) (y ∷ ys) len each =
-    let first : y ≡ x = each 0 x (omega arith) in
-    let rest : ys ≡ xs = same_places xs ys (omega arith) (λ k d lt. each (suc k) d (omega arith)) in
-    ap (λ z. z ∷ ys) first ∙ ap (λ zs. x ∷ zs) rest
-
 -- none is left
-pub no_lines : (lines : List (List ℕ)) → length lines ≡ 0 → lines ≡ []
-no_lines [] none = refl
-no_lines (line ∷ lines) none = absurd (omega arith)
+pub none_left : {X : Type 0} (xs : List X) → length xs ≡ 0 → xs ≡ []
+none_left [] none = refl
+none_left (x ∷ xs) none = absurd (omega arith)
+
+-- a list that begins with one of its length is that one
+pub whole_begun : {X : Type 0} (list seen : List X) → StartsWith list seen → length seen ≡ length list → seen ≡ list
+whole_begun list seen begins len =
+    let all : length list ≡ length seen + length begins.rest =
+    ap (λ l. length l) begins.split ∙ length-append seen begins.rest in
+    let none : begins.rest ≡ [] = none_left begins.rest (omega (arith, all, len)) in
+    sym (begins.split ∙ ap (λ l. seen ++ l) none ∙ append-nil seen)

@@ -7,6 +7,7 @@ ghost use Rattle.vap_cli_lines.specs.Judged.{IsJudgedAt, IsOfReview};
 use crate::line::Line;
 use base_containers::Part;
 use cel_machine::Matchers;
+use json::Scratch;
 use std::alloc::Global;
 use vap_audit::judge_open;
 use vap_match::OpenRequest;
@@ -31,6 +32,34 @@ impl ReadLine {
         ReadLine {
             line,
             verdict: None,
+        }
+    }
+
+    /// The same line, as one that is not judged.
+    pub(crate) fn unjudged(self) -> ReadLine
+        ensures line { result.line ≡ self.line }
+        ensures judged { (log : List Logged) → IsJudgedAt log result.line result.verdict }
+    {
+        let ReadLine { line, .. } = self;
+        ReadLine::new(line)
+    }
+}
+
+/// What is kept from one line to the next, on which no answer depends: the room in which a document is opened, and the patterns that are
+/// built.
+#[derive(Drop)]
+pub(crate) struct Workspace {
+    pub(crate) alloc: Global,
+    pub(crate) scratch: Scratch,
+    pub(crate) matchers: Matchers,
+}
+
+impl Workspace {
+    pub(crate) fn new(alloc: Global) -> Workspace {
+        Workspace {
+            alloc,
+            scratch: Scratch::new(alloc),
+            matchers: Matchers::new(alloc),
         }
     }
 }

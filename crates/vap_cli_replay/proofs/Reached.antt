@@ -2,6 +2,7 @@
 use Rattle.std.proofs.Common.{◌≡◌, ℕ, ◌+◌, List, [], ◌∷◌, ◌++◌, length, take, None, Some, Ok, refl, sym, ap, ◌∙◌, append-nil, suc, arith}
 use Rattle.std.proofs.Math.Seq.{take-append-add}
 use Rattle.base_containers.specs.declared.lines.Ending.{Ending}
+use Rattle.vap_watch.specs.Logs.{StartsWith}
 use Rattle.vap_watch.specs.declared.log.Logged.{Logged}
 use Rattle.vap_audit.specs.declared.entry.Entry.{Entry}
 use Rattle.vap_cli_lines.specs.Lines.{EachReads}
@@ -56,6 +57,13 @@ advanced ending bytes front old new there on = record {
       (log_goes_on choices on.lines (sofar_of old) (sofar_of new) step) agrees in
       taken_more choices there.lines on.lines beginning (sofar_of old) (there.taken choices seen) ∙ step;
 }
+
+-- the log after some lines begins with the one before them
+pub log_advanced : (ending : Ending) (bytes : List ℕ) (old new : Session) → Advances ending bytes old new
+    → StartsWith new.writer.published old.writer.published
+log_advanced ending bytes old new on =
+    let choices : Choices = choices_of new.writer.published in
+    log_goes_on choices on.lines (sofar_of old) (sofar_of new) (on.taken choices (agrees_itself new.writer.published))
 
 -- the group is answered
 pub reached_answered : (front : List (List ℕ)) (old new : Session) → Reaches front old → sofar_of new ≡ sofar_of old → Reaches front new

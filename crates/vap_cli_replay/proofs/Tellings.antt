@@ -1,5 +1,5 @@
 -- At which line it is reported that requests are not judged, and why.
-use Rattle.std.proofs.Common.{◌≡◌, ◌≢◌, ◌<◌, ℕ, false, List, [], ◌∷◌, Contains, Some, refl, subst, zero, suc, arith}
+use Rattle.std.proofs.Common.{◌≡◌, ◌≢◌, ℕ, false, List, [], ◌∷◌, Contains, Some, refl, subst, zero, suc, arith}
 use Rattle.std.specs.Prelude.{slice_get}
 use Rattle.vap_match.specs.declared.request.Request.{Request}
 use Rattle.vap_plane_gathering.specs.declared.fault.PlaneFault.{PlaneFault}

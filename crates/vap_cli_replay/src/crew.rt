@@ -12,7 +12,7 @@ ghost use Rattle.vap_cli_replay.specs.Streams.{is_of_the_lines};
 ghost use Rattle.vap_cli_lines.specs.declared.fault.LineFault.{LineFault as FaultOf};
 
 use crate::fault::ReplayError;
-use crate::recorded::is_recorded;
+use crate::recorded::{GroupCalls, is_recorded};
 use std::alloc::{AllocError, Global};
 use std::sync::Wait;
 use std::sync::ledger::{Blank, Ledger};
@@ -147,18 +147,30 @@ impl<L: Plan + Send + Sync, H: Threads + Wait + Sync> Crew<'_, L, H> {
         } = self;
         let (rt, alloc, shared) = (*rt, *alloc, &*shared);
         let told = told_to(alloc, told, workers.len())?;
+        let place = entries_in(rt, shared);
         let verdicts = run_workers(rt, alloc, workers, told, first, shared, requests, &Open)?;
         let revision = revision_of(snapshot);
         if !are_at(verdicts.as_slice(), revision) {
             return Ok(None);
         }
+        let calls = GroupCalls {
+            first,
+            revision,
+            verdicts: verdicts.as_slice(),
+        };
         let kept = shared.kept.lock(rt);
-        if is_recorded(alloc, kept.history(), first, revision, verdicts.as_slice())? {
+        if is_recorded(alloc, kept.history(), place, &calls)? {
             Ok(Some(verdicts))
         } else {
             Ok(None)
         }
     }
+}
+
+/// How many entries the history has that workers share: one for each review that was not judged where it was read.
+fn entries_in<L: Plan, H: Wait>(rt: &H, shared: &SharedHistory<L>) -> usize {
+    let kept = shared.kept.lock(rt);
+    kept.history().len()
 }
 
 /// Whether all verdicts name this revision.

@@ -5,23 +5,28 @@ use std::mem;
 use vap_audit::{Entry, History};
 use vap_policy_verdict::Verdict;
 
-/// Whether the entries from number `first` on are those of as many calls as there are verdicts, from the same number on: each call
-/// once, at a log of this revision, with its verdict.
+/// The calls of a group: the number of the first, the revision at which they are judged, and the verdicts on them.
+#[derive(Drop)]
+pub(crate) struct GroupCalls<'a> {
+    pub(crate) first: u64,
+    pub(crate) revision: usize,
+    pub(crate) verdicts: &'a [Verdict],
+}
+
+/// Whether the entries from this place on are those of the calls of a group: each call once, at a log of its revision, with its verdict.
 pub(crate) fn is_recorded(
     alloc: Global,
     history: &History,
-    first: u64,
-    revision: usize,
-    verdicts: &[Verdict],
+    place: usize,
+    calls: &GroupCalls<'_>,
 ) -> Result<bool, AllocError> {
-    let first_number = first as usize;
-    if history.len().saturating_sub(first_number) != verdicts.len() {
+    if history.len().saturating_sub(place) != calls.verdicts.len() {
         return Ok(false);
     }
-    let mut noted = none_noted(alloc, verdicts.len())?;
-    for number in first_number..history.len() {
+    let mut noted = none_noted(alloc, calls.verdicts.len())?;
+    for number in place..history.len() {
         let entry = history.at(number);
-        if !is_answer(entry, revision, verdicts, first) || !note(&mut noted, entry, first) {
+        if !is_answer(entry, calls) || !note(&mut noted, entry, calls.first) {
             return Ok(false);
         }
     }
@@ -36,10 +41,13 @@ fn none_noted(alloc: Global, count: usize) -> Result<Vec<bool>, AllocError> {
     Ok(noted)
 }
 
-/// Whether an entry is at a log of this revision, with the verdict of its call.
-fn is_answer(entry: &Entry, revision: usize, verdicts: &[Verdict], first: u64) -> bool {
-    match verdicts.get(entry.call.saturating_sub(first) as usize) {
-        Some(verdict) => entry.log.get().len() == revision && is_alike(verdict, &entry.verdict),
+/// Whether an entry is at a log of the calls' revision, with the verdict of its call.
+fn is_answer(entry: &Entry, calls: &GroupCalls<'_>) -> bool {
+    let place = entry.call.saturating_sub(calls.first) as usize;
+    match calls.verdicts.get(place) {
+        Some(verdict) => {
+            entry.log.get().len() == calls.revision && is_alike(verdict, &entry.verdict)
+        }
         None => false,
     }
 }

@@ -45,9 +45,9 @@ use vap_watch::Writer;
 /// The most reviews that are judged together.
 pub const LARGEST_GROUP: usize = 1_024;
 
-/// How many are enough for one thread, which has judged them where it read them: they are then still in the processor's caches when they
-/// are answered.
-const ENOUGH_FOR_ONE: usize = 64;
+/// How many reviews are enough that were judged where they were read: they are then still in the processor's caches when they are
+/// answered.
+const ENOUGH_JUDGED: usize = 64;
 
 /// From how many bytes on the lines of the audit are written, in one write.
 const FULL_TEXT: usize = 65_536;
@@ -208,9 +208,9 @@ impl Session {
         }
     }
 
-    /// Whether the group is large enough to be judged by these threads.
-    fn is_enough(&self, threads: usize) -> bool {
-        threads == 1 && self.group.len() >= ENOUGH_FOR_ONE
+    /// Whether the group is large enough, and judged where it was read.
+    fn is_enough(&self) -> bool {
+        self.group.len() >= ENOUGH_JUDGED && self.verdicts.len() == self.group.len()
     }
 
     /// Puts a review into the group, and answers the group if it is as large as it may be, or large enough, or if the history has
@@ -251,10 +251,7 @@ impl Session {
         }
         let verdict = self.given(verdict)?;
         self.wait(request, verdict)?;
-        if self.group.len() == LARGEST_GROUP
-            || self.waiting() == MOST_ENTRIES
-            || self.is_enough(crew.threads())
-        {
+        if self.group.len() == LARGEST_GROUP || self.waiting() == MOST_ENTRIES || self.is_enough() {
             self.answer_group(crew, out)?;
         }
         Ok(())

@@ -5,6 +5,7 @@ ghost use Rattle.std.specs.Prelude.{length, IfErr, IfOk, IfSome, IsErrOf, OnOk};
 ghost use Rattle.std.specs.Io.KnownBytes.{IsAtEnd};
 ghost use Rattle.base_containers.specs.Counted.{failures_of, inner_of};
 ghost use Rattle.base_containers.specs.Lines.{AllGive, IsCutOff, StopsReading, empty_reads, longest_line, room, unread};
+ghost use Rattle.vap_watch.specs.Logs.{StartsWith};
 ghost use Rattle.vap_cli_replay.specs.Moves.{Advances, BeginsWith, CountsWrites, IsRead, IsReadAs, IsUnjudged, IsUnpublished, RefusesBytes};
 ghost use Rattle.vap_cli_replay.specs.Moves.{RefusesNext, StopsAt, TakesNext, Writes};
 ghost use Rattle.vap_cli_replay.specs.Sessions.{IsInStep, IsOpening};
@@ -24,7 +25,7 @@ use std::marker::Brand;
 use std::sync::Wait;
 use std::sync::ledger::Blank;
 use std::thread::Threads;
-use vap_cli_lines::{Line, LineBuffer, LineFault, LineQueue, LineReaders, ReadLine};
+use vap_cli_lines::{Line, LineBuffer, LineFault, LineQueue, LineReaders, ReadLine, TakenLine};
 use vap_plane::Plan;
 use vap_read::EventReader;
 use vap_watch::{open, revision_of};
@@ -254,7 +255,7 @@ fn take_all<L: Plan + Send + Sync, H: Threads + Wait + Sync, R: Read, W: Write, 
     ensures read { IsErrOf result ReplayError.Read → StopsReading R.remaining input.old input.new }
     ensures no_failure { OnOk result (failures_of input.new ≡ failures_of input.old) }
 {
-    let mut queue = LineQueue::new(alloc)?;
+    let mut queue = LineQueue::new(alloc, session.writer.snapshot())?;
     let mut buffer = LineBuffer::new(alloc);
     let mut ending = Ending::Feed;
     while ending == Ending::Feed {
@@ -279,76 +280,82 @@ fn take_next<L: Plan + Send + Sync, H: Threads + Wait + Sync, R: Read, W: Write>
 ) -> Result<Ending, ReplayError>
     requires step { IsInStep session.old }
     requires home { crew.old.home.board ≡ session.old.writer.board }
+    requires log { StartsWith session.old.writer.published queue.old.log }
     requires count { session.old.lines + 1 < 2 ^ 64 }
     ensures home { OnOk result (crew.new.home.board ≡ session.new.writer.board) }
     ensures step { OnOk result (IsInStep session.new) }
-    ensures taken { IfOk result (λ ending. TakesNext (unread R.remaining input.old queue.old) (unread R.remaining input.new queue.new)
-        ending session.old session.new) }
+    ensures log { OnOk result (StartsWith session.new.writer.published queue.new.log) }
+    ensures taken { IfOk result (λ ending. TakesNext (unread R.remaining input.old queue.old.pending)
+        (unread R.remaining input.new queue.new.pending) ending session.old session.new) }
     ensures written { OnOk result (Writes W.contents session.old session.new output.old output.new) }
     ensures refused { (number : ℕ) → (why : FaultOf) → is_of_the_lines why ≡ true → IsErrOf result (ReplayError.Line number why)
-        → IfSome (unread R.remaining input.old queue.old) (λ text.
+        → IfSome (unread R.remaining input.old queue.old.pending) (λ text.
         RefusesNext W.contents text session.old output.old output.new number why) }
     ensures stopped { IfErr result (λ error. error ≢ ReplayError.Write → StopsAt W.contents session.old output.old output.new) }
     ensures counts { CountsWrites result output.old output.new }
     ensures lines { OnOk result (session.new.lines ≤ session.old.lines + 1) }
-    ensures less { IfOk result (λ ending. ending ≡ Ending.Feed → room queue.new < room queue.old) }
-    ensures no_more { room queue.new ≤ room queue.old }
+    ensures less { IfOk result (λ ending. ending ≡ Ending.Feed → room queue.new.pending < room queue.old.pending) }
+    ensures no_more { room queue.new.pending ≤ room queue.old.pending }
     ensures pattern { (number : ℕ) → IsErrOf result (ReplayError.Line number LineFault.Pattern)
-        → IfSome (unread R.remaining input.old queue.old) (λ text.
+        → IfSome (unread R.remaining input.old queue.old.pending) (λ text.
         IsUnjudged (BeginsWith text) session.old output.old output.new number) }
     ensures unverified { (number : ℕ) → IsErrOf result (ReplayError.Line number LineFault.Unverified)
-        → IfSome (unread R.remaining input.old queue.old) (λ text.
+        → IfSome (unread R.remaining input.old queue.old.pending) (λ text.
         IsUnpublished W.contents (BeginsWith text) session.old output.old output.new number) }
-    ensures read { IsErrOf result ReplayError.Read → IsCutOff R.remaining input.old input.new queue.old queue.new }
+    ensures read { IsErrOf result ReplayError.Read → IsCutOff R.remaining input.old input.new queue.old.pending queue.new.pending }
     ensures given { IfOk result (λ ending. AllGive (empty_reads ending) (R.remaining (inner_of input.old))
-        (R.remaining (inner_of input.new)) queue.old queue.new) }
+        (R.remaining (inner_of input.new)) queue.old.pending queue.new.pending) }
     ensures no_failure { OnOk result (failures_of input.new ≡ failures_of input.old) }
 {
     let readers = LineReaders {
         rt: crew.rt,
         events: session.events(),
+        snapshot: session.writer.snapshot(),
         threads: crew.threads(),
     };
-    let ending = queue.next(&readers, input, buffer)?;
-    take_bytes(session, crew, buffer, ending, output)?;
+    let line = queue.next(&readers, input, buffer)?;
+    let ending = line.ending;
+    take_bytes(session, crew, buffer, line, output)?;
     Ok(ending)
 }
 
-/// Takes the bytes of a line with this ending. The empty end of an input is no line.
+/// Takes the bytes of a line, which ended so and may have been read before its turn. The empty end of an input is no line.
 fn take_bytes<L: Plan + Send + Sync, H: Threads + Wait + Sync, W: Write>(
     session: &mut Session,
     crew: &mut Crew<'_, L, H>,
     buffer: &mut LineBuffer,
-    ending: Ending,
+    line: TakenLine,
     output: &mut Counted<W>,
 ) -> Result<(), ReplayError>
     requires step { IsInStep session.old }
     requires home { crew.old.home.board ≡ session.old.writer.board }
     requires short { length buffer.old ≤ longest_line }
+    requires read { IfSome line.read (λ read. Reads buffer.old read.line
+        × IsJudgedAt session.old.writer.published read.line read.verdict) }
     requires count { session.old.lines + 1 < 2 ^ 64 }
     ensures home { OnOk result (crew.new.home.board ≡ session.new.writer.board) }
     ensures step { OnOk result (IsInStep session.new) }
-    ensures taken { OnOk result (Advances ending buffer.old session.old session.new) }
+    ensures taken { OnOk result (Advances line.ending buffer.old session.old session.new) }
     ensures written { OnOk result (Writes W.contents session.old session.new output.old output.new) }
-    ensures ended { OnOk result (ending ≢ Ending.TooLong) }
+    ensures ended { OnOk result (line.ending ≢ Ending.TooLong) }
     ensures lines { OnOk result (session.new.lines ≤ session.old.lines + 1) }
     ensures refused { (number : ℕ) → (why : FaultOf) → is_of_the_lines why ≡ true → IsErrOf result (ReplayError.Line number why)
-        → RefusesBytes W.contents ending buffer.old session.old output.old output.new number why }
+        → RefusesBytes W.contents line.ending buffer.old session.old output.old output.new number why }
     ensures stopped { IfErr result (λ error. error ≢ ReplayError.Write → StopsAt W.contents session.old output.old output.new) }
     ensures counts { CountsWrites result output.old output.new }
     ensures pattern { (number : ℕ) → IsErrOf result (ReplayError.Line number LineFault.Pattern)
-        → IsUnjudged (IsReadAs ending buffer.old) session.old output.old output.new number }
+        → IsUnjudged (IsReadAs line.ending buffer.old) session.old output.old output.new number }
     ensures unverified { (number : ℕ) → IsErrOf result (ReplayError.Line number LineFault.Unverified)
-        → IsUnpublished W.contents (IsReadAs ending buffer.old) session.old output.old output.new number }
+        → IsUnpublished W.contents (IsReadAs line.ending buffer.old) session.old output.old output.new number }
     ensures no_read { IsErrOf result ReplayError.Read → ⊥ }
 {
-    match ending {
+    match line.ending {
         Ending::TooLong => {
-            let line = Line::Refused(LineFault::TooLong);
-            session.take(crew, line, None, output)
+            let refused = Line::Refused(LineFault::TooLong);
+            session.take(crew, refused, None, output)
         }
         Ending::Feed => {
-            let read = read_bytes(session, crew.threads(), buffer)?;
+            let read = read_bytes(session, line.read, buffer)?;
             session.take(crew, read.line, read.verdict, output)
         }
         Ending::End => take_last(session, crew, buffer, output),
@@ -384,23 +391,25 @@ fn take_last<L: Plan + Send + Sync, H: Threads + Wait + Sync, W: Write>(
     if buffer.is_empty() {
         return Ok(());
     }
-    let read = read_bytes(session, crew.threads(), buffer)?;
+    let read = read_bytes(session, None, buffer)?;
     session.take(crew, read.line, read.verdict, output)
 }
 
-/// What the bytes of a line are. Where one thread does all, it judges a review where it reads it, while it is open: no event comes
-/// between it and its answer.
+/// What the bytes of a line are, as it was read before its turn or as it is read now. A review that is read now is judged while it is
+/// open: no event comes between it and its answer.
 fn read_bytes(
     session: &Session,
-    threads: usize,
+    read: Option<ReadLine>,
     buffer: &mut LineBuffer,
 ) -> Result<ReadLine, AllocError>
-    requires { length buffer.old ≤ longest_line }
+    requires short { length buffer.old ≤ longest_line }
+    requires read { IfSome read (λ early. Reads buffer.old early.line
+        × IsJudgedAt session.now.writer.published early.line early.verdict) }
     ensures line { IfOk result (λ read. Reads buffer.old read.line) }
     ensures judged { IfOk result (λ read. IsJudgedAt session.now.writer.published read.line read.verdict) }
 {
-    if threads == 1 {
-        return buffer.read_judged(session.events(), session.writer.snapshot());
+    match read {
+        Some(read) => Ok(read),
+        None => buffer.read(session.events(), session.writer.snapshot()),
     }
-    Ok(ReadLine::new(buffer.read(session.events())?))
 }

@@ -1,4 +1,4 @@
-use Rattle.std.proofs.Common.{◌≡◌, ◌∙◌, ◌∷◌, [], ap, arith, rules, length-append}
+use Rattle.std.proofs.Common.{◌≡◌, ◌∙◌, ◌∷◌, [], ap, arith, length-append}
 use Rattle.vap_watch.specs.Seen.{Known}
 use Rattle.vap_watch.specs.declared.log.Logged.{Logged}
 use Rattle.vap_plane.specs.declared.worker.Worker.{Worker}

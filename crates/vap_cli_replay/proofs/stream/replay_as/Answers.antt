@@ -1,10 +1,6 @@
-use Rattle.std.specs.Prelude.{IsErrOf}
 use Rattle.std.proofs.lemmas.Result.{err_from_is_err_and}
 use Rattle.base_containers.specs.Counted.{inner_of}
-use Rattle.vap_cli_lines.specs.declared.fault.LineFault.TheVariants.{Pattern, Unverified}
-use Rattle.vap_cli_replay.specs.declared.fault.ReplayError.TheVariants.{Line}
 use Rattle.vap_cli_replay.proofs.Next.{stops_first}
-use Rattle.vap_cli_replay.proofs.Told.{replays_each, stopped_each}
 use Rattle.vap_cli_replay.proofs.stream.replay_as.Goals as goal
 
 pub returns-in_err-session-clause-stopped : goal.returns-in_err-session-clause-stopped
