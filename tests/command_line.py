@@ -321,6 +321,11 @@ DEEP = [
 ]
 DEEP_STREAM = STREAM.read_bytes().replace(b"object.spec.replicas <= 5", b"!" * 90 + b"(object.spec.replicas <= 5)")
 
+# How many reviews a stream has whose policy changes, and before which of them its limit becomes what. Between two changes are some
+# reads of the input, so that some reviews are judged before their turn and some are not.
+CHANGING = 4_500
+LIMITS = {2_000: 2, 3_900: 7}
+
 
 def unmet(words, status, out, said):
     """Why a command line does not end as it should, or None."""
@@ -364,6 +369,30 @@ def unmet_where_a_policy_is_deep(workers):
     if (ran.returncode, denied) == (0, ["many"]):
         return None
     return f"a deep policy in a small stack, {workers} workers: status {ran.returncode}, denied {denied}"
+
+
+def changing_stream():
+    """A stream whose policy changes, and whether each of its reviews is allowed."""
+    definition, _, policy, binding, review = STREAM.read_text().splitlines()[:5]
+    lines, allowed, limit = [definition, policy, binding], [], 5
+    for number in range(CHANGING):
+        if number in LIMITS:
+            limit = LIMITS[number]
+            lines.append(policy.replace("ADDED", "MODIFIED").replace("replicas <= 5", f"replicas <= {limit}"))
+        lines.append(review.replace('"replicas":6', f'"replicas":{number % 10}'))
+        allowed.append(number % 10 <= limit)
+    return "\n".join(lines).encode(), allowed
+
+
+def unmet_where_a_policy_changes(workers):
+    """Why so many workers do not answer each review of such a stream by the policy that is before it, or None."""
+    stream, allowed = changing_stream()
+    ran = subprocess.run([PROGRAM, "replay", "--workers", str(workers), "-"], input=stream, capture_output=True, timeout=60)
+    answers = [json.loads(line)["allowed"] for line in ran.stdout.splitlines()]
+    if (ran.returncode, answers) == (0, allowed):
+        return None
+    wrong = [number for number, pair in enumerate(zip(answers, allowed)) if pair[0] != pair[1]][:3]
+    return f"a policy that changes, {workers} workers: status {ran.returncode}, {len(answers)} answers, wrong {wrong}, {ran.stderr!r}"
 
 
 def unmet_stream(stream, out, said):
@@ -475,6 +504,7 @@ def main():
     whys += [unmet_summary(*row) for row in SUMMARIES] + [unmet_on_a_terminal()]
     whys += [unmet_when_closed(words) for words in (["report", STREAM], ["kinds", OPENAPI])]
     whys += [unmet_where_deep(*row) for row in DEEP] + [unmet_where_a_policy_is_deep(workers) for workers in (1, 16)]
+    whys += [unmet_where_a_policy_changes(workers) for workers in (1, 3, 16)]
     whys += unmet_where_broken()
     return ended(whys)
 
