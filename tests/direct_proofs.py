@@ -54,10 +54,10 @@ class Check:
 
 class DirectProofs:
     """The proofs of all crates of a list, in the list's own folder. `tell` gets the name of each crate that is proved, `log` what the
-    prover says."""
+    prover says. They are given up once `is_vain` says so."""
 
-    def __init__(self, listed, tell, log):
-        self.listed, self.tell, self.log = listed, tell, log
+    def __init__(self, listed, tell, log, is_vain=lambda: False):
+        self.listed, self.tell, self.log, self.is_vain = listed, tell, log, is_vain
         self.lengths, self.running, self.proved = listed.lengths(), {}, set()
         # (where words look for libraries)
         edits.library = lambda crate: listed.top / "crates" / crate / "out/rlib" / f"{crate}.rlib"
@@ -68,10 +68,10 @@ class DirectProofs:
         try:
             while left or self.running:
                 self.begin_ready(left)
-                if not self.end_some():
+                if self.is_vain() or not self.end_some():
                     return False
                 # (until a check has ended, or holds what it needs)
-                time.sleep(0.5)
+                time.sleep(0.1)
             return True
         finally:
             for check in self.running.values():

@@ -8,25 +8,24 @@ ghost use Rattle.base_containers.specs.Accepted.{is_read_node, is_within, room_a
 use crate::number::number_in;
 use json::Node;
 
-/// Whether `serde_json` reads the document of a tape.
+/// Whether `serde_json` reads the document of a tape: all its numbers are in range, and arrays and objects nest no deeper than it allows.
 pub fn are_accepted(nodes: &[Node<'_>]) -> bool
     ensures { result ≡ (list_all is_read_node nodes.now && is_within 127 (map node_token nodes.now)) }
 {
-    are_read(nodes) && are_within(nodes)
-}
-
-/// Whether all numbers are in range.
-fn are_read(nodes: &[Node<'_>]) -> bool
-    ensures { result ≡ list_all is_read_node nodes.now }
-{
+    let mut room: usize = 127;
     for node in nodes {
         if !is_read(node) {
             return false;
+        }
+        match room_after(room, node) {
+            Some(left) => room = left,
+            None => return false,
         }
     }
     true
 }
 
+/// Whether a node is no number that is out of range.
 fn is_read(node: &Node<'_>) -> bool
     ensures { result ≡ is_read_node node.now }
 {
@@ -47,18 +46,4 @@ fn room_after(room: usize, node: &Node<'_>) -> Option<usize>
         Node::EndObject | Node::EndArray => Some(room + 1),
         _ => Some(room),
     }
-}
-
-/// Whether arrays and objects nest no deeper than `serde_json` allows.
-fn are_within(nodes: &[Node<'_>]) -> bool
-    ensures { result ≡ is_within 127 (map node_token nodes.now) }
-{
-    let mut room: usize = 127;
-    for node in nodes {
-        match room_after(room, node) {
-            Some(left) => room = left,
-            None => return false,
-        }
-    }
-    true
 }

@@ -19,7 +19,7 @@ use std::collections::BTreeMap;
 /// A member of an object: its name, and what is under it.
 type Member<'t, 'a> = (&'a str, Part<'t, 'a>);
 
-/// For how many members there is room at once: most objects have no more.
+/// For how many items or members there is room at once: most lists and objects have no more.
 const USUAL: usize = 8;
 
 /// How many members there may be among which one is put in its place, since those behind it are moved.
@@ -64,7 +64,7 @@ fn items_in_tape<'t, 'a>(
     let Some(mut items) = element.items() else {
         return Ok(None);
     };
-    let mut found = Vec::new(alloc);
+    let mut found = Vec::with_capacity(alloc, USUAL)?;
     while let Some(item) = items.next() {
         found.push(Part::new(item))?;
     }

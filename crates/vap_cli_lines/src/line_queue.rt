@@ -200,8 +200,8 @@ fn read_ahead<H: Threads + Wait + Sync>(
     Ok((lines, early.snapshot.share_log()?))
 }
 
-/// Reads lines, so many by each thread. This thread starts the others, one behind the other: where two threads start others at the same
-/// moment, the system puts two of these on one processor.
+/// Reads lines, so many by each thread. This thread starts the others, one behind the other: where the threads that are started start
+/// others in turn, two of four were seen on one processor (docs/BENCH.md).
 #[cycle(read_each)]
 fn read_each<H: Threads + Wait + Sync>(early: &Early<'_, H>, size: usize, lines: &mut [QueuedLine])
     requires shared { IsSync H.row }

@@ -33,15 +33,16 @@ use vap_watch::{open, revision_of};
 /// The most workers.
 pub const MOST_WORKERS: u8 = 16;
 
-/// Reads lines, publishes events and answers reviews; with `audit` the history's lines follow. The reviews of a group are judged by
-/// as many workers as are asked for, each except the first in a thread of its own. What is written is the same however many there are:
-/// its definition does not refer to them. If it answers Ok, nothing is left unread, and the text of the lines is written and nothing
-/// else. If it reports the first line that is refused, the text up to that line is written. After a failed read, when memory runs out,
-/// and if a set or a pattern cannot be built, the first answers are written, each whole, and nothing else; after a failed write a part
-/// of an answer may be written. `Pattern` is reported with the line of the first review that is not answered, and only if the set of
-/// the log before it looks for a pattern at this review or at a later one; `Unverified` with the line of an event. `Read` is reported
-/// only if a read failed, or if there were as many as there may be and each gave a byte. `Stray`, `NoPlace` and the faults of
-/// workers exist because no proof says of threads that each answer comes, and comes once.
+/// Reads lines, publishes events and answers reviews; with `audit` the history's lines follow. Lines are read by as many threads as
+/// workers are asked for, and a review is judged where it is read. A group in which some review was not is judged by the workers, each
+/// except the first in a thread of its own. What is written is the same however many there are: its definition does not refer to them. If
+/// it answers Ok, nothing is left unread, and the text of the lines is written and nothing else. If it reports the first line that is
+/// refused, the text up to that line is written. After a failed read, when memory runs out, and if a set or a pattern cannot be built,
+/// the first answers are written, each whole, and nothing else; after a failed write a part of an answer may be written. `Pattern` is
+/// reported with the line of the first review that is not answered, and only if the set of the log before it looks for a pattern at this
+/// review or at a later one; `Unverified` with the line of an event. `Read` is reported only if a read failed, or if there were as many
+/// as there may be and each gave a byte. `Stray`, `NoPlace` and the faults of workers exist because no proof says of threads that each
+/// answer comes, and comes once.
 pub fn replay<H: Threads + Wait + Sync, R: Read, W: Write>(
     rt: &H,
     alloc: Global,

@@ -1,6 +1,6 @@
 //! The verdict on a request.
 
-ghost use Rattle.std.specs.Prelude.{◌≡◌, ◌≤◌, [], IfOk, IsErrOf};
+ghost use Rattle.std.specs.Prelude.{◌≡◌, ◌≤◌, [], IfOk, IsErrOf, codes};
 ghost use Rattle.std.specs.List.{All};
 ghost use Rattle.std.specs.Option.{option_copied};
 ghost use Rattle.base_containers.specs.declared.failed.Failed.TheVariants.{Fault};
@@ -8,7 +8,10 @@ ghost use Rattle.cel_machine.specs.declared.fault.RunFault.TheVariants.{Pattern}
 ghost use Rattle.cel_value.specs.declared.cel_type.CelType as type;
 ghost use Rattle.vap_policy_verdict.specs.Verdicts.{unfit_verdict};
 ghost use Rattle.vap_schema.specs.FitNames.{fit_fault_text};
+ghost use Rattle.vap_schema_conformance.specs.Conformance.{fault_in};
+ghost use Rattle.vap_match.specs.Requests.{object_of};
 ghost use Rattle.vap_read_objects.specs.OfKind.{labels_in};
+ghost use Rattle.vap_policy_programs.specs.Held.{value_at};
 ghost use Rattle.vap_policy_set.specs.Ready.{IsReadyAt, type_at};
 ghost use Rattle.vap_policy_set.specs.Sets.{kinds_of, namespace_in, policies_of};
 ghost use Rattle.vap_policy.specs.Evaluations.{budget, found_by};
@@ -32,8 +35,9 @@ use base_containers::{Part, Shared};
 use cel_machine::Matchers;
 use cel_value::CelType;
 use std::alloc::{AllocError, Global};
+use vap_schema_conformance::fault_of;
 use vap_match::{OpenRequest, Request};
-use vap_policy_programs::{held_at, object_at};
+use vap_policy_programs::held_at;
 use vap_policy_set::{BoundPolicy, PolicySet};
 use vap_policy_verdict::{Verdict, unfit_verdict};
 use vap_read_objects::{Kind, labels_in};
@@ -95,7 +99,22 @@ fn unfit(alloc: Global, set: &PolicySet, fault: FitFault) -> Result<Verdict, All
     unfit_verdict(alloc, message.as_str(), set.events())
 }
 
-/// The verdict on a request of a kind, if it is known, if no policy matches: only its object is looked at.
+/// Why the object of a request is no value of a type, if it has one.
+fn object_fault(
+    alloc: Global,
+    cel_type: &CelType,
+    request: &OpenRequest<'_, '_, '_>,
+) -> Result<Option<FitFault>, AllocError>
+    ensures { IfOk result (λ found. found
+        ≡ fault_in (value_at (codes "object") cel_type.now (object_of request.now.request.now.admission))) }
+{
+    match request.object() {
+        Some(document) => fault_of(alloc, document, cel_type, "object"),
+        None => Ok(None),
+    }
+}
+
+/// The verdict on a request of a kind, if it is known, if no policy matches: only its object is looked at, and no value is made.
 fn judge_unmatched(
     alloc: Global,
     set: &PolicySet,
@@ -108,9 +127,9 @@ fn judge_unmatched(
     ensures spent { IfOk result (λ verdict. verdict.charged ≤ budget) }
 {
     let opaque = CelType::Opaque;
-    match object_at(alloc, type_at(kind, &opaque), request)? {
-        Ok(_) => without_evaluation(alloc, set),
-        Err(fault) => unfit(alloc, set, fault),
+    match object_fault(alloc, type_at(kind, &opaque), request)? {
+        None => without_evaluation(alloc, set),
+        Some(fault) => unfit(alloc, set, fault),
     }
 }
 

@@ -13,7 +13,7 @@ pub loop-item-init : goal.loop-item-init
 loop-item-init c =
     let tokens = c.args.element.now in
     let h = subst (λ r. ItemsHere r (data_of tokens)) c.in-Some.is (items_here tokens c.requires c.items.result c.items.ensures) in
-    (h.1, (h.0, h.1, h.2, h.3, ap (λ l. before l h.1) (sym c.new-found.ensures.items)), h.4)
+    (h.1, (h.0, h.1, h.2, h.3, ap (λ l. before l h.1) (sym c.in_ok-found.ensures.items)), h.4)
 
 pub new-requires : goal.new-requires
 new-requires c =
