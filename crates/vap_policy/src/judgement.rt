@@ -35,13 +35,13 @@ use base_containers::{Part, Shared};
 use cel_machine::Matchers;
 use cel_value::CelType;
 use std::alloc::{AllocError, Global};
-use vap_schema_conformance::fault_of;
 use vap_match::{OpenRequest, Request};
 use vap_policy_programs::held_at;
 use vap_policy_set::{BoundPolicy, PolicySet};
 use vap_policy_verdict::{Verdict, unfit_verdict};
 use vap_read_objects::{Kind, labels_in};
 use vap_schema::FitFault;
+use vap_schema_conformance::fault_of;
 
 /// The verdict on a case by these policies, among them all that match.
 fn judge_case(
