@@ -11,14 +11,18 @@ use Rattle.vap_read.specs.contracts.event_reader.EventReader as event_reader
 use Rattle.vap_policy_verdict.proofs.Crossing.{verdict_send}
 use Rattle.vap_watch.proofs.Crossing.{log_send, log_sync, snapshot_sync}
 use Rattle.vap_audit.proofs.Crossing.{request_send}
+use Rattle.vap_cli_lines.specs.contracts.answer.ReviewAnswer as review_answer
 use Rattle.vap_cli_lines.specs.contracts.judging.ReadLine as read_line
 use Rattle.vap_cli_lines.specs.contracts.judging.Workspace as workspace
 use Rattle.vap_cli_lines.specs.contracts.line_queue.Early as early
 use Rattle.vap_cli_lines.specs.contracts.queued_line.QueuedLine as queued
 use Rattle.vap_cli_lines.specs.contracts.workspaces.Workspaces as workspaces
 
+pub answer_send : IsSend review_answer.the_field.row
+answer_send = search (verdict_send, sendable, crosses) depth 60 fits 200000
+
 pub read_line_send : IsSend read_line.the_field.row
-read_line_send = search (event_send, request_send, verdict_send, sendable, crosses) depth 60 fits 200000
+read_line_send = search (event_send, request_send, answer_send, sendable, crosses) depth 60 fits 200000
 
 pub queued_send : IsSend queued.the_field.row
 queued_send = search (read_line_send, log_send, log_sync, sendable, crosses) depth 60 fits 200000

@@ -1,9 +1,14 @@
 //! Reviews that are judged where they are read, while they are open.
 
-ghost use Rattle.std.specs.Prelude.{◌≡◌, IfSome, List, None};
+ghost use Rattle.std.specs.Prelude.{◌≡◌, IfOk, IfSome, IsErrOf, List, None};
+ghost use Rattle.base_containers.specs.declared.failed.Failed.TheVariants.{Fault};
+ghost use Rattle.cel_machine.specs.declared.fault.RunFault.TheVariants.{Pattern};
+ghost use Rattle.vap_audit.specs.Verdicts.{MayMatch};
+ghost use Rattle.vap_watch.specs.Logs.{set_of};
 ghost use Rattle.vap_watch.specs.declared.log.Logged.{Logged};
-ghost use Rattle.vap_cli_lines.specs.Judged.{IsJudgedAt, IsOfReview};
+ghost use Rattle.vap_cli_lines.specs.Judged.{AnswersAt, IsJudgedAt, IsOfReview};
 
+use crate::answer::{ReviewAnswer, answer_line};
 use crate::line::Line;
 use base_containers::Part;
 use cel_machine::Matchers;
@@ -12,33 +17,29 @@ use std::alloc::Global;
 use vap_audit::judge_open;
 use vap_match::OpenRequest;
 use vap_policy::JudgeError;
-use vap_policy_verdict::Verdict;
 use vap_watch::Snapshot;
 
 /// A line that was read, and what judging it gave, if it is a review and was judged where it was read.
 #[derive(Drop)]
 pub struct ReadLine {
     pub line: Line,
-    pub verdict: Option<Result<Verdict, JudgeError>>,
+    pub answer: Option<Result<ReviewAnswer, JudgeError>>,
 }
 
 impl ReadLine {
     /// A line that is not judged.
     pub fn new(line: Line) -> ReadLine
         ensures line { result.line ≡ line }
-        ensures verdict { result.verdict ≡ None }
-        ensures judged { (log : List Logged) → IsJudgedAt log result.line result.verdict }
+        ensures answer { result.answer ≡ None }
+        ensures judged { (log : List Logged) → IsJudgedAt log result.line result.answer }
     {
-        ReadLine {
-            line,
-            verdict: None,
-        }
+        ReadLine { line, answer: None }
     }
 
     /// The same line, as one that is not judged.
     pub(crate) fn unjudged(self) -> ReadLine
         ensures line { result.line ≡ self.line }
-        ensures judged { (log : List Logged) → IsJudgedAt log result.line result.verdict }
+        ensures judged { (log : List Logged) → IsJudgedAt log result.line result.answer }
     {
         let ReadLine { line, .. } = self;
         ReadLine::new(line)
@@ -77,7 +78,7 @@ pub(crate) fn judged(
     line: &Line,
     document: Part<'_, '_>,
     judge: Option<Judge<'_>>,
-) -> Option<Result<Verdict, JudgeError>>
+) -> Option<Result<ReviewAnswer, JudgeError>>
     requires { IsOfReview line.now document }
     ensures { IfSome judge.entry (λ j. IsJudgedAt j.snapshot.now line.now result) }
 {
@@ -87,8 +88,23 @@ pub(crate) fn judged(
     match line {
         Line::Asks(request) => {
             let open = OpenRequest::new(request, document);
-            Some(judge_open(alloc, judge.snapshot, &open, judge.matchers))
+            Some(answered(alloc, judge.snapshot, &open, judge.matchers))
         }
         _ => None,
     }
+}
+
+/// The answer to a review that is open.
+fn answered(
+    alloc: Global,
+    snapshot: &Snapshot,
+    open: &OpenRequest<'_, '_, '_>,
+    matchers: &mut Matchers,
+) -> Result<ReviewAnswer, JudgeError>
+    ensures answer { IfOk result (AnswersAt snapshot.now open.now.request.now) }
+    ensures pattern { IsErrOf result (Fault Pattern) → MayMatch (set_of snapshot.now) open.now.request.now }
+{
+    let verdict = judge_open(alloc, snapshot, open, matchers)?;
+    let line = answer_line(alloc, open.request.admission().uid.as_str(), &verdict)?;
+    Ok(ReviewAnswer { verdict, line })
 }

@@ -40,7 +40,7 @@ fn is_blank(bytes: &[u8]) -> bool
     bytes.is_empty() || bytes == b"\r".as_slice()
 }
 
-/// What the bytes of a line are, and the verdict on it if it is a review and is to be judged; there are no more bytes than a line may
+/// What the bytes of a line are, and the answer to it if it is a review and is to be judged; there are no more bytes than a line may
 /// have.
 pub(crate) fn read_line(
     alloc: Global,
@@ -51,7 +51,7 @@ pub(crate) fn read_line(
 ) -> Result<ReadLine, AllocError>
     requires { length bytes.now ≤ longest_line }
     ensures line { IfOk result (λ read. Reads bytes.now read.line) }
-    ensures judged { IfSome judge.entry (λ j. IfOk result (λ read. IsJudgedAt j.snapshot.now read.line read.verdict)) }
+    ensures judged { IfSome judge.entry (λ j. IfOk result (λ read. IsJudgedAt j.snapshot.now read.line read.answer)) }
 {
     if is_blank(bytes) {
         Ok(ReadLine::new(Line::Skipped))
@@ -70,7 +70,7 @@ fn read_bytes(
     requires short { length bytes.now ≤ longest_line }
     requires some { is_blank bytes.now ≡ false }
     ensures line { IfOk result (λ read. Reads bytes.now read.line) }
-    ensures judged { IfSome judge.entry (λ j. IfOk result (λ read. IsJudgedAt j.snapshot.now read.line read.verdict)) }
+    ensures judged { IfSome judge.entry (λ j. IfOk result (λ read. IsJudgedAt j.snapshot.now read.line read.answer)) }
 {
     match std::str::from_utf8(bytes) {
         Ok(text) => read_text(alloc, events, text, scratch, judge),
@@ -88,14 +88,14 @@ fn read_text(
     requires short { length text.now ≤ longest_line }
     requires some { is_blank text.now ≡ false }
     ensures line { IfOk result (λ read. Reads text.now read.line) }
-    ensures judged { IfSome judge.entry (λ j. IfOk result (λ read. IsJudgedAt j.snapshot.now read.line read.verdict)) }
+    ensures judged { IfSome judge.entry (λ j. IfOk result (λ read. IsJudgedAt j.snapshot.now read.line read.answer)) }
 {
     match opened(alloc, text, scratch)? {
         Some(tape) => {
             let document = Part::new(tape.root());
             let line = read_opened(alloc, events, text, &document)?;
-            let verdict = judged(alloc, &line, document, judge);
-            Ok(ReadLine { line, verdict })
+            let answer = judged(alloc, &line, document, judge);
+            Ok(ReadLine { line, answer })
         }
         None => Ok(ReadLine::new(Line::Refused(LineFault::BadJson))),
     }

@@ -102,7 +102,7 @@ impl LineQueue {
         ensures first { IfOk result (λ taken. IsFirst (unread R.remaining input.old self.old.pending)
             (unread R.remaining input.new self.new.pending) buffer.new taken.ending) }
         ensures early { IfOk result (λ taken. IfSome taken.read (λ read. Reads buffer.new read.line
-            × IsJudgedAt readers.now.snapshot.now read.line read.verdict)) }
+            × IsJudgedAt readers.now.snapshot.now read.line read.answer)) }
         ensures log { OnOk result (StartsWith readers.now.snapshot.now self.new.log) }
         ensures short { OnOk result (length buffer.new ≤ longest_line) }
         ensures less { IfOk result (λ taken. taken.ending ≡ Ending.Feed → room self.new.pending < room self.old.pending) }

@@ -38,7 +38,7 @@ impl Model for QueuedLine {
 
     ghost view = { λ q. record { bytes = q.bytes.items; log = q.log } };
 
-    ghost invariant = { λ q. IfSome q.read (λ read. Reads q.bytes.items read.line × IsJudgedAt q.log read.line read.verdict) };
+    ghost invariant = { λ q. IfSome q.read (λ read. Reads q.bytes.items read.line × IsJudgedAt q.log read.line read.answer) };
 }
 
 impl QueuedLine {
@@ -92,7 +92,7 @@ impl QueuedLine {
     fn parts(self, snapshot: &Snapshot) -> (Vec<u8>, Option<ReadLine>)
         requires { StartsWith snapshot.now self.log }
         ensures bytes { result.0.items ≡ self.bytes }
-        ensures read { IfSome result.1 (λ read. Reads self.bytes read.line × IsJudgedAt snapshot.now read.line read.verdict) }
+        ensures read { IfSome result.1 (λ read. Reads self.bytes read.line × IsJudgedAt snapshot.now read.line read.answer) }
     {
         let QueuedLine { bytes, log, read } = self;
         let is_judged_here = log.get().len() == revision_of(snapshot);
@@ -146,7 +146,7 @@ impl LineBuffer {
     ) -> Result<ReadLine, AllocError>
         requires { length self.old ≤ longest_line }
         ensures line { IfOk result (λ read. Reads self.old read.line) }
-        ensures judged { IfOk result (λ read. IsJudgedAt snapshot.now read.line read.verdict) }
+        ensures judged { IfOk result (λ read. IsJudgedAt snapshot.now read.line read.answer) }
     {
         let bytes = self.bytes.as_slice();
         let scratch = &mut self.workspace.scratch;
@@ -183,7 +183,7 @@ impl LineBuffer {
     pub(crate) fn put(&mut self, queued: QueuedLine, snapshot: &Snapshot) -> Option<ReadLine>
         requires { StartsWith snapshot.now queued.log }
         ensures bytes { self.new ≡ queued.bytes }
-        ensures read { IfSome result (λ read. Reads queued.bytes read.line × IsJudgedAt snapshot.now read.line read.verdict) }
+        ensures read { IfSome result (λ read. Reads queued.bytes read.line × IsJudgedAt snapshot.now read.line read.answer) }
     {
         let (bytes, read) = queued.parts(snapshot);
         self.bytes = bytes;

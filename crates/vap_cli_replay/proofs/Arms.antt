@@ -1,6 +1,6 @@
 -- What the lines of each kind result in.
-use Rattle.std.proofs.Common.{◌≡◌, ◌⊎◌, inl, inr, ℕ, ◌+◌, ◌<◌, ◌≤◌, List, [], ◌∷◌, ◌++◌, length, Option, Some, Result, Ok, Err}
-use Rattle.std.proofs.Common.{refl, sym, ap, subst, ◌∙◌, append_assoc, arith, length-append}
+use Rattle.std.proofs.Common.{◌≡◌, ◌⊎◌, inl, inr, ℕ, ◌+◌, ◌<◌, ◌≤◌, List, [], ◌∷◌, ◌++◌, length, Option, Result, Ok, Err}
+use Rattle.std.proofs.Common.{refl, sym, ap, subst, ◌∙◌, append-nil, append_assoc, arith, length-append}
 use Rattle.std.specs.Prelude.{IfSome, OnOk}
 use Rattle.std.specs.Io.KnownBytes.{Appends}
 use Rattle.vap_read.specs.declared.event.Event.{Event}
@@ -12,77 +12,103 @@ use Rattle.vap_watch.specs.declared.log.Logged.{Logged}
 use Rattle.vap_audit.specs.Entries.{most_entries}
 use Rattle.vap_audit.specs.declared.entry.Entry.{Entry}
 use Rattle.vap_audit.specs.Verdicts.{verdict_at}
+use Rattle.vap_policy_verdict.specs.AnswerText.{answer_text}
 use Rattle.vap_policy_verdict.specs.declared.verdict.Verdict.{Verdict}
 use Rattle.vap_plane.specs.Answers.{verdicts_at}
 use Rattle.vap_cli_replay.specs.Moves.{IsRefusal, RefusesAt, Takes}
-use Rattle.vap_cli_replay.specs.Replay.{answers_text, entry_of}
-use Rattle.vap_cli_replay.specs.Sessions.{AreJudged, Answered, HasRoom, IsInStep, RefusesEvent, TakesEvent, TakesReview}
+use Rattle.vap_cli_replay.specs.Replay.{answer_line, answers_text, entry_of}
+use Rattle.vap_cli_replay.specs.Sessions.{AreJudged, Answered, HasAnswers, HasRoom, IsInStep, IsKept, RefusesEvent, TakesEvent, TakesReview}
 use Rattle.vap_cli_replay.specs.Sessions.{group_entries, sofar_of, waiting_entries}
+use Rattle.vap_cli_lines.specs.Judged.{AnswersAt}
+use Rattle.vap_cli_lines.specs.declared.answer.ReviewAnswer.{ReviewAnswer}
 use Rattle.vap_cli_lines.specs.declared.fault.LineFault.{LineFault}
 use Rattle.vap_cli_lines.specs.declared.fault.LineFault.TheVariants as fault
 use Rattle.vap_cli_lines.specs.declared.line.Line.TheVariants.{Happens, Asks, Refused}
 use Rattle.vap_cli_replay.specs.declared.session.Session.{Session}
-use Rattle.vap_cli_replay.proofs.Groups.{group_last, group_length, one_judged}
+use Rattle.vap_cli_replay.proofs.Groups.{answers_more, group_last, group_length, one_judged}
 use Rattle.vap_cli_replay.proofs.Taking.{event_refused, review_refused, took_event}
 use Rattle.vap_cli_replay.proofs.Told.{none_waiting}
 
--- ---- verdicts that are kept
+-- ---- answers that are kept
 
 nothing_kept : (verdicts : List Verdict) → length verdicts ≡ 0 → verdicts ≡ []
 nothing_kept [] none = refl
 nothing_kept (v ∷ verdicts) none = cc
 
 -- if no review waits, none is judged
-pub none_judged : (s : Session) → s.group.items ≡ [] → AreJudged s
-none_judged s none = λ same.
-    nothing_kept s.verdicts.items (same ∙ ap (λ (rs : List Request). length rs) none)
-    ∙ ap (λ (rs : List Request). verdicts_at s.writer.published rs) (sym none)
+pub none_judged : (s : Session) → s.group.items ≡ [] → s.answers.items ≡ [] → AreJudged s
+none_judged s none blank = λ same.
+    record {
+      verdicts =
+          nothing_kept s.verdicts.items (same ∙ ap (λ (rs : List Request). length rs) none)
+          ∙ ap (λ (rs : List Request). verdicts_at s.writer.published rs) (sym none);
+      answers =
+          blank
+          ∙ ap (λ (rs : List Request). answers_text (group_entries s.writer.published (length s.history) rs)) (sym none);
+    }
 
--- a verdict that is put behind those on the others
-behind_others : (log : List Logged) (requests more : List Request) (request : Request) (before after : List Verdict) (count : ℕ)
-    (verdict : Option Verdict) → (length before ≡ length requests → before ≡ verdicts_at log requests) → count ≡ length requests
-    → more ≡ requests ++ request ∷ [] → IfSome verdict (λ v. v ≡ verdict_at log request)
-    → ((after ≡ []) ⊎ ((v : Verdict) × (verdict ≡ Some v) × (length before ≡ count) × (after ≡ before ++ v ∷ [])))
-    → length after ≡ length more → after ≡ verdicts_at log more
-behind_others log requests more request before after count verdict judged counted grown right (inl none) same =
-    let one : length more ≡ length requests + 1 =
-    ap (λ (rs : List Request). length rs) grown ∙ length-append requests (request ∷ []) in
-    let zero : length after ≡ 0 = ap (λ (vs : List Verdict). length vs) none in
+-- the answers to the others, and one behind them
+answers_behind : (log : List Logged) (call : ℕ) (requests more : List Request) (request : Request) (v : Verdict)
+    (before after line : List ℕ) → before ≡ answers_text (group_entries log call requests) → more ≡ requests ++ request ∷ []
+    → v ≡ verdict_at log request → line ≡ answer_text request.admission.uid v ++ 10 ∷ [] → after ≡ before ++ line
+    → after ≡ answers_text (group_entries log call more)
+answers_behind log call requests more request v before after line all grown is made longer =
+    let e : Entry = entry_of log (call + length requests) request in
+    let one : line ≡ answers_text (e ∷ []) =
+    made ∙ (ap (λ (w : Verdict). answer_text request.admission.uid w ++ 10 ∷ []) is ∙ sym (append-nil (answer_line e))) in
+    longer
+    ∙ (ap (λ (l : List ℕ). l ++ line) all
+    ∙ (ap (λ (l : List ℕ). answers_text (group_entries log call requests) ++ l) one
+    ∙ (sym (answers_more (group_entries log call requests) (e ∷ []))
+    ∙ (ap (λ (es : List Entry). answers_text es) (sym (group_last log call requests request))
+    ∙ ap (λ (rs : List Request). answers_text (group_entries log call rs)) (sym grown)))))
+
+-- an answer that is put behind those to the others
+judged_last : (old new : Session) (request : Request) (answer : Option ReviewAnswer) (count : ℕ) → AreJudged old
+    → new.writer ≡ old.writer → new.history ≡ old.history → count ≡ length old.group.items
+    → new.group.items ≡ old.group.items ++ request ∷ [] → IfSome answer (AnswersAt old.writer.published request)
+    → (new.verdicts.items ≡ [])
+    ⊎ IsKept count answer old.verdicts.items old.answers.items new.verdicts.items new.answers.items → AreJudged new
+judged_last old new request answer count judged writer history counted grown right (inl none) = λ same.
+    let one : length new.group.items ≡ length old.group.items + 1 =
+    ap (λ (rs : List Request). length rs) grown ∙ length-append old.group.items (request ∷ []) in
+    let zero : length new.verdicts.items ≡ 0 = ap (λ (vs : List Verdict). length vs) none in
     absurd (omega (arith, one, zero, same))
-behind_others log requests more request before after count verdict judged counted grown right (inr kept) same =
-    let is : kept.0 ≡ verdict_at log request = subst (λ (o : Option Verdict). IfSome o (λ v. v ≡ verdict_at log request)) kept.1 right in
-    kept.3 ∙ (one_judged log requests request before kept.0 (judged (kept.2 ∙ counted)) is
-    ∙ ap (λ (rs : List Request). verdicts_at log rs) (sym grown))
-
-judged_last : (old new : Session) (request : Request) (verdict : Option Verdict) (count : ℕ) → AreJudged old
-    → new.writer ≡ old.writer → count ≡ length old.group.items → new.group.items ≡ old.group.items ++ request ∷ []
-    → IfSome verdict (λ v. v ≡ verdict_at old.writer.published request)
-    → ((new.verdicts.items ≡ []) ⊎ ((v : Verdict) × (verdict ≡ Some v) × (length old.verdicts.items ≡ count)
-    × (new.verdicts.items ≡ old.verdicts.items ++ v ∷ [])))
-    → AreJudged new
-judged_last old new request verdict count judged writer counted grown right kept = λ same.
-    behind_others old.writer.published old.group.items new.group.items request old.verdicts.items new.verdicts.items count verdict
-    judged counted grown right kept same
-    ∙ ap (λ (w : Written). verdicts_at w.published new.group.items) (sym writer)
+judged_last old new request answer count judged writer history counted grown right (inr kept) = λ same.
+    let log : List Logged = old.writer.published in
+    let on : HasAnswers old = judged (kept.many ∙ counted) in
+    let answers : AnswersAt log request kept.kept =
+    subst (λ (o : Option ReviewAnswer). IfSome o (AnswersAt log request)) kept.is right in
+    record {
+      verdicts =
+          kept.verdict
+          ∙ (one_judged log old.group.items request old.verdicts.items kept.kept.verdict on.verdicts answers.verdict
+          ∙ (ap (λ (rs : List Request). verdicts_at log rs) (sym grown)
+          ∙ ap (λ (w : Written). verdicts_at w.published new.group.items) (sym writer)));
+      answers =
+          answers_behind log (length old.history) old.group.items new.group.items request kept.kept.verdict old.answers.items
+          new.answers.items kept.kept.line.items on.answers grown answers.verdict answers.line kept.line
+          ∙ (ap (λ (w : Written). answers_text (group_entries w.published (length old.history) new.group.items)) (sym writer)
+          ∙ ap (λ (es : List Entry). answers_text (group_entries new.writer.published (length es) new.group.items)) (sym history));
+    }
 
 -- ---- room
 
--- a review that waits as the last has room, with its verdict or without
-pub waits_room : (old new : Session) (request : Request) (verdict : Option Verdict) (count : ℕ) → IsInStep old
+-- a review that waits as the last has room, with its answer or without
+pub waits_room : (old new : Session) (request : Request) (answer : Option ReviewAnswer) (count : ℕ) → IsInStep old
     → length old.history + length old.group.items < most_entries → new.writer ≡ old.writer → new.history ≡ old.history
     → count ≡ length old.group.items → new.group.items ≡ old.group.items ++ request ∷ []
-    → IfSome verdict (λ v. v ≡ verdict_at old.writer.published request)
-    → ((new.verdicts.items ≡ []) ⊎ ((v : Verdict) × (verdict ≡ Some v) × (length old.verdicts.items ≡ count)
-    × (new.verdicts.items ≡ old.verdicts.items ++ v ∷ [])))
-    → HasRoom new
-waits_room old new request verdict count step room writer history counted grown right kept =
+    → IfSome answer (AnswersAt old.writer.published request)
+    → (new.verdicts.items ≡ [])
+    ⊎ IsKept count answer old.verdicts.items old.answers.items new.verdicts.items new.answers.items → HasRoom new
+waits_room old new request answer count step room writer history counted grown right kept =
     let one : length new.group.items ≡ length old.group.items + 1 =
     ap (λ (rs : List Request). length rs) grown ∙ length-append old.group.items (request ∷ []) in
     let same : length new.history ≡ length old.history = ap (λ (es : List Entry). length es) history in
     record {
       few = omega (arith, one, step.few);
       room = omega (arith, one, same, room);
-      judged = judged_last old new request verdict count step.judged writer counted grown right kept;
+      judged = judged_last old new request answer count step.judged writer history counted grown right kept;
     }
 
 -- after an answered group there is room as before
@@ -97,7 +123,7 @@ answered_step old new room done published =
       published = published;
       few = omega (arith, none);
       room = omega (arith, none, longer, room.room);
-      judged = none_judged new done.none;
+      judged = none_judged new done.none done.blank;
     }
 
 -- how many entries there are if the group is taken as answered
@@ -131,9 +157,10 @@ took_each (Err e) event old one two new done writer lines entries rest taken = t
 -- and the next line may be taken then
 pub event_step : {A E : Type 0} (r : Result A E) (one two new : Session) → Answered one two
     → length one.history + length one.group.items ≤ most_entries
-    → (new.history ≡ two.history) × (new.group ≡ two.group) × (new.lines ≡ two.lines) → OnOk r (new.writer.staged ≡ [])
-    → OnOk r (IsInStep new)
-event_step (Ok x) one two new done room rest published =
+    → (new.history ≡ two.history) × (new.group ≡ two.group) × (new.lines ≡ two.lines) → new.answers ≡ two.answers
+    → OnOk r (new.writer.staged ≡ []) → OnOk r (IsInStep new)
+event_step (Ok x) one two new done room rest answers published =
+    let blank : new.answers.items ≡ [] = rw answers done.blank in
     let empty : new.group.items ≡ [] = rw rest.1 done.none in
     let none : length new.group.items ≡ 0 = ap (λ (l : List Request). length l) empty in
     let longer : length new.history ≡ length one.history + length one.group.items =
@@ -142,9 +169,9 @@ event_step (Ok x) one two new done room rest published =
       published = published;
       few = omega (arith, none);
       room = omega (arith, none, longer, room);
-      judged = none_judged new empty;
+      judged = none_judged new empty blank;
     }
-event_step (Err e) one two new done room rest published = tt
+event_step (Err e) one two new done room rest answers published = tt
 
 -- an event is refused after an answered group
 pub refused_event : {W : Type 0} (contents : W → Option (List ℕ)) (event : Event) (old one two : Session) (before after : Counted W)

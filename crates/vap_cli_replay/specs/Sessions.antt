@@ -1,6 +1,6 @@
 -- A replay under way.
 use Rattle.std.specs.Prelude.{◌≡◌, ◌≤◌, ◌<◌, ◌+◌, ℕ, true, false, List, [], ◌∷◌, ◌++◌, length}
-use Rattle.std.specs.Prelude.{slice_get, unwrap_or, option_and_then}
+use Rattle.std.specs.Prelude.{slice_get, unwrap_or, option_and_then, Option, Some}
 use Rattle.vap_read.specs.declared.event.Event.{Event}
 use Rattle.vap_match.specs.declared.request.Request.{Request}
 use Rattle.vap_watch.specs.Given.{Choice, no_choice, takes}
@@ -10,8 +10,10 @@ use Rattle.vap_watch.specs.declared.log.Logged.{Logged}
 use Rattle.vap_audit.specs.Entries.{most_entries}
 use Rattle.vap_plane.specs.Answers.{verdicts_at}
 use Rattle.vap_audit.specs.declared.entry.Entry.{Entry}
+use Rattle.vap_policy_verdict.specs.declared.verdict.Verdict.{Verdict}
+use Rattle.vap_cli_lines.specs.declared.answer.ReviewAnswer.{ReviewAnswer}
 use Rattle.vap_cli_replay.specs.Groups.{TellsRequests}
-use Rattle.vap_cli_replay.specs.Replay.{Choices, Sofar, beginning, entry_of}
+use Rattle.vap_cli_replay.specs.Replay.{Choices, Sofar, answers_text, beginning, entry_of}
 use Rattle.base_containers.specs.declared.lines.LineError.{LineError}
 use Rattle.base_containers.specs.declared.lines.LineError.TheVariants as reading
 use Rattle.base_containers.specs.declared.failed.Failed.{Failed}
@@ -47,9 +49,23 @@ sofar_of s = record {
 abbrev pub largest_group : ℕ
 largest_group = 1024
 
--- as many verdicts as reviews that wait are the verdicts on these
+-- the verdicts are those on the reviews that wait, and the answers are those to them
+pub record HasAnswers (s : Session) : Type 0 where
+  pub verdicts : s.verdicts.items ≡ verdicts_at s.writer.published s.group.items
+  pub answers : s.answers.items ≡ answers_text (waiting_entries s)
+
+-- as many verdicts as reviews that wait are the verdicts on these, with the answers to them
 abbrev pub AreJudged : Session → Type 0
-AreJudged s = length s.verdicts.items ≡ length s.group.items → s.verdicts.items ≡ verdicts_at s.writer.published s.group.items
+AreJudged s = length s.verdicts.items ≡ length s.group.items → HasAnswers s
+
+-- an answer is kept behind those to so many others
+pub record IsKept (others : ℕ) (answer : Option ReviewAnswer) (verdicts : List Verdict) (text : List ℕ) (more : List Verdict)
+    (longer : List ℕ) : Type 0 where
+  pub kept : ReviewAnswer
+  pub is : answer ≡ Some kept
+  pub many : length verdicts ≡ others
+  pub verdict : more ≡ verdicts ++ kept.verdict ∷ []
+  pub line : longer ≡ text ++ kept.line.items
 
 -- the group is no larger than it may be, and the history has room for it
 pub record HasRoom (s : Session) : Type 0 where
@@ -75,12 +91,14 @@ pub record Answered (old new : Session) : Type 0 where
   pub log : new.writer ≡ old.writer
   pub lines : new.lines ≡ old.lines
   pub none : new.group.items ≡ []
+  pub blank : new.answers.items ≡ []
   pub entries : new.history ≡ old.history ++ waiting_entries old
 
 -- some of the group is decided, and nothing else has changed
 pub record Decided (old new : Session) (entries : List Entry) : Type 0 where
   pub log : new.writer ≡ old.writer
   pub lines : new.lines ≡ old.lines
+  pub answers : new.answers ≡ old.answers
   pub history : new.history ≡ old.history ++ entries
 
 -- the choice that a log keeps at a revision

@@ -11,15 +11,14 @@ ghost use Rattle.vap_plane.specs.Answers.{verdicts_at};
 ghost use Rattle.vap_watch.specs.Given.{AreUnverified};
 ghost use Rattle.vap_watch.specs.Logs.{objects_after, objects_of};
 ghost use Rattle.vap_audit.specs.Verdicts.{verdict_at};
-ghost use Rattle.vap_policy_verdict.specs.declared.verdict.Verdict.{Verdict as VerdictOf};
 ghost use Rattle.vap_cli_replay.specs.Moves.{CountsWrites, IsRefusal, IsUnjudged, IsUnpublished, RefusesAt, StopsAt, Takes, Waits, Writes};
 ghost use Rattle.vap_cli_replay.specs.Streams.{IsPlain, is_of_the_lines};
 ghost use Rattle.vap_cli_lines.specs.declared.fault.LineFault.{LineFault as FaultOf};
 ghost use Rattle.vap_cli_replay.specs.Replay.{answer_line, answers_text, audit_line, audit_lines, audit_where, entry_of};
 ghost use Rattle.vap_cli_replay.specs.Groups.{OneMayMatch};
 ghost use Rattle.vap_cli_replay.specs.Sessions.{Answered, Decided, HasRoom, IsInStep, IsOpening, RefusesEvent, TakesEvent, TakesReview};
-ghost use Rattle.vap_cli_replay.specs.Sessions.{AreJudged, TellsGroup, first_with, group_entries, sofar_of, waiting_entries};
-ghost use Rattle.vap_cli_lines.specs.Judged.{IsJudged, IsJudgedAt};
+ghost use Rattle.vap_cli_replay.specs.Sessions.{IsKept, TellsGroup, first_with, group_entries, sofar_of, waiting_entries};
+ghost use Rattle.vap_cli_lines.specs.Judged.{AnswersAt, IsJudged, IsJudgedAt};
 ghost use Rattle.cel_machine.specs.declared.fault.RunFault.TheVariants.{Pattern};
 ghost use Rattle.base_containers.specs.declared.failed.Failed.TheVariants.{Fault};
 
@@ -34,11 +33,11 @@ use std::sync::Wait;
 use std::thread::Threads;
 use std::vec::IntoIter;
 use vap_audit::{AuditFault, Entry, History, MOST_ENTRIES};
-use vap_cli_lines::{Line, LineFault};
+use vap_cli_lines::{Line, LineFault, ReviewAnswer, answer_line};
 use vap_match::Request;
 use vap_plane::Plan;
 use vap_policy::JudgeError;
-use vap_policy_verdict::{Verdict, with_answer};
+use vap_policy_verdict::Verdict;
 use vap_read::{Event, EventReader};
 use vap_watch::Writer;
 
@@ -52,13 +51,13 @@ const ENOUGH_JUDGED: usize = 64;
 /// From how many bytes on the lines of the audit are written, in one write.
 const FULL_TEXT: usize = 65_536;
 
-/// Room for most lines. Each is made in a room of its own and then put behind the others, since a writer of JSON clears up to 16 KiB of
-/// the room behind its text.
+/// Room for most lines of the audit. Each is made in a room of its own and then put behind the others, since a writer of JSON clears up
+/// to 16 KiB of the room behind its text.
 const LINE_ROOM: usize = 1_024;
 
 /// A replay under way: what reads its events, what is published, what was decided, by call, and the reviews that are read and not
-/// yet answered, with the verdicts on them if they were judged where they were read, and the line of the first of them. It is not
-/// `Drop`: give it up by [`Session::end`].
+/// yet answered, with the verdicts on them and the text of their answers if they were judged where they were read, and the line of the
+/// first of them. It is not `Drop`: give it up by [`Session::end`].
 pub(crate) struct Session {
     alloc: Global,
     events: EventReader,
@@ -66,6 +65,7 @@ pub(crate) struct Session {
     pub(crate) history: History,
     pub(crate) group: Vec<Request>,
     pub(crate) verdicts: Vec<Verdict>,
+    pub(crate) answers: Vec<u8>,
     pub(crate) lines: u64,
     pub(crate) first: u64,
 }
@@ -83,6 +83,7 @@ impl Session {
             history: History::new(alloc),
             group: Vec::new(alloc),
             verdicts: Vec::new(alloc),
+            answers: Vec::new(alloc),
             lines: 0,
             first: 0,
         }
@@ -99,6 +100,7 @@ impl Session {
             history,
             group: _group,
             verdicts: _verdicts,
+            answers: _answers,
             lines: _,
             first: _,
         } = self;
@@ -126,11 +128,11 @@ impl Session {
         &mut self,
         crew: &mut Crew<'_, L, H>,
         line: Line,
-        verdict: Option<Result<Verdict, JudgeError>>,
+        answer: Option<Result<ReviewAnswer, JudgeError>>,
         out: &mut Counted<W>,
     ) -> Result<(), ReplayError>
         requires step { IsInStep self.old }
-        requires judged { IsJudgedAt self.old.writer.published line verdict }
+        requires judged { IsJudgedAt self.old.writer.published line answer }
         requires home { crew.old.home.board ≡ self.old.writer.board }
         requires count { self.old.lines + 1 < 2 ^ 64 }
         ensures home { OnOk result (crew.new.home.board ≡ self.new.writer.board) }
@@ -151,7 +153,7 @@ impl Session {
         self.lines += 1;
         match line {
             Line::Skipped => Ok(()),
-            Line::Asks(request) => self.take_review(crew, request, verdict, out),
+            Line::Asks(request) => self.take_review(crew, request, answer, out),
             Line::Happens(event) => {
                 self.answer_group(crew, out)?;
                 self.take_event(crew.rt, event)
@@ -194,6 +196,7 @@ impl Session {
             → (number ≡ self.old.lines) × RefusesEvent self.old.writer.published event why }
         ensures unwritten { IfErr result (λ error. error ≢ ReplayError.Write) }
         ensures rest { (self.new.history ≡ self.old.history) × (self.new.group ≡ self.old.group) × (self.new.lines ≡ self.old.lines) }
+        ensures answers { self.new.answers ≡ self.old.answers }
         ensures unverified { (number : ℕ) → IsErrOf result (ReplayError.Line number LineFault.Unverified) → (number ≡ self.old.lines)
             × AreUnverified (objects_after (objects_of self.old.writer.published) (event ∷ [])) }
         ensures no_pattern { (number : ℕ) → IsErrOf result (ReplayError.Line number LineFault.Pattern) → ⊥ }
@@ -210,7 +213,14 @@ impl Session {
 
     /// Whether the group is large enough, and judged where it was read.
     fn is_enough(&self) -> bool {
-        self.group.len() >= ENOUGH_JUDGED && self.verdicts.len() == self.group.len()
+        self.group.len() >= ENOUGH_JUDGED && self.is_judged()
+    }
+
+    /// Whether there are as many verdicts as reviews that wait.
+    fn is_judged(&self) -> bool
+        ensures { result ≡ true → length self.now.verdicts.items ≡ length self.now.group.items }
+    {
+        self.verdicts.len() == self.group.len()
     }
 
     /// Puts a review into the group, and answers the group if it is as large as it may be, or large enough, or if the history has
@@ -220,11 +230,11 @@ impl Session {
         &mut self,
         crew: &mut Crew<'_, L, H>,
         request: Request,
-        verdict: Option<Result<Verdict, JudgeError>>,
+        answer: Option<Result<ReviewAnswer, JudgeError>>,
         out: &mut Counted<W>,
     ) -> Result<(), ReplayError>
         requires step { IsInStep self.old }
-        requires judged { IsJudged self.old.writer.published request verdict }
+        requires judged { IsJudged self.old.writer.published request answer }
         requires home { crew.old.home.board ≡ self.old.writer.board }
         ensures home { OnOk result (crew.new.home.board ≡ self.new.writer.board) }
         ensures step { OnOk result (IsInStep self.new) }
@@ -249,8 +259,8 @@ impl Session {
         if self.waiting() == MOST_ENTRIES {
             return self.refuse(crew, LineFault::AuditFull, out);
         }
-        let verdict = self.given(verdict)?;
-        self.wait(request, verdict)?;
+        let answer = self.given(answer)?;
+        self.wait(request, answer)?;
         if self.group.len() == LARGEST_GROUP || self.waiting() == MOST_ENTRIES || self.is_enough() {
             self.answer_group(crew, out)?;
         }
@@ -269,32 +279,32 @@ impl Session {
         }
     }
 
-    /// The verdict on the review that was read last, if it was judged. If it was given up, that is reported at the first line of the group
+    /// The answer to the review that was read last, if it was judged. If it was given up, that is reported at the first line of the group
     /// that it waits with.
     fn given(
         &self,
-        verdict: Option<Result<Verdict, JudgeError>>,
-    ) -> Result<Option<Verdict>, ReplayError>
-        ensures given { IfOk result (λ found. IfSome found (λ v. verdict ≡ Some (Ok v))) }
+        answer: Option<Result<ReviewAnswer, JudgeError>>,
+    ) -> Result<Option<ReviewAnswer>, ReplayError>
+        ensures given { IfOk result (λ found. IfSome found (λ a. answer ≡ Some (Ok a))) }
         ensures told { (number : ℕ) → (why : FaultOf) → IsErrOf result (ReplayError.Line number why)
             → (number ≡ first_with self.now.group.items self.now.first self.now.lines) × (why ≡ LineFault.Pattern) }
         ensures pattern { (number : ℕ) → (why : FaultOf) → IsErrOf result (ReplayError.Line number why)
-            → verdict ≡ Some (Err (Fault Pattern)) }
+            → answer ≡ Some (Err (Fault Pattern)) }
         ensures unwritten { IfErr result (λ error. error ≢ ReplayError.Write) }
         ensures no_read { IsErrOf result ReplayError.Read → ⊥ }
     {
-        match verdict {
+        match answer {
             None => Ok(None),
-            Some(Ok(verdict)) => Ok(Some(verdict)),
+            Some(Ok(answer)) => Ok(Some(answer)),
             Some(Err(error)) => Err(given_up(self.first_line(), error)),
         }
     }
 
-    /// Puts a review into the group, as the last, with the verdict on it if there is one.
-    fn wait(&mut self, request: Request, verdict: Option<Verdict>) -> Result<(), ReplayError>
+    /// Puts a review into the group, as the last, with the answer to it if there is one.
+    fn wait(&mut self, request: Request, answer: Option<ReviewAnswer>) -> Result<(), ReplayError>
         requires step { IsInStep self.old }
         requires room { length self.old.history + length self.old.group.items < most_entries }
-        requires right { IfSome verdict (λ v. v ≡ verdict_at self.old.writer.published request) }
+        requires right { IfSome answer (AnswersAt self.old.writer.published request) }
         ensures taken { OnOk result (TakesReview request self.old self.new) }
         ensures room { OnOk result (HasRoom self.new) }
         ensures history { OnOk result (self.new.history ≡ self.old.history) }
@@ -303,7 +313,12 @@ impl Session {
         ensures group { OnOk result (self.new.group.items ≡ self.old.group.items ++ request ∷ []) }
     {
         self.first = self.first_line();
-        keep(&mut self.verdicts, self.group.len(), verdict)?;
+        keep(
+            &mut self.verdicts,
+            &mut self.answers,
+            self.group.len(),
+            answer,
+        )?;
         self.group.push(request)?;
         Ok(())
     }
@@ -338,8 +353,8 @@ impl Session {
         write_text(text.as_slice(), out)
     }
 
-    /// Has the group judged by all workers, if that was not done where it was read, and records what is decided. The text is that of the
-    /// answers, read from the history.
+    /// Records what is decided on the group, which all workers judge if it was not judged where it was read. The text is that of the
+    /// answers.
     fn decide_group<L: Plan + Send + Sync, H: Threads + Wait + Sync>(
         &mut self,
         crew: &mut Crew<'_, L, H>,
@@ -354,36 +369,83 @@ impl Session {
         ensures pattern { (number : ℕ) → (why : FaultOf) → IsErrOf result (ReplayError.Line number why) → TellsGroup self.old number why }
         ensures no_read { IsErrOf result ReplayError.Read → ⊥ }
     {
-        let early = mem::replace(&mut self.verdicts, Vec::new(self.alloc));
-        let verdicts = self.verdicts(crew, early)?;
+        if self.is_judged() {
+            self.record_group()
+        } else {
+            self.judge_group(crew)
+        }
+    }
+
+    /// Records what was decided on the group where its reviews were read. The text is that of the answers that were made there.
+    fn record_group(&mut self) -> Result<Vec<u8>, ReplayError>
+        requires room { HasRoom self.old }
+        requires judged { length self.old.verdicts.items ≡ length self.old.group.items }
+        ensures answered { OnOk result (Answered self.old self.new) }
+        ensures text { IfOk result (λ text. text.items ≡ answers_text (waiting_entries self.old)) }
+        ensures memory { IfErr result (λ error. error ≡ ReplayError.OutOfMemory) }
+    {
+        let text = mem::replace(&mut self.answers, Vec::new(self.alloc));
+        let verdicts = mem::replace(&mut self.verdicts, Vec::new(self.alloc));
+        let group = mem::replace(&mut self.group, Vec::new(self.alloc));
+        self.record_all(group, verdicts)?;
+        Ok(text)
+    }
+
+    /// Has the group judged by all workers, and records what is decided. The text is that of the answers, read from the history.
+    fn judge_group<L: Plan + Send + Sync, H: Threads + Wait + Sync>(
+        &mut self,
+        crew: &mut Crew<'_, L, H>,
+    ) -> Result<Vec<u8>, ReplayError>
+        requires room { HasRoom self.old }
+        requires home { crew.old.home.board ≡ self.old.writer.board }
+        ensures home { OnOk result (crew.new.home.board ≡ self.new.writer.board) }
+        ensures answered { OnOk result (Answered self.old self.new) }
+        ensures text { IfOk result (λ text. text.items ≡ answers_text (waiting_entries self.old)) }
+        ensures unwritten { IfErr result (λ error. error ≢ ReplayError.Write) }
+        ensures pattern { (number : ℕ) → (why : FaultOf) → IsErrOf result (ReplayError.Line number why) → TellsGroup self.old number why }
+        ensures no_read { IsErrOf result ReplayError.Read → ⊥ }
+    {
+        let verdicts = self.verdicts(crew)?;
+        self.answers.clear();
         let group = mem::replace(&mut self.group, Vec::new(self.alloc));
         let text = self.decide_all(group, verdicts)?;
         Ok(text)
     }
 
-    /// The verdicts on the group: those that were given where its reviews were read, if these are all, and else those of the workers.
+    /// The verdicts of all workers on the group.
     fn verdicts<L: Plan + Send + Sync, H: Threads + Wait + Sync>(
         &self,
         crew: &mut Crew<'_, L, H>,
-        early: Vec<Verdict>,
     ) -> Result<Vec<Verdict>, ReplayError>
         requires home { crew.old.home.board ≡ self.now.writer.board }
         requires room { length self.now.history + length self.now.group.items ≤ most_entries }
-        requires early { length early.items ≡ length self.now.group.items
-            → early.items ≡ verdicts_at self.now.writer.published self.now.group.items }
         ensures home { crew.new.home ≡ crew.old.home }
         ensures verdicts { IfOk result (λ verdicts. verdicts.items ≡ verdicts_at self.now.writer.published self.now.group.items) }
         ensures pattern { (number : ℕ) → (why : FaultOf) → IsErrOf result (ReplayError.Line number why) → TellsGroup self.now number why }
         ensures unwritten { IfErr result (λ error. error ≢ ReplayError.Write) }
         ensures no_read { IsErrOf result ReplayError.Read → ⊥ }
     {
-        if early.len() == self.group.len() {
-            return Ok(early);
-        }
         let first = self.history.len() as u64;
         let snapshot = self.writer.snapshot();
         let told = self.writer.tell();
         crew.judge(self.first, first, &told, snapshot, self.group.as_slice())
+    }
+
+    /// Records what is decided on requests, in order.
+    fn record_all(&mut self, group: Vec<Request>, verdicts: Vec<Verdict>) -> Result<(), ReplayError>
+        requires right { verdicts.items ≡ verdicts_at self.old.writer.published group.items }
+        requires room { length self.old.history + length group.items ≤ most_entries }
+        ensures decided { OnOk result
+            (Decided self.old self.new (group_entries self.old.writer.published (length self.old.history) group.items)) }
+        ensures group { self.new.group ≡ self.old.group }
+        ensures memory { IfErr result (λ error. error ≡ ReplayError.OutOfMemory) }
+    {
+        let mut answers = verdicts.into_iter();
+        for request in group {
+            let verdict = next_of(&mut answers);
+            let _number = self.record(request, verdict)?;
+        }
+        Ok(())
     }
 
     /// Records what is decided on requests, in order. The text is that of the answers, read from the history.
@@ -441,11 +503,9 @@ impl Session {
     {
         let entry = self.history.at(number);
         let uid = entry.request.admission().uid.as_str();
-        let room = Vec::with_capacity(self.alloc, LINE_ROOM)?;
-        let line = with_answer(uid, &entry.verdict, room)?;
+        let line = answer_line(self.alloc, uid, &entry.verdict)?;
         let mut all = text;
         all.extend_from_slice(line.as_slice())?;
-        all.push(b'\n')?;
         Ok(all)
     }
 
@@ -531,20 +591,25 @@ impl Session {
     }
 }
 
-/// Keeps the verdict on one review more behind those on this many others, if there is one, and as many others have theirs. Else it
+/// Keeps the answer to one review more behind those to this many others, if there is one, and as many others have theirs. Else it
 /// keeps none.
 fn keep(
     verdicts: &mut Vec<Verdict>,
+    answers: &mut Vec<u8>,
     others: usize,
-    verdict: Option<Verdict>,
+    answer: Option<ReviewAnswer>,
 ) -> Result<(), AllocError>
-    ensures { OnOk result ((verdicts.new.items ≡ []) ⊎ ((v : VerdictOf) × (verdict ≡ Some v) × (length verdicts.old.items ≡ others)
-        × (verdicts.new.items ≡ verdicts.old.items ++ v ∷ []))) }
+    ensures { OnOk result ((verdicts.new.items ≡ [])
+        ⊎ IsKept others answer verdicts.old.items answers.old.items verdicts.new.items answers.new.items) }
 {
-    match verdict {
-        Some(verdict) if verdicts.len() == others => Ok(verdicts.push(verdict)?),
+    match answer {
+        Some(answer) if verdicts.len() == others => {
+            answers.extend_from_slice(answer.line.as_slice())?;
+            Ok(verdicts.push(answer.verdict)?)
+        }
         _ => {
             verdicts.clear();
+            answers.clear();
             Ok(())
         }
     }

@@ -332,7 +332,7 @@ fn take_bytes<L: Plan + Send + Sync, H: Threads + Wait + Sync, W: Write>(
     requires home { crew.old.home.board ≡ session.old.writer.board }
     requires short { length buffer.old ≤ longest_line }
     requires read { IfSome line.read (λ read. Reads buffer.old read.line
-        × IsJudgedAt session.old.writer.published read.line read.verdict) }
+        × IsJudgedAt session.old.writer.published read.line read.answer) }
     requires count { session.old.lines + 1 < 2 ^ 64 }
     ensures home { OnOk result (crew.new.home.board ≡ session.new.writer.board) }
     ensures step { OnOk result (IsInStep session.new) }
@@ -357,7 +357,7 @@ fn take_bytes<L: Plan + Send + Sync, H: Threads + Wait + Sync, W: Write>(
         }
         Ending::Feed => {
             let read = read_bytes(session, line.read, buffer)?;
-            session.take(crew, read.line, read.verdict, output)
+            session.take(crew, read.line, read.answer, output)
         }
         Ending::End => take_last(session, crew, buffer, output),
     }
@@ -393,7 +393,7 @@ fn take_last<L: Plan + Send + Sync, H: Threads + Wait + Sync, W: Write>(
         return Ok(());
     }
     let read = read_bytes(session, None, buffer)?;
-    session.take(crew, read.line, read.verdict, output)
+    session.take(crew, read.line, read.answer, output)
 }
 
 /// What the bytes of a line are, as it was read before its turn or as it is read now. A review that is read now is judged while it is
@@ -405,9 +405,9 @@ fn read_bytes(
 ) -> Result<ReadLine, AllocError>
     requires short { length buffer.old ≤ longest_line }
     requires read { IfSome read (λ early. Reads buffer.old early.line
-        × IsJudgedAt session.now.writer.published early.line early.verdict) }
+        × IsJudgedAt session.now.writer.published early.line early.answer) }
     ensures line { IfOk result (λ read. Reads buffer.old read.line) }
-    ensures judged { IfOk result (λ read. IsJudgedAt session.now.writer.published read.line read.verdict) }
+    ensures judged { IfOk result (λ read. IsJudgedAt session.now.writer.published read.line read.answer) }
 {
     match read {
         Some(read) => Ok(read),

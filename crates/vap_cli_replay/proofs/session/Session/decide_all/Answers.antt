@@ -33,6 +33,7 @@ loop-request-preserved c =
       log = done.log ∙ inv.log;
       lines = done.lines ∙ inv.lines;
       none = ap (λ g. g.items) c.decide.ensures.group ∙ inv.none;
+      kept = done.answers ∙ inv.kept;
       entries = decided_next old.writer new.writer old.history new.history request left rest _ done.log done.history is inv.entries;
       text =
           told_next old.writer new.writer old.history new.history request left rest c.loop-request.text.items

@@ -15,6 +15,7 @@ invariant-loop-request l =
       log : l.self.writer ≡ l.fn.self.writer;
       lines : l.self.lines ≡ l.fn.self.lines;
       none : l.self.group.items ≡ [];
+      kept : l.self.answers ≡ l.fn.self.answers;
       entries : l.self.history ++ left ≡ l.fn.self.history ++ all;
       text : l.text.items ++ answers_text left ≡ answers_text all;
       room : length l.self.history + length (into_iter_items l.request-iterator) ≤ most_entries;

@@ -14,7 +14,7 @@ use Rattle.vap_cli_replay.proofs.session.Session.take.Goals as goal
 
 pub take_review-requires-clause-judged : goal.take_review-requires-clause-judged
 take_review-requires-clause-judged g c κs within =
-    subst (λ (l : Line). IsJudgedAt c.args.self.now.writer.published l c.args.verdict) c.in-Asks.is c.requires.judged
+    subst (λ (l : Line). IsJudgedAt c.args.self.now.writer.published l c.args.answer) c.in-Asks.is c.requires.judged
 
 pub returns-in-Asks-clause-refused : goal.returns-in-Asks-clause-refused
 returns-in-Asks-clause-refused g c =
@@ -28,7 +28,7 @@ pub returns-in_ok-answer_group-in-Happens-clause-step :
     goal.returns-in_ok-answer_group-in-Happens-clause-step
 returns-in_ok-answer_group-in-Happens-clause-step g c =
     event_step c.take_event.result _ c.answer_group.new.self c.take_event.new.self c.in_ok-answer_group-in-Happens.ensures.answered
-    c.requires.step.room c.take_event.ensures.rest c.take_event.ensures.published
+    c.requires.step.room c.take_event.ensures.rest c.take_event.ensures.answers c.take_event.ensures.published
 
 pub returns-in_ok-answer_group-in-Happens-clause-taken :
     goal.returns-in_ok-answer_group-in-Happens-clause-taken

@@ -105,50 +105,50 @@ returns-in_err-answer_group-clause-pattern g c =
     )
 
 -- a review that was given up where it was read is reported at the first line of the group
-pub returns-in_err-verdict-clause-told : goal.returns-in_err-verdict-clause-told
-returns-in_err-verdict-clause-told g c =
+pub returns-in_err-answer-clause-told : goal.returns-in_err-answer-clause-told
+returns-in_err-answer-clause-told g c =
     let from = c.from_residual in
     let p = err_from_is_err_and from.result from.ensures.1 in
     λ number why is told.
-    let same : IsErrOf c.given.result (Line number why) = cc (c.in_err-verdict.was) in
+    let same : IsErrOf c.given.result (Line number why) = cc (c.in_err-answer.was) in
     let pattern : is_of_the_lines Pattern ≡ true =
     subst (λ (f : LineFault). is_of_the_lines f ≡ true) (c.given.ensures.told number why same).1 is in
     cc
 
-pub returns-in_err-verdict-clause-full : goal.returns-in_err-verdict-clause-full
-returns-in_err-verdict-clause-full g c =
+pub returns-in_err-answer-clause-full : goal.returns-in_err-answer-clause-full
+returns-in_err-answer-clause-full g c =
     let from = c.from_residual in
     let p = err_from_is_err_and from.result from.ensures.1 in
     λ number why is told.
-    let same : IsErrOf c.given.result (Line number why) = cc (c.in_err-verdict.was) in
+    let same : IsErrOf c.given.result (Line number why) = cc (c.in_err-answer.was) in
     let pattern : is_of_the_lines Pattern ≡ true =
     subst (λ (f : LineFault). is_of_the_lines f ≡ true) (c.given.ensures.told number why same).1 is in
     cc
 
-pub returns-in_err-verdict-clause-pattern : goal.returns-in_err-verdict-clause-pattern
-returns-in_err-verdict-clause-pattern g c =
+pub returns-in_err-answer-clause-pattern : goal.returns-in_err-answer-clause-pattern
+returns-in_err-answer-clause-pattern g c =
     let from = c.from_residual in
     let p = err_from_is_err_and from.result from.ensures.1 in
     λ number told.
-    let same : IsErrOf c.given.result (Line number Pattern) = cc (c.in_err-verdict.was) in
+    let same : IsErrOf c.given.result (Line number Pattern) = cc (c.in_err-answer.was) in
     (refl, (c.given.ensures.told number Pattern same).0)
 
-pub returns-in_err-verdict-clause-asked : goal.returns-in_err-verdict-clause-asked
-returns-in_err-verdict-clause-asked g c =
+pub returns-in_err-answer-clause-asked : goal.returns-in_err-answer-clause-asked
+returns-in_err-answer-clause-asked g c =
     let from = c.from_residual in
     let p = err_from_is_err_and from.result from.ensures.1 in
     λ number told.
-    let same : IsErrOf c.given.result (Line number Pattern) = cc (c.in_err-verdict.was) in
+    let same : IsErrOf c.given.result (Line number Pattern) = cc (c.in_err-answer.was) in
     let log = c.args.self.now.writer.published in
     let judged : IsJudged log c.args.request (Some (Err (Fault PatternOf))) =
     subst (λ said. IsJudged log c.args.request said) (c.given.ensures.pattern number Pattern same) c.requires.judged in
     last_looks c.args.self.now c.args.request (judged.1 refl)
 
-pub returns-in_err-verdict-clause-no_image : goal.returns-in_err-verdict-clause-no_image
-returns-in_err-verdict-clause-no_image g c =
+pub returns-in_err-answer-clause-no_image : goal.returns-in_err-answer-clause-no_image
+returns-in_err-answer-clause-no_image g c =
     let from = c.from_residual in
     let p = err_from_is_err_and from.result from.ensures.1 in
     λ number told.
-    let same : IsErrOf c.given.result (Line number Unverified) = cc (c.in_err-verdict.was) in
+    let same : IsErrOf c.given.result (Line number Unverified) = cc (c.in_err-answer.was) in
     let other = (c.given.ensures.told number Unverified same).1 in
     cc

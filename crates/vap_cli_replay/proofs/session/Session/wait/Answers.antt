@@ -12,5 +12,5 @@ returns-clause-taken c =
 pub returns-clause-room : goal.returns-clause-room
 returns-clause-room c =
     let count : c.len.result ≡ length c.args.self.now.group.items = search rules in
-    waits_room c.args.self.now _ c.args.request c.args.verdict c.len.result c.requires.step c.requires.room refl refl count
+    waits_room c.args.self.now _ c.args.request c.args.answer c.len.result c.requires.step c.requires.room refl refl count
     c.in_ok-push.ensures.items c.requires.right c.in_ok-keep.ensures
