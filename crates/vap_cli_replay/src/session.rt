@@ -211,9 +211,14 @@ impl Session {
         }
     }
 
-    /// Whether the group is large enough, and judged where it was read.
-    fn is_enough(&self) -> bool {
-        self.group.len() >= ENOUGH_JUDGED && self.is_judged()
+    /// Whether the group is to be answered: it is large enough, and judged where it was read; or the review that was read last is judged
+    /// and others are not, so that the workers judge no more than this one a second time.
+    fn is_enough(&self, is_last_judged: bool) -> bool {
+        if self.is_judged() {
+            self.group.len() >= ENOUGH_JUDGED
+        } else {
+            is_last_judged
+        }
     }
 
     /// Whether there are as many verdicts as reviews that wait.
@@ -260,8 +265,12 @@ impl Session {
             return self.refuse(crew, LineFault::AuditFull, out);
         }
         let answer = self.given(answer)?;
+        let judged = answer.is_some();
         self.wait(request, answer)?;
-        if self.group.len() == LARGEST_GROUP || self.waiting() == MOST_ENTRIES || self.is_enough() {
+        if self.group.len() == LARGEST_GROUP
+            || self.waiting() == MOST_ENTRIES
+            || self.is_enough(judged)
+        {
             self.answer_group(crew, out)?;
         }
         Ok(())
