@@ -81,19 +81,21 @@ class DirectProofs:
         """Begins the checks of crates whose libraries are proved, where there is a place."""
         ready = [it for it in left if all(below in self.proved for below in self.listed.below[it])]
         for crate in ready:
-            if self.running and not self.has_place():
+            longer = [it for it in self.running if self.lengths[it] > self.lengths[crate]]
+            if self.running and not self.has_place(len(longer)):
                 return
             left.remove(crate)
-            longer = [it for it in self.running if self.lengths[it] > self.lengths[crate]]
             is_first = not any(self.running[it].jobs == processors() for it in longer)
             jobs = processors() if is_first else min(processors(), 2)
             self.running[crate] = Check(self.listed.top / "crates" / crate, crate, jobs, BEHIND * len(longer), self.log)
 
-    def has_place(self):
-        """Whether one more check may begin beside those that run."""
+    def has_place(self, longer):
+        """Whether one more check may begin beside those that run, of which so many go before it. One that goes before another does not
+        wait for it."""
         young = sum(it.is_young() for it in self.running.values())
         # (the first has more jobs than it can always use, and holds more than the others)
-        return len(self.running) < max(processors() - 1, 2) and available() >= HELD * (young + 1)
+        places = max(processors() - 1, 2) + (longer < len(self.running))
+        return len(self.running) < places and available() >= HELD * (young + 1)
 
     def end_some(self):
         """Takes the checks that have ended. Answers whether all is well."""

@@ -1,11 +1,14 @@
 //! Numbers, as a text spells them and as they are held.
 
-ghost use Rattle.std.specs.Prelude.{◌≡◌, ◌==◌, length, slice_index, option_map, true, false, IsTrue, ◌<◌};
+ghost use Rattle.std.specs.Prelude.{◌≡◌, ◌==◌, length, slice_index, option_map, true, false, IfSome, IsTrue, ◌<◌, Some};
+ghost use Rattle.std.specs.Char.{IsAsciiDigit};
+ghost use Rattle.fast_float.specs.Text.{scan};
+ghost use Rattle.serde_json.specs.Data.{unsigned};
 ghost use Rattle.serde_json.specs.Read.{number_of, number_from, float_of};
 ghost use Rattle.serde_json.specs.View.{number_view};
 ghost use Rattle.base_containers.specs.Numbers.{num_of};
 
-use fast_float::Numeral;
+use fast_float::{Numeral, parse_u64};
 use serde_json::Number as Held;
 
 /// An integer of 64 bits, or a finite float.
@@ -24,7 +27,7 @@ pub fn number_in(text: &str) -> Option<Number>
     if has_minus(bytes) {
         negative(&Numeral::scan(&bytes[1..]))
     } else {
-        unsigned(&Numeral::scan(bytes))
+        without_minus(bytes)
     }
 }
 
@@ -33,6 +36,33 @@ fn has_minus(bytes: &[u8]) -> bool
     ensures len { IsTrue result → 0 < length bytes.now }
 {
     !bytes.is_empty() && bytes[0] == b'-'
+}
+
+/// The number that a text without a minus is. Most are digits alone, which need not be cut into the parts of a numeral.
+fn without_minus(bytes: &[u8]) -> Option<Number>
+    ensures { option_map num_of result ≡ number_from false (scan bytes.now) }
+{
+    match of_digits(bytes) {
+        Some(n) => Some(Number::Unsigned(n)),
+        None => unsigned(&Numeral::scan(bytes)),
+    }
+}
+
+/// The integer that digits are, if there is nothing else and it has 64 bits.
+fn of_digits(bytes: &[u8]) -> Option<u64>
+    ensures { IfSome result (λ n. number_from false (scan bytes.now) ≡ Some (unsigned n)) }
+{
+    if begins_with_digit(bytes) {
+        parse_u64(bytes).ok()
+    } else {
+        None
+    }
+}
+
+fn begins_with_digit(bytes: &[u8]) -> bool
+    ensures { IsTrue result → IsAsciiDigit (slice_index bytes.now 0) }
+{
+    !bytes.is_empty() && bytes[0].is_ascii_digit()
 }
 
 fn unsigned(numeral: &Numeral<'_>) -> Option<Number>

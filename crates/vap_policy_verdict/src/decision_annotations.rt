@@ -59,9 +59,10 @@ fn annotations_from(
     ensures { IfOk result (AreByKey (failure_annotation findings.now ++ grouped entries.now)) }
 {
     let mut made = failure_annotation(alloc, findings)?;
-    for entry in entries {
+    for (place, entry) in entries.iter().enumerate() {
         if made.get(entry.key.as_str()).is_none() {
-            let values = joined_values(alloc, entry.key.as_str(), entries)?;
+            // None of the entries before has this key.
+            let values = joined_values(alloc, entry.key.as_str(), &entries[place..])?;
             made.insert(entry.key.copy()?, values)?;
         }
     }

@@ -12,6 +12,9 @@ use json::Writer;
 use std::alloc::{AllocError, Global};
 use vap_read::ValidationActions;
 
+/// For how many bytes of failures there is room at once: as many as one of them may have.
+const FAILURES_ROOM: usize = 256;
+
 fn put_index(index: Option<u64>, out: &mut Writer) -> Result<(), AllocError>
     ensures ok { OnOk result (out.new.tokens ≡ out.old.tokens ++ index_by index) }
     ensures before { out.new.before ≡ out.old.before }
@@ -125,7 +128,7 @@ fn put_failures(findings: &[Finding], out: &mut Writer) -> Result<(), AllocError
 pub fn failures_text(alloc: Global, findings: &[Finding]) -> Result<Text, AllocError>
     ensures { IfOk result (λ text. text ≡ failures_text findings.now) }
 {
-    let mut out = Writer::new(Vec::new(alloc));
+    let mut out = Writer::new(Vec::with_capacity(alloc, FAILURES_ROOM)?);
     out.begin_array()?;
     put_failures(findings, &mut out)?;
     out.end_array()?;
